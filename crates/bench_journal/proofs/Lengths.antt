@@ -1,8 +1,8 @@
 -- A run has as many moves after an event more.
 use Rattle.std.proofs.Common.{◌≡◌, ℕ, suc, List, [], ◌∷◌, length, refl, ap}
 use Rattle.lt_modes.specs.declared.event.Event.{Event}
-use Rattle.lt_spec.specs.Log.{Logged}
-use Rattle.lt_merge.specs.Run.{with_event}
+use Rattle.lt_spec.specs.World.{Logged}
+use Rattle.lt_merge.specs.Merging.{with_event}
 
 pub length-with_event : (entries : List Logged) (event : Event) → length (with_event entries event) ≡ length entries
 length-with_event [] event = refl

@@ -7,7 +7,7 @@
 mod made;
 
 ghost use Rattle.std.specs.Prelude.{◌≡◌, None, IfOk};
-ghost use Rattle.lt_journal.specs.Text.{text_of};
+ghost use Rattle.lt_journal.specs.RunLines.{text_of};
 
 use anyhow::{Result, bail};
 use lt_io::{ReaderSource, WriterSink, read_all, write_all};

@@ -1,11 +1,7 @@
 -- What an answer says once the text is written, and where nothing is to be written.
-use Rattle.std.proofs.Common.{◌≡◌, ◌<◌, ◌≤◌, ◌+◌, ℕ, List, Option, refl, sym, subst, arith, inl, inr}
-use Rattle.std.specs.Prelude.{◌⊎◌, ◌≢◌}
+use Rattle.std.proofs.Common.{◌≡◌, ◌<◌, ◌≤◌, ◌+◌, ℕ, List, Option, refl, sym, subst, arith, inl, inr, ◌⊎◌, ◌≢◌}
 use Rattle.std.specs.Io.KnownBytes.{Appends}
-use Rattle.lt_io.specs.FaultCounts.{CountsFaults, RoseBy, count_after}
-use Rattle.lt_io.specs.Source.{SourceState}
-use Rattle.lt_io.specs.Sink.{AppendsPart}
-use Rattle.lt_io.specs.Whole.{IsReadWhole}
+use Rattle.lt_io.specs.Streams.{CountsFaults, RoseBy, count_after, SourceState, AppendsPart, IsReadWhole}
 use Rattle.lt_call.specs.declared.outcome.Outcome.{Outcome}
 use Rattle.lt_call.specs.declared.outcome.Outcome.TheVariants.{Done, Usage, Refused, TooLong, Stuck, ReadFault, WriteFault, NoMemory, Cut, BadJournal, Share}
 use Rattle.lt_call.specs.Outcomes.{IsEnding, IsRefused, IsRefusal, WritesNothing, SaysOfSource, SaysOfSink}

@@ -1,9 +1,7 @@
 -- All that a call says of its answer: what was written, why the answer comes, and what it says of the source and the sink.
 use Rattle.std.specs.Prelude.{◌≡◌, ◌≢◌, ◌<◌, ◌+◌, ℕ, List, Option}
 use Rattle.std.specs.Io.KnownBytes.{Appends}
-use Rattle.lt_io.specs.FaultCounts.{Rose, RoseBy}
-use Rattle.lt_io.specs.Source.{SourceState}
-use Rattle.lt_io.specs.Sink.{AppendsPart}
+use Rattle.lt_io.specs.Streams.{Rose, RoseBy, SourceState, AppendsPart}
 use Rattle.lt_call.specs.declared.outcome.Outcome.{Outcome}
 use Rattle.lt_call.specs.declared.outcome.Outcome.TheVariants.{Done, Usage, WriteFault, NoMemory}
 use Rattle.lt_call.specs.Outcomes.{IsRefused, WritesNothing, SaysOfSource, SaysOfSink}

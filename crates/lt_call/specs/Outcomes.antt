@@ -1,7 +1,6 @@
 -- What an outcome says of reading and of writing, and with which exit status and which text.
 use Rattle.std.specs.Prelude.{◌≡◌, ◌≢◌, ◌≤◌, ◌+◌, Bool, true, false, ℕ, List, [], codes}
-use Rattle.lt_io.specs.FaultCounts.{CountsFaults}
-use Rattle.lt_io.specs.Source.{SourceState}
+use Rattle.lt_io.specs.Streams.{CountsFaults, SourceState}
 use Rattle.lt_io.specs.declared.whole.ReadFailure.{ReadFailure}
 use Rattle.lt_io.specs.declared.whole.ReadFailure.TheVariants.{Memory, Failed, TooLong as Long}
 use Rattle.lt_call.specs.declared.outcome.Outcome.{Outcome}

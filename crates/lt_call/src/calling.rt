@@ -1,7 +1,7 @@
 ghost use Rattle.std.specs.Prelude.{◌≡◌, ◌≢◌, ◌⊎◌, length, IfOk, IfErr};
 ghost use Rattle.std.specs.Io.KnownBytes.{Appends};
 ghost use Rattle.std.specs.IoError.{error_kind};
-ghost use Rattle.lt_io.specs.Sink.{AppendsPart};
+ghost use Rattle.lt_io.specs.Streams.{AppendsPart};
 ghost use Rattle.lt_call.specs.Calls.{Serves};
 ghost use Rattle.lt_call.specs.Outcomes.{SaysOfSink};
 

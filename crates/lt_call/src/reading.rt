@@ -1,5 +1,5 @@
 ghost use Rattle.std.specs.Prelude.{◌≤◌, length, IfOk, OnOk, IfErr};
-ghost use Rattle.lt_io.specs.Whole.{Left, IsReadWhole};
+ghost use Rattle.lt_io.specs.Streams.{Left, IsReadWhole};
 ghost use Rattle.lt_call.specs.Outcomes.{IsReadFailure, SaysOfSource};
 
 use crate::outcome::Outcome;

@@ -1,5 +1,5 @@
 ghost use Rattle.std.specs.Prelude.{ℕ, List, Option, IfOk, OnOk, IfErr};
-ghost use Rattle.lt_io.specs.Whole.{IsReadWhole};
+ghost use Rattle.lt_io.specs.Streams.{IsReadWhole};
 ghost use Rattle.lt_call.specs.Outcomes.{IsRefusal, SaysOfSource};
 
 use crate::status::Status;

@@ -1,13 +1,10 @@
 -- What is told of the bytes of an input is told of its source.
-use Rattle.std.proofs.Common.{◌≡◌, ◌∙◌, ℕ, ◌+◌, ◌≤◌, List, ◌++◌, Option, Some, None, Ok, Err, length, take, drop, refl, sym, ap, subst, inl, inr, arith, length-append, append-nil}
-use Rattle.std.specs.Prelude.{◌⊎◌, ◌≢◌}
+use Rattle.std.proofs.Common.{◌≡◌, ◌∙◌, ℕ, ◌+◌, ◌≤◌, List, ◌++◌, Option, Some, None, Ok, Err, length, take, drop, refl, sym, ap, subst, inl, inr, arith, length-append, append-nil, ◌⊎◌, ◌≢◌}
 use Rattle.std.specs.Io.KnownBytes.{Consumes, IsAtEnd}
-use Rattle.lt_io.specs.Source.{SourceState}
-use Rattle.lt_io.specs.Reading.{ReadsOut, FailsBy}
-use Rattle.lt_io.specs.Whole.{IsReadWhole}
+use Rattle.lt_io.specs.Streams.{SourceState, ReadsOut, FailsBy, IsReadWhole}
 use Rattle.lt_io.specs.declared.whole.ReadFailure.{ReadFailure}
 use Rattle.lt_io.specs.declared.whole.ReadFailure.TheVariants.{Memory, Failed, TooLong as Long}
-use Rattle.lt_io.proofs.InPieces.{read_out, fails_later}
+use Rattle.lt_io.proofs.Pieces.{read_out, fails_later}
 use Rattle.lt_modes.specs.Script.{ScriptData}
 use Rattle.lt_spec.specs.Script.{IsScript}
 use Rattle.lt_text.specs.Text.{lines}

@@ -1,7 +1,7 @@
 -- Where the last line of some bytes begins, and when the line `journal` has come.
-use Rattle.std.proofs.Common.{◌≡◌, ◌∙◌, ℕ, ◌+◌, ◌-◌, ◌<◌, ◌≤◌, List, [], ◌∷◌, ◌++◌, get_or, length, take, drop, sym, ap, subst, arith, take-add, take-append-drop, length-drop}
-use Rattle.std.proofs.lemmas.List.{take_more, take-append-le, get_or-drop}
-use Rattle.lt_law_journals.specs.Input.{EndsInLineFeed, EndsLine}
+use Rattle.std.proofs.Common.{◌≡◌, ◌∙◌, ℕ, ◌+◌, ◌-◌, ◌<◌, ◌≤◌, List, [], ◌∷◌, ◌++◌, get_or, length, take, drop, sym, ap, subst, arith, take-add, take-append-drop, length-drop, get_or-drop}
+use Rattle.std.proofs.lemmas.List.{take_more, take-append-le}
+use Rattle.lt_law_journals.specs.Checking.{EndsInLineFeed, EndsLine}
 
 -- a line feed ends a line
 whole_to : (bytes : List ℕ) (k : ℕ) → k < length bytes → get_or bytes k 0 ≡ 10 → EndsInLineFeed (take (k + 1) bytes)

@@ -1,27 +1,148 @@
--- What the next move makes of a place.
-use Rattle.std.proofs.Common.{◌≡◌, ℕ, suc, ◌+◌, ◌-◌, ◌<◌, ◌==◌, ◌&&◌, not, cond, Bool, true, false, nat_lt, List, [], ◌∷◌, ◌++◌, length, set, get_or, slice_get, Some, None, refl, sym, ap, ap₂, subst, ◌∙◌, inl, inr, arith, length-set, get_or-set_same, get_or-set_other}
-use Rattle.std.specs.Option.{option_map}
-use Rattle.std.proofs.lemmas.Bool.{cases_eq, eq-eqb, ne_eqb, eqb-true, ltb-true, and_parts, and_from}
-use Rattle.std.proofs.lemmas.List.{length_push}
+-- No bad line is further on than there are bytes.
+use Rattle.std.proofs.Common.{◌≡◌, ℕ, suc, ◌+◌, ◌*◌, ◌≤◌, Bool, true, false, List, [], ◌∷◌, ◌++◌, Option, Some, None, Result, Ok, Err, length, drop, position, fold, if◌then◌else◌, refl, arith, ap, length-append, length-drop, ◌∙◌, take, append-nil, subst, ◌-◌, ◌<◌, ◌==◌, ◌&&◌, cond, slice_get, sym, ap₂, option_map, eq-eqb, ne_eqb}
+use Rattle.std.proofs.lemmas.List.{length-map, take-append-le, drop-append-le, length_push}
+use Rattle.std.proofs.lemmas.List.Quantifiers.{position-Some}
+use Rattle.std.proofs.lemmas.Bool.{and_from}
 use Rattle.std.proofs.lemmas.List.Sums.{count_by-le-length}
+use Rattle.lt_modes.specs.Script.{ScriptData}
 use Rattle.lt_modes.specs.declared.moves.Move.{Move}
 use Rattle.lt_modes.specs.declared.moves.Step.{Step}
-use Rattle.lt_modes.specs.declared.moves.Step.TheVariants.{Act, Take}
-use Rattle.lt_modes.specs.Script.{ScriptData}
-use Rattle.lt_spec.specs.Log.{Logged}
-use Rattle.lt_spec.specs.World.{World, world_after, is_enabled, is_of_node, move_stamp, logged}
-use Rattle.lt_spec.specs.Script.{IsScript}
-use Rattle.lt_spec.specs.Cut.{moves_of}
-use Rattle.lt_merge.specs.Run.{made_at, events_at}
 use Rattle.lt_modes.specs.declared.event.Event.{Event}
+use Rattle.lt_spec.specs.World.{Logged, world_after, is_enabled, is_of_node, move_stamp, logged, moves_of, is_at_rest}
+use Rattle.lt_io.specs.Streams.{SourceState}
+use Rattle.lt_text.specs.Text.{cut_at, lines, put_front, is_line_end, without_return}
+use Rattle.lt_merge.specs.Merging.{made_at, events_at, RunData}
+use Rattle.lt_journal.specs.Split.{is_journal_line, parts_at, input_parts}
+use Rattle.lt_journal.specs.declared.splitting.Parts.{Parts}
 use Rattle.lt_journal.specs.declared.line.Line.{Line}
 use Rattle.lt_journal.specs.declared.line.Line.TheVariants.{Move as MoveLine}
 use Rattle.lt_journal.specs.RunLines.{event_lines}
-use Rattle.lt_world.specs.Fields.{WorldData, world_of}
-use Rattle.lt_law_journals.specs.Checking.{closing_at_rest, moved, by_move}
 use Rattle.lt_law_ends.proofs.Short.{runs_are_short}
-use Rattle.lt_law_journals.proofs.Heard.{come_moved}
-use Rattle.lt_checker.specs.Place.{IsPlace}
+use Rattle.lt_law_journals.specs.Checking.{Place, Reader, checked, first_reader, reader_after, place_after, is_complete, led_to, read_at, read_on, verdict_at, HasCome, closing_at_rest, moved, by_move, verdict}
+use Rattle.lt_law_journals.proofs.Feeds.{come_due, come_moved}
+use Rattle.lt_world.specs.Fields.{WorldData, world_of}
+use Rattle.lt_checker.specs.Checker.{IsWorldAnswer, IsPlace, place_now, IsAnswer, EndsIn}
+use Rattle.lt_checker.specs.declared.error.ReplayError.{ReplayError}
+use Rattle.lt_checker.specs.declared.error.ReplayError.TheVariants.{Memory, Bad}
+use Rattle.lt_checker.specs.declared.limits.TheConstants.{MAX_JOURNAL}
+use Rattle.lt_checker.specs.Heads.{IsRest, IsRoom, IsLineOf, IsHeadCut}
+
+few_fronts : (byte : ℕ) (pieces : List (List ℕ)) → length (put_front byte pieces) ≤ suc (length pieces)
+few_fronts byte [] = omega arith
+few_fronts byte (piece ∷ pieces) = omega arith
+
+few_pieces : (ends : ℕ → Bool) (bytes : List ℕ) → length (cut_at ends bytes) ≤ length bytes
+unfolding cut_at
+few_pieces ends [] = omega arith
+few_pieces ends (byte ∷ bytes) = by_end (few_pieces ends bytes) (ends byte)
+  where
+    by_end : length (cut_at ends bytes) ≤ length bytes → (t : Bool)
+        → length (if t then [] ∷ cut_at ends bytes else put_front byte (cut_at ends bytes)) ≤ suc (length bytes)
+    by_end few true = omega (arith, few)
+    by_end few false = omega (arith, few, few_fronts byte (cut_at ends bytes))
+
+few_lines : (bytes : List ℕ) → length (lines bytes) ≤ length bytes
+unfolding lines
+few_lines bytes = omega (arith, length-map (cut_at is_line_end bytes) without_return, few_pieces is_line_end bytes)
+
+-- a line more is at most one good line more
+one_more : (script : ScriptData) (reader : Reader) (line : List ℕ) → (read_on script reader line).good ≤ suc reader.good
+one_more script reader line = by_place reader.place
+  where
+    by_next : (next : Option Place) → (led_to reader next).good ≤ suc reader.good
+    by_next None = omega arith
+    by_next (Some place) = omega arith
+
+    by_place : (place : Option Place) → (read_at script reader line place).good ≤ suc reader.good
+    by_place None = omega arith
+    by_place (Some place) = by_next (place_after script place line)
+
+few_good : (script : ScriptData) (ls : List (List ℕ)) (reader : Reader) → (fold (read_on script) reader ls).good ≤ reader.good + length ls
+few_good script [] reader = omega arith
+few_good script (line ∷ ls) reader = omega (arith, one_more script reader line, few_good script ls (read_on script reader line))
+
+next_bad : (script : ScriptData) (good line : ℕ) (place : Option Place) → verdict_at script good place ≡ Err line → line ≡ suc good
+next_bad script good line None e = cc
+next_bad script good line (Some place) e = by_end (is_complete script place.run place.due) e
+  where
+    by_end : (t : Bool) → (if t then Ok place.run else Err (suc good)) ≡ Err line → line ≡ suc good
+    by_end true e = absurd (cc)
+    by_end false e = cc
+
+-- what is told of so many bytes
+pub line_within : (script : ScriptData) (bytes : List ℕ) (told : Result WorldData ReplayError) (size : ℕ) → IsWorldAnswer script (checked script (lines bytes)) told
+    → length bytes ≤ size → IsLineOf size told
+line_within script bytes (Ok world) size answers few = tt
+line_within script bytes (Err Memory) size answers few = tt
+line_within script bytes (Err (Bad line)) size answers few =
+    let last = reader_after script (lines bytes) in
+    omega (arith, few, next_bad script last.good line last.place answers, few_good script (lines bytes) (first_reader script), few_lines bytes)
+
+-- the bytes of a journal, those that come after the first ones too
+pub journal_few : (bytes rest : List ℕ) (at : ℕ) (room : Option ℕ) (y z : SourceState) → length bytes ≤ MAX_JOURNAL → IsRoom room → IsRest room rest y z
+    → length (drop at bytes ++ rest) ≤ 2 * MAX_JOURNAL
+journal_few bytes rest at None y z few fits (none, kept) =
+    omega (arith, few, length-append (drop at bytes) rest, length-drop at bytes, ap length none)
+journal_few bytes rest at (Some room) y z few fits tail =
+    omega (arith, few, length-append (drop at bytes) rest, length-drop at bytes, fits, tail.0)
+
+-- the lines before the journal
+pub lines_few : (bytes : List ℕ) → length bytes ≤ MAX_JOURNAL → (input_parts bytes).lines ≤ MAX_JOURNAL
+lines_few bytes few = omega (arith, few, few_lines bytes, at (position is_journal_line (lines bytes)) refl)
+  where
+    at : (o : Option ℕ) → position is_journal_line (lines bytes) ≡ o → (parts_at bytes o).lines ≤ length (lines bytes)
+    at None e = omega arith
+    at (Some k) e = omega (arith, (position-Some is_journal_line (lines bytes) k [] e).0)
+
+-- An input that was read in two parts is cut as its first part is.
+
+-- the parts of the whole input, by its first bytes
+pub record SameParts (bytes rest : List ℕ) : Type 0 where
+  pub parts : input_parts (bytes ++ rest) ≡ input_parts bytes
+  pub script : take (input_parts (bytes ++ rest)).script (bytes ++ rest) ≡ take (input_parts bytes).script bytes
+  pub journal : drop (input_parts (bytes ++ rest)).journal (bytes ++ rest) ≡ drop (input_parts bytes).journal bytes ++ rest
+
+record AreWithin (bytes : List ℕ) : Type 0 where
+  script : (input_parts bytes).script ≤ length bytes
+  journal : (input_parts bytes).journal ≤ length bytes
+
+within : (bytes : List ℕ) → AreWithin bytes
+within bytes = record { script = script_at (position is_journal_line (lines bytes)); journal = journal_at (position is_journal_line (lines bytes)) }
+  where
+    script_at : (o : Option ℕ) → (parts_at bytes o).script ≤ length bytes
+    script_at None = omega arith
+    script_at (Some k) = omega arith
+
+    journal_at : (o : Option ℕ) → (parts_at bytes o).journal ≤ length bytes
+    journal_at None = omega arith
+    journal_at (Some k) = omega arith
+
+same : (bytes rest : List ℕ) → input_parts (bytes ++ rest) ≡ input_parts bytes → SameParts bytes rest
+same bytes rest e =
+    let inside = within bytes in
+    record {
+      parts = e;
+      script = ap (λ (p : Parts). take p.script (bytes ++ rest)) e ∙ take-append-le (input_parts bytes).script bytes rest inside.script;
+      journal = ap (λ (p : Parts). drop p.journal (bytes ++ rest)) e ∙ drop-append-le (input_parts bytes).journal bytes rest inside.journal;
+    }
+
+pub same_parts : (bytes rest : List ℕ) (room : Option ℕ) (y z : SourceState) → IsHeadCut bytes room → IsRest room rest y z → SameParts bytes rest
+same_parts bytes rest None y z cut (none, kept) =
+    same bytes rest (ap (λ (t : List ℕ). input_parts (bytes ++ t)) none ∙ ap input_parts (append-nil bytes))
+same_parts bytes rest (Some room) y z cut tail = same bytes rest (cut rest)
+
+-- What a line makes of a place where lines are due.
+
+pub due_place : (script : ScriptData) (world : WorldData) (all due : List Line) (x : Line) → all ≡ x ∷ due → IsPlace script world all
+    → IsPlace script world due
+due_place script world all due x e place = record {
+  is_script = place.is_script;
+  script_is = place.script_is;
+  limit = place.limit;
+  come = come_due script world.run x due (subst (λ (d : List Line). HasCome script (record { run = world.run; due = d })) e place.come);
+}
+
+-- What the next move makes of a place.
 
 -- a move that may be the next one was made
 pub record IsStepped (script : ScriptData) (world : WorldData) (node : ℕ) (step : Step) (next : WorldData) : Type 0 where
@@ -126,3 +247,29 @@ pub last_place : (script : ScriptData) (world : WorldData) (node : ℕ) (step : 
 last_place script world node step next n s is =
     let entry = logged script (world_after script world.run) node step in
     omega (arith, is, ap (λ (r : List Logged). length r) (next_run script world node step next s), length_push world.run entry)
+
+-- What an answer with the world in which a run ended says of the run.
+
+-- the run of the world in which it ended is the answer
+pub run_told : (script : ScriptData) (told : Result (List Logged) ℕ) (world : WorldData) (run : RunData) → EndsIn script told world
+    → run.entries ≡ world.run → IsAnswer told (Ok run)
+run_told script told world run ended same = ended.run_is ∙ ap (λ (entries : List Logged). Ok entries) (sym same)
+
+-- an error is the same answer
+pub error_told : (script : ScriptData) (told : Result (List Logged) ℕ) (error : ReplayError) → IsWorldAnswer script told (Err error)
+    → IsAnswer told (Err error)
+error_told script told Memory same = same
+error_told script told (Bad line) same = same
+
+-- at rest, where no line is due, the run ended in the world
+pub ends_in : (script : ScriptData) (world : WorldData) (good : ℕ) → IsPlace script world []
+    → is_at_rest world.script (world_of world) ≡ true
+    → EndsIn script (verdict script (record { place = place_now false world.run []; good = good })) world
+ends_in script world good place rests =
+    let rest : is_at_rest script (world_after script world.run) ≡ true =
+    subst (λ (s : ScriptData). is_at_rest s (world_after s world.run) ≡ true) place.script_is rests in
+    record {
+      script_is = place.script_is;
+      run_is = rw rest refl;
+      finished = record { is_run = place.come.1.is_run; at_rest = rest };
+    }

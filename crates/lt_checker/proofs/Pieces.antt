@@ -1,15 +1,13 @@
 -- A piece of a journal, cut at its line ends.
-use Rattle.std.proofs.Common.{◌≡◌, ◌∙◌, ℕ, zero, suc, ◌+◌, ◌-◌, ◌<◌, ◌≤◌, min, Bool, true, false, cond, List, [], ◌∷◌, ◌++◌, length, take, drop, fold, get_or, Some, None, refl, sym, ap, subst, arith, inl, inr, append_assoc, append-nil, take_all, length-take, length-drop}
-use Rattle.std.specs.Prelude.{slice_index}
+use Rattle.std.proofs.Common.{◌≡◌, ◌∙◌, ℕ, zero, suc, ◌+◌, ◌-◌, ◌<◌, ◌≤◌, min, Bool, true, false, cond, List, [], ◌∷◌, ◌++◌, length, take, drop, fold, get_or, Some, None, refl, sym, ap, subst, arith, inl, inr, append_assoc, append-nil, take_all, length-take, length-drop, slice_index, eqb-true, get_or-drop}
 use Rattle.std.proofs.Math.Seq.{split_at, take-append-add}
-use Rattle.std.proofs.lemmas.Bool.{cases_Bool, cases_lt, eqb-true, false≢true}
-use Rattle.std.proofs.lemmas.List.{take-append-le, get_or-drop}
+use Rattle.std.proofs.lemmas.Bool.{cases_Bool, cases_lt, false≢true}
+use Rattle.std.proofs.lemmas.List.{take-append-le}
 use Rattle.std.proofs.lemmas.List.Sums.{fold-append}
 use Rattle.memchr.specs.Find.{IsFirstByte, IsLastByte, is_byte}
 use Rattle.lt_modes.specs.Script.{ScriptData}
 use Rattle.lt_text.specs.Text.{is_line_end, without_return, HasNone}
-use Rattle.lt_law_journals.specs.Checking.{Reader, read_on, read_at}
-use Rattle.lt_law_journals.specs.Feeding.{Feed, line_ended, fed, fed_piece}
+use Rattle.lt_law_journals.specs.Checking.{Reader, read_on, read_at, Feed, line_ended, fed, fed_piece}
 
 kept_all : (n : ℕ) (r more : List ℕ) → take n (take n r ++ more) ≡ take n (r ++ more)
 kept_all n r more = elim (cases_lt n (length r)) [

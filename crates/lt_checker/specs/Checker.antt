@@ -1,14 +1,59 @@
--- What contracts see of a checker, and what it answers.
-use Rattle.std.specs.Prelude.{◌≡◌, ◌≢◌, ℕ, List, [], Option, Some, None, Result, Ok, Err}
-use Rattle.std.specs.Option.{option_map}
+-- In which world a checked run ended.
+use Rattle.std.specs.Prelude.{◌≡◌, ℕ, List, Result, Ok, Err, Bool, true, false, Option, Some, None, ◌≢◌, [], option_map}
 use Rattle.lt_modes.specs.Script.{ScriptData}
+use Rattle.lt_spec.specs.World.{Logged}
+use Rattle.lt_spec.specs.Script.{IsScript}
+use Rattle.lt_spec.specs.declared.moves.TheConstants.{MAX_MOVES}
 use Rattle.lt_text.specs.Text.{is_line_end, HasNone}
-use Rattle.lt_spec.specs.Log.{Logged}
-use Rattle.lt_merge.specs.Run.{RunData}
-use Rattle.lt_law_journals.specs.Feeding.{Feed, new_feed, fed_piece}
-use Rattle.lt_checker.specs.Place.{ReaderData}
+use Rattle.lt_merge.specs.Merging.{RunData}
+use Rattle.lt_journal.specs.declared.line.Line.{Line}
+use Rattle.lt_law_journals.specs.Checking.{IsFinished, Place, Reader, HasCome, Feed, new_feed, fed_piece}
+use Rattle.lt_world.specs.Fields.{WorldData}
 use Rattle.lt_checker.specs.declared.error.ReplayError.{ReplayError}
 use Rattle.lt_checker.specs.declared.error.ReplayError.TheVariants.{Memory, Bad}
+
+-- the world is the one in which the told run of the script ended
+pub record EndsIn (script : ScriptData) (told : Result (List Logged) ℕ) (world : WorldData) : Type 0 where
+  pub script_is : world.script ≡ script
+  pub run_is : told ≡ Ok world.run
+  pub finished : IsFinished script world.run
+
+-- the answer is the world in which the told run ended, or tells this bad line, or that memory was refused
+abbrev pub IsWorldAnswer : ScriptData → Result (List Logged) ℕ → Result WorldData ReplayError → Type 0
+IsWorldAnswer script told (Ok world) = EndsIn script told world
+IsWorldAnswer script told (Err Memory) = Unit {0}
+IsWorldAnswer script told (Err (Bad line)) = told ≡ Err line
+
+-- Where a checker is among the lines, and what one line more makes of it.
+
+-- the world and the lines that are due are those of a place that a reader has come to
+pub record IsPlace (script : ScriptData) (world : WorldData) (due : List Line) : Type 0 where
+  pub is_script : IsScript script
+  pub script_is : world.script ≡ script
+  pub limit : world.limit ≡ MAX_MOVES
+  pub come : HasCome script (record { run = world.run; due = due })
+
+-- the line led to this place, or it is bad
+abbrev pub LedTo : Option Place → Bool → List Logged → List Line → Type 0
+LedTo next true run due = next ≡ Some (record { run = run; due = due })
+LedTo next false run due = next ≡ None
+
+-- the place, while no line was bad
+abbrev pub place_now : Bool → List Logged → List Line → Option Place
+place_now true run due = None
+place_now false run due = Some (record { run = run; due = due })
+
+-- where no line was bad, the fields are those of a place
+abbrev pub KeepsPlace : Bool → ScriptData → WorldData → List Line → Type 0
+KeepsPlace true script world due = Unit {0}
+KeepsPlace false script world due = IsPlace script world due
+
+-- what contracts see of a reader: its script, and where it is
+pub record ReaderData : Type 0 where
+  pub script : ScriptData
+  pub reader : Reader
+
+-- What contracts see of a checker, and what it answers.
 
 -- a checker: its script, and what the bytes have told, but for one whose memory was refused
 pub record CheckerData : Type 0 where

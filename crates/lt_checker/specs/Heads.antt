@@ -1,11 +1,10 @@
 -- What is read of an input first, what comes after it, and how all of it is answered.
 use Rattle.std.specs.Prelude.{◌≡◌, ℕ, ◌+◌, ◌≤◌, List, [], ◌++◌, Option, Some, None, Result, Ok, Err, length}
-use Rattle.lt_io.specs.Source.{SourceState}
-use Rattle.lt_io.specs.Reading.{ReadsOn, ReadsOut, FailsBy}
+use Rattle.lt_io.specs.Streams.{SourceState, ReadsOn, ReadsOut, FailsBy}
 use Rattle.lt_io.specs.declared.whole.ReadFailure.{ReadFailure}
 use Rattle.lt_io.specs.declared.whole.ReadFailure.TheVariants.{Memory}
 use Rattle.lt_world.specs.Fields.{WorldData}
-use Rattle.lt_law_journals.specs.Input.{IsSettled}
+use Rattle.lt_law_journals.specs.Checking.{IsSettled}
 use Rattle.lt_checker.specs.Checker.{CheckerData, StandsFor}
 use Rattle.lt_checker.specs.Input.{HasFaultBefore, IsBad, IsEndedRun}
 use Rattle.lt_checker.specs.declared.error.ReplayError.{ReplayError}

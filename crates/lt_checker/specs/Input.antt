@@ -1,20 +1,17 @@
 -- What an input says that is a script and a journal, and why it says nothing.
 use Rattle.std.specs.Prelude.{◌≡◌, ℕ, ◌+◌, ◌≤◌, List, Option, IfSome, Ok, Err, take, drop}
-use Rattle.lt_io.specs.FaultCounts.{CountsFaults}
-use Rattle.lt_io.specs.Source.{SourceState}
-use Rattle.lt_io.specs.Whole.{IsReadWhole}
+use Rattle.lt_io.specs.Streams.{CountsFaults, SourceState, IsReadWhole}
 use Rattle.lt_io.specs.declared.whole.ReadFailure.{ReadFailure}
 use Rattle.lt_io.specs.declared.whole.ReadFailure.TheVariants.{Memory, Failed, TooLong as Long}
 use Rattle.lt_modes.specs.Script.{ScriptData}
-use Rattle.lt_spec.specs.Log.{Logged}
+use Rattle.lt_spec.specs.World.{Logged}
 use Rattle.lt_spec.specs.Script.{IsScript}
 use Rattle.lt_text.specs.Text.{lines}
 use Rattle.lt_script.specs.declared.fault.ScriptFault.{ScriptFault}
 use Rattle.lt_script.specs.Reading.{read_of}
 use Rattle.lt_journal.specs.Split.{input_parts}
 use Rattle.lt_world.specs.Fields.{WorldData}
-use Rattle.lt_law_journals.specs.Input.{IsFirstBadIn}
-use Rattle.lt_law_journals.specs.Journals.{IsFinished, journal_lines}
+use Rattle.lt_law_journals.specs.Checking.{IsFirstBadIn, IsFinished, journal_lines}
 use Rattle.lt_checker.specs.declared.limits.TheConstants.{MAX_JOURNAL}
 use Rattle.lt_checker.specs.declared.error.InputError.{InputError}
 use Rattle.lt_checker.specs.declared.error.InputError.TheVariants.{ReadFault, TooLong, NoMemory, Refused, BadJournal}

@@ -1,10 +1,8 @@
 ghost use Rattle.std.specs.Prelude.{◌≡◌, ◌≢◌, [], ◌∷◌, ◌++◌, ◌≤◌, ℕ, List, length, take, Some, None, Err, IsNone, IsErr, IfOk, IfSome, OnOk, OnErr};
 ghost use Rattle.lt_text.specs.Text.{lines, without_return, is_line_end, HasNone};
 ghost use Rattle.lt_modes.specs.Script.{ScriptData};
-ghost use Rattle.lt_law_journals.specs.Checking.{Reader as AnyReader, checked, read_on};
-ghost use Rattle.lt_law_journals.specs.Feeding.{Feed, new_feed, fed_piece, last_ended, ended};
-ghost use Rattle.lt_checker.specs.Checker.{CheckerData, StandsFor, IsAnswer, IsMemory, MayReadOn, MayReadLast, with_piece, spent};
-ghost use Rattle.lt_checker.specs.Endings.{IsWorldAnswer};
+ghost use Rattle.lt_law_journals.specs.Checking.{Reader as AnyReader, checked, read_on, Feed, new_feed, fed_piece, last_ended, ended};
+ghost use Rattle.lt_checker.specs.Checker.{CheckerData, StandsFor, IsAnswer, IsMemory, MayReadOn, MayReadLast, with_piece, spent, IsWorldAnswer};
 
 use crate::error::ReplayError;
 use crate::reader::Reader;

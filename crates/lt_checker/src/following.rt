@@ -1,6 +1,6 @@
 ghost use Rattle.std.specs.Prelude.{◌≡◌, [], IfOk, IsTrue};
 ghost use Rattle.lt_law_journals.specs.Checking.{by_move, place_after};
-ghost use Rattle.lt_checker.specs.Place.{IsPlace, LedTo};
+ghost use Rattle.lt_checker.specs.Checker.{IsPlace, LedTo};
 
 use crate::due::{push_closing, push_events};
 use lt_journal::{Line, Text, read_line, write_words};

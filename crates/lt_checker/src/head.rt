@@ -1,6 +1,6 @@
 ghost use Rattle.std.specs.Prelude.{◌≤◌, take, length, IfOk, IfErr, IfSome, IfNone, IsTrue};
-ghost use Rattle.lt_law_journals.specs.Input.{EndsInLineFeed, EndsLine, HasJournal, IsSettled};
-ghost use Rattle.lt_io.specs.Reading.{FailsBy};
+ghost use Rattle.lt_law_journals.specs.Checking.{EndsInLineFeed, EndsLine, HasJournal, IsSettled};
+ghost use Rattle.lt_io.specs.Streams.{FailsBy};
 ghost use Rattle.lt_checker.specs.declared.limits.TheConstants.{MAX_JOURNAL};
 ghost use Rattle.lt_checker.specs.Heads.{IsHeadCut, IsReadTo, IsRoom};
 

@@ -1,13 +1,12 @@
 ghost use Rattle.std.specs.Prelude.{◌≡◌, ◌*◌, ◌≤◌, ◌++◌, ℕ, List, Ok, take, drop, length, IfOk, OnOk, IfErr};
-ghost use Rattle.lt_io.specs.Whole.{IsReadWhole};
+ghost use Rattle.lt_io.specs.Streams.{IsReadWhole};
 ghost use Rattle.lt_text.specs.Text.{lines};
 ghost use Rattle.lt_spec.specs.Script.{IsScript};
 ghost use Rattle.lt_script.specs.Reading.{read_of};
 ghost use Rattle.lt_journal.specs.Split.{input_parts};
 ghost use Rattle.lt_law_journals.specs.Checking.{checked};
 ghost use Rattle.lt_checker.specs.declared.limits.TheConstants.{MAX_JOURNAL};
-ghost use Rattle.lt_checker.specs.Checker.{StandsFor};
-ghost use Rattle.lt_checker.specs.Endings.{IsWorldAnswer};
+ghost use Rattle.lt_checker.specs.Checker.{StandsFor, IsWorldAnswer};
 ghost use Rattle.lt_checker.specs.Heads.{IsHeadCut, IsRest, FailsRest, IsRoom, IsLineOf, AnswersInput};
 ghost use Rattle.lt_checker.specs.Input.{IsEndedRun, FailsInput};
 

@@ -1,8 +1,7 @@
 ghost use Rattle.std.specs.Prelude.{◌≡◌, ◌≢◌, None, IfOk, OnOk, IsTrue, IsFalse, IsErr};
 ghost use Rattle.lt_spec.specs.Script.{IsScript};
 ghost use Rattle.lt_law_journals.specs.Checking.{first_reader, read_on, verdict};
-ghost use Rattle.lt_checker.specs.Checker.{IsAnswer, IsMemory};
-ghost use Rattle.lt_checker.specs.Endings.{IsWorldAnswer};
+ghost use Rattle.lt_checker.specs.Checker.{IsAnswer, IsMemory, IsWorldAnswer};
 
 use crate::due::{push_closing, push_first};
 use crate::error::ReplayError;
@@ -34,7 +33,7 @@ pub(crate) struct Reader {
 impl Model for Reader {
     ghost use Rattle.std.specs.Prelude.{◌<◌, ◌+◌, ◌^◌};
     ghost use Rattle.lt_spec.specs.Script.{IsScript};
-    ghost use Rattle.lt_checker.specs.Place.{ReaderData, KeepsPlace, place_now};
+    ghost use Rattle.lt_checker.specs.Checker.{ReaderData, KeepsPlace, place_now};
 
     ghost Value = { ReaderData };
 

@@ -1,7 +1,6 @@
 ghost use Rattle.std.specs.Prelude.{◌≡◌, ℕ, List, map, IfOk};
 ghost use Rattle.lt_journal.specs.Grammar.{read_line};
-ghost use Rattle.lt_law_journals.specs.Checking.{written, reader_after, checked};
-ghost use Rattle.lt_law_journals.specs.Said.{checked_said};
+ghost use Rattle.lt_law_journals.specs.Checking.{written, reader_after, checked, checked_said};
 ghost use Rattle.lt_checker.specs.Checker.{IsAnswer};
 
 use crate::error::ReplayError;

@@ -1,6 +1,6 @@
 ghost use Rattle.std.specs.Prelude.{◌≢◌, ◌≤◌, ℕ, List, length, IfErr, OnOk};
 ghost use Rattle.lt_io.specs.declared.whole.ReadFailure.TheVariants as failure;
-ghost use Rattle.lt_io.specs.Reading.{ReadsOut, FailsBy};
+ghost use Rattle.lt_io.specs.Streams.{ReadsOut, FailsBy};
 ghost use Rattle.lt_checker.specs.Heads.{IsRest, FailsRest, IsFed};
 
 use crate::checker::Checker;

@@ -1,38 +1,58 @@
--- No move sends out more than its bound.
-use Rattle.lt_core.proofs.BoundServices.{AtMost, most_then, most_served, length_set, nodes_served, most_frozen}
-use Rattle.std.proofs.Common.{◌≡◌, ℕ, ◌+◌, ◌≤◌, Bool, true, false, List, [], ◌∷◌, length, length-append, Option, Some, None, arith, refl, sym, ap, subst, if◌then◌else◌, ◌==◌, ◌∙◌, ◌++◌}
-use Rattle.std.specs.Prelude.{insert, ◌&&◌, not, fold, filter_map, nat_lt}
+-- Counting the asks among what is parked.
+use Rattle.std.proofs.Common.{◌≡◌, ℕ, ◌+◌, ◌≤◌, List, [], ◌∷◌, ◌++◌, length, arith, refl, Bool, true, false, length-append, Option, Some, None, sym, ap, subst, if◌then◌else◌, ◌==◌, ◌∙◌, ◌<◌, drop, ◌||◌, filter_map, insert, ◌&&◌, not, fold, nat_lt, slice_index_or, is_some, find}
 use Rattle.std.proofs.lemmas.List.Edits.{length-insert}
+use Rattle.std.specs.List.{list_any}
+use Rattle.std.proofs.lemmas.List.{drop_more}
+use Rattle.lt_modes.specs.State.{Parked, ParkedAsk, ParkedTell, SetState, then_do, Letter, Body, AskBody, TellBody, CopyBody, TokenBody, FreezeBody, Desk, place, after_holders_from, entry_of, silent, Made, no_ask}
+use Rattle.lt_modes.specs.Fits.{ask_if, has_client}
+use Rattle.lt_modes.specs.declared.stamp.Stamp.{Stamp}
+use Rattle.lt_modes.specs.SetMove.{finish, dealt, Way, Parks, Goes, way, sent_on, route_by, learn, make_tell, tell_of, finish_by, attend, granted, asked, ask_of, answers, given, change_held, take_body, arrive}
 use Rattle.lt_modes.specs.declared.mode.Mode.{Mode}
 use Rattle.lt_modes.specs.declared.parts.Hoped.{Hoped}
-use Rattle.lt_modes.specs.Modes.{bars, same_modes, excludes_itself, Modes}
-use Rattle.lt_modes.specs.State.{Parked, ParkedAsk, ParkedTell, Letter, Body, AskBody, TellBody, CopyBody, TokenBody, FreezeBody, SetState, Desk}
-use Rattle.lt_modes.specs.Held.{held_modes, count_of, take_lock}
-use Rattle.lt_modes.specs.Queue.{place, after_holders_from}
-use Rattle.lt_modes.specs.Tells.{told}
-use Rattle.lt_modes.specs.Records.{entry_of}
-use Rattle.lt_modes.specs.Granting.{can_grant}
-use Rattle.lt_modes.specs.Serving.{queue_of_desk, queue_of, next_draw, ask_at, serve}
-use Rattle.lt_core.proofs.AskLemmas.{asks_last, asks_first, count_few}
-use Rattle.lt_core.specs.Steps.{ask_count}
-use Rattle.lt_desk.specs.OutData.{OutData, FitsOut}
+use Rattle.lt_modes.specs.Modes.{bars, same_modes, excludes_itself, Modes, held_modes, count_of, take_lock}
+use Rattle.lt_modes.specs.Serving.{told, queue_of_desk, queue_of, next_draw, ask_at, serve, hand_over, hand_over_to, hand_over_for}
+use Rattle.lt_modes.specs.Freezing.{can_grant, freeze}
+use Rattle.lt_modes.specs.declared.event.Event.TheVariants as event
+use Rattle.lt_modes.specs.declared.parts.Link.{Link}
+use Rattle.lt_modes.specs.declared.ask.Ask.{Ask}
+use Rattle.lt_modes.specs.Waiting.{is_before, has_older}
+use Rattle.lt_desk.specs.DeskData.{OutData, FitsOut}
+use Rattle.lt_core.specs.Steps.{ask_count, is_ask_of}
 use Rattle.lt_core.specs.declared.set_command.SetCommand.{SetCommand}
 use Rattle.lt_core.specs.declared.set_command.SetCommand.TheVariants.{Lock, Try, Unlock, Change, DropAll}
-use Rattle.lt_core.specs.SetCommands.{commanded}
+use Rattle.lt_core.specs.CoreData.{commanded, move_of}
+use Rattle.lt_core.proofs.BoundServices.{AtMost, most_then, most_served, length_set, nodes_served, most_frozen}
 use Rattle.lt_core.specs.Bound.{RoomToSend, brought, EndsFit, CommandsFit, TakesFit, most, nodes_of}
-use Rattle.lt_core.proofs.CommandLemmas.{move_is}
-use Rattle.lt_modes.specs.Made.{silent, Made, then_do}
-use Rattle.lt_modes.specs.Routing.{dealt, Way, Parks, Goes, way, sent_on, route_by, learn}
-use Rattle.lt_modes.specs.Telling.{make_tell, tell_of, finish, finish_by, attend}
-use Rattle.lt_modes.specs.SetMove.{granted, asked, ask_of, answers, given, change_held}
-use Rattle.lt_modes.specs.declared.event.Event.TheVariants as event
-use Rattle.lt_modes.specs.Taking.{take_body, arrive}
-use Rattle.lt_modes.specs.declared.parts.Link.{Link}
-use Rattle.lt_modes.specs.Fits.{ask_if}
-use Rattle.lt_modes.specs.declared.stamp.Stamp.{Stamp}
-use Rattle.lt_modes.specs.declared.ask.Ask.{Ask}
-use Rattle.lt_modes.specs.Freezing.{freeze}
-use Rattle.lt_modes.specs.HandingOver.{hand_over, hand_over_to, hand_over_for}
+use Rattle.lt_core.specs.Behind.{is_behind_older}
+
+pub count_few : (item : Parked) → ask_count item ≤ 1
+count_few (ParkedAsk ask) = omega arith
+count_few (ParkedTell tell) = omega arith
+
+pub asks_first : (item : Parked) (rest : List Parked) → length (filter_map ask_if (item ∷ rest)) ≡ ask_count item + length (filter_map ask_if rest)
+asks_first (ParkedAsk ask) rest = omega arith
+asks_first (ParkedTell tell) rest = omega arith
+
+pub asks_last : (items : List Parked) (item : Parked) → length (filter_map ask_if (items ++ item ∷ [])) ≡ length (filter_map ask_if items) + ask_count item
+asks_last [] item = omega (arith, asks_first item [])
+asks_last (first ∷ rest) item = omega (arith, asks_first first (rest ++ item ∷ []), asks_first first rest, asks_last rest item)
+
+pub client_first : (client : ℕ) (item : Parked) (rest : List Parked)
+    → has_client client (filter_map ask_if (item ∷ rest)) ≡ (is_ask_of client item || has_client client (filter_map ask_if rest))
+client_first client (ParkedAsk ask) rest = refl
+client_first client (ParkedTell tell) rest = refl
+
+-- A client's move is what its command does, and then the end of the move.
+
+pub move_is : (stamp : Stamp) (client : ℕ) (command : SetCommand) (set : ℕ) (s : SetState)
+    → move_of stamp client command set s ≡ then_do (commanded stamp client command set s) (finish set stamp)
+move_is stamp client (Lock mode) set s = refl
+move_is stamp client (Try mode) set s = refl
+move_is stamp client (Unlock mode) set s = refl
+move_is stamp client (Change gives_up mode) set s = refl
+move_is stamp client DropAll set s = refl
+
+-- No move sends out more than its bound.
 
 most_to : (set : ℕ) (stamp : Stamp) (s : SetState) (v : ℕ) (d : Option Desk) → AtMost 1 (hand_over_to set stamp s v d)
 most_to set stamp s v None = (omega arith, omega arith)
@@ -222,3 +242,33 @@ takes_fit stamp letter s out room =
     fits_most (most s + (brought letter.body + 1) + 1) (then_do first (finish letter.set stamp)) out
     (most_move (brought letter.body + 1) letter.set stamp s first (most_arrived stamp letter s))
     (record { posts = omega (arith, room.posts); events = omega (arith, room.events) })
+
+-- Which ask a client has, and which asks stand before others, from a place on.
+
+-- a search finds something exactly where something passes
+pub find_some : {X : Type 0} (test : X → Bool) (xs : List X) → is_some (find test xs) ≡ list_any test xs
+find_some test [] = refl
+find_some test (x ∷ rest) = elim (test x) as (λ t. is_some (if t then Some x else find test rest) ≡ (t || list_any test rest)) [
+  | true ↦ refl
+  | false ↦ find_some test rest
+]
+
+pub before_step : (first second : ℕ) (queue : List Ask) (k : ℕ) → k < length queue
+    → is_before first second (drop k queue)
+    ≡ (((slice_index_or queue k no_ask).client == first && has_client second (drop (k + 1) queue)) || is_before first second (drop (k + 1) queue))
+before_step first second queue k h = ap (is_before first second) (drop_more queue k no_ask h)
+
+behind_first : (s : SetState) (other client : ℕ) (item : Parked) (rest : List Parked)
+    → list_any (λ (ask : Ask). ask.client == client && has_older s other ask) (filter_map ask_if (item ∷ rest))
+    ≡ (is_behind_older s other client item || list_any (λ (ask : Ask). ask.client == client && has_older s other ask) (filter_map ask_if rest))
+behind_first s other client (ParkedAsk ask) rest = refl
+behind_first s other client (ParkedTell tell) rest = refl
+
+pub behind_step : (s : SetState) (other client : ℕ) (items : List Parked) (k : ℕ) → k < length items
+    → list_any (λ (ask : Ask). ask.client == client && has_older s other ask) (filter_map ask_if (drop k items))
+    ≡ (is_behind_older s other client (slice_index_or items k (ParkedAsk no_ask))
+    || list_any (λ (ask : Ask). ask.client == client && has_older s other ask) (filter_map ask_if (drop (k + 1) items)))
+behind_step s other client items k h =
+    ap (λ (rest : List Parked). list_any (λ (ask : Ask). ask.client == client && has_older s other ask) (filter_map ask_if rest))
+    (drop_more items k (ParkedAsk no_ask) h)
+    ∙ behind_first s other client (slice_index_or items k (ParkedAsk no_ask)) (drop (k + 1) items)

@@ -1,15 +1,12 @@
 -- How much services and freezes send out.
-use Rattle.std.proofs.Common.{◌≡◌, ℕ, zero, suc, ◌+◌, ◌≤◌, Bool, true, false, List, [], ◌∷◌, length, length-append, Option, Some, None, arith, refl, sym, ap, subst, if◌then◌else◌, ◌==◌, ◌∙◌}
-use Rattle.std.specs.Prelude.{slice_set, remove}
+use Rattle.std.proofs.Common.{◌≡◌, ℕ, zero, suc, ◌+◌, ◌≤◌, Bool, true, false, List, [], ◌∷◌, length, length-append, Option, Some, None, arith, refl, sym, ap, subst, if◌then◌else◌, ◌==◌, ◌∙◌, slice_set, remove}
 use Rattle.std.proofs.lemmas.List.{length-map}
-use Rattle.lt_modes.specs.State.{SetState, Desk, Entry}
+use Rattle.lt_modes.specs.State.{SetState, Desk, Entry, Made, then_do}
 use Rattle.lt_modes.specs.Serving.{queue_of, next_service, ask_at, serve_one, serve_local, serve_copy, serve_step, serve_up_to, owed_at, put_queue}
 use Rattle.lt_core.specs.Bound.{nodes_of}
-use Rattle.lt_modes.specs.Made.{Made, then_do}
 use Rattle.lt_modes.specs.declared.stamp.Stamp.{Stamp}
 use Rattle.lt_modes.specs.declared.ask.Ask.{Ask}
-use Rattle.lt_modes.specs.Places.{places_from, cons_if}
-use Rattle.lt_modes.specs.Freezing.{freeze_at, targets, is_target, frozen_by}
+use Rattle.lt_modes.specs.Freezing.{places_from, cons_if, freeze_at, targets, is_target, frozen_by}
 
 -- so many letters and event lines at most
 abbrev pub AtMost : ℕ → Made → Type 0

@@ -1,18 +1,16 @@
 -- Tests of all asks, or of some, from a place on.
-use Rattle.std.proofs.Common.{◌≡◌, ◌==◌, ◌∙◌, ◌+◌, ◌<◌, ◌++◌, ◌||◌, ◌&&◌, not, ℕ, zero, suc, Bool, List, [], ◌∷◌, length, map, drop, refl, sym, ap, arith, true, false}
-use Rattle.std.specs.Prelude.{filter_map, slice_index_or}
+use Rattle.std.proofs.Common.{◌≡◌, ◌==◌, ◌∙◌, ◌+◌, ◌<◌, ◌++◌, ◌||◌, ◌&&◌, not, ℕ, zero, suc, Bool, List, [], ◌∷◌, length, map, drop, refl, sym, ap, arith, true, false, filter_map, slice_index_or}
 use Rattle.std.specs.List.{list_all}
 use Rattle.std.proofs.lemmas.List.Folds.{list_any-append}
 use Rattle.lt_modes.specs.declared.ask.Ask.{Ask}
 use Rattle.lt_modes.specs.State as rules
-use Rattle.lt_modes.specs.State.{SetState}
+use Rattle.lt_modes.specs.State.{SetState, no_ask}
 use Rattle.std.proofs.lemmas.List.{drop_more}
-use Rattle.lt_modes.specs.Queue.{no_ask}
 use Rattle.lt_modes.specs.Fits.{has_client, are_apart, is_known, ask_if}
 use Rattle.lt_desk.specs.declared.parked.Parked.{Parked}
 use Rattle.lt_desk.specs.declared.parked.Parked.TheVariants.{Ask as WaitingAsk, Tell as WaitingTell}
 use Rattle.lt_desk.specs.LetterSeen.{parked_seen}
-use Rattle.lt_core.specs.Tests.{is_known_item, is_apart_from}
+use Rattle.lt_core.specs.Steps.{is_known_item, is_apart_from}
 
 -- from a place on
 from_place : {X : Type 0} → (xs : List X) (d : X) (k : ℕ) → k < length xs → drop k xs ≡ slice_index_or xs k d ∷ drop (suc k) xs

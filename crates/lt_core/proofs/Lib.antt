@@ -1,10 +1,4 @@
-pub mod AskLemmas
-pub mod RoomLemmas
-pub mod ServingLemmas
-pub mod NoticeLemmas
-pub mod CommandLemmas
 pub mod BoundLemmas
+pub mod NoticeLemmas
 pub mod FitsLemmas
-pub mod PremiseLemmas
 pub mod BoundServices
-pub mod BehindLemmas

@@ -1,13 +1,15 @@
 -- How much one move can send out.
-use Rattle.std.specs.Prelude.{ℕ, ◌+◌, ◌≤◌, Option, Some, None, length}
+use Rattle.std.specs.Prelude.{ℕ, ◌+◌, ◌≤◌, Option, Some, None, length, ◌==◌, List, [], map}
+use Rattle.std.specs.Int.{bit_at}
 use Rattle.lt_modes.specs.declared.stamp.Stamp.{Stamp}
-use Rattle.lt_modes.specs.State.{SetState, Desk, Letter, Body, AskBody, TellBody, CopyBody, TokenBody, FreezeBody}
-use Rattle.lt_modes.specs.SetMove.{take}
-use Rattle.lt_modes.specs.Telling.{finish}
-use Rattle.lt_desk.specs.OutData.{OutData, FitsOut}
+use Rattle.lt_modes.specs.State.{SetState, Desk, Letter, Body, AskBody, TellBody, CopyBody, TokenBody, FreezeBody, Made, post_of}
+use Rattle.lt_modes.specs.SetMove.{take, finish}
+use Rattle.lt_modes.specs.Freezing.{cons_if}
+use Rattle.lt_modes.specs.declared.event.Event.TheVariants.{Freeze}
+use Rattle.lt_modes.specs.Modes.{Modes}
+use Rattle.lt_desk.specs.DeskData.{OutData, FitsOut}
 use Rattle.lt_core.specs.declared.set_command.SetCommand.{SetCommand}
-use Rattle.lt_core.specs.CoreData.{waiting_here}
-use Rattle.lt_core.specs.SetCommands.{move_of}
+use Rattle.lt_core.specs.CoreData.{waiting_here, move_of}
 
 -- the nodes that the desk knows, where it is here
 abbrev pub nodes_of : Option Desk → ℕ
@@ -49,3 +51,17 @@ TakesFit =
     (stamp : Stamp) (letter : Letter) (s : SetState) (out : OutData)
     → RoomToSend (most s + brought letter.body + 2) out
     → FitsOut (take stamp letter s) out
+
+-- The letters and the lines of a freeze.
+
+-- these nodes are sent the frozen modes with this number, and the state stays
+abbrev pub notices : ℕ → Stamp → SetState → Modes → ℕ → List ℕ → Made
+notices set stamp s frozen number told = record {
+  state = s;
+  posts = map (λ x. post_of set stamp s x (FreezeBody number frozen)) told;
+  events = map (λ x. Freeze set x number frozen) told;
+}
+
+-- the node alone, where the mask has it
+abbrev pub node_if : ℕ → ℕ → List ℕ
+node_if mask x = cons_if (bit_at mask x == 1) x []

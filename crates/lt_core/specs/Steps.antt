@@ -1,11 +1,11 @@
 -- Steps of a rule that functions of a core make.
-use Rattle.std.specs.Prelude.{Bool, false, ◌==◌, ℕ}
+use Rattle.std.specs.Prelude.{Bool, false, ◌==◌, ℕ, true, not, List}
 use Rattle.lt_modes.specs.declared.ask.Ask.{Ask}
-use Rattle.lt_modes.specs.State.{SetState, Parked, ParkedAsk, ParkedTell}
-use Rattle.lt_modes.specs.Made.{Made}
-use Rattle.lt_modes.specs.Queue.{without}
+use Rattle.lt_modes.specs.State.{SetState, Parked, ParkedAsk, ParkedTell, Made, without}
 use Rattle.lt_modes.specs.Serving.{answered, answer_event}
 use Rattle.lt_modes.specs.SetMove.{answers}
+use Rattle.lt_modes.specs.Fits as rules
+use Rattle.lt_core.specs.declared.numbers.Numbers.{Numbers}
 
 -- the ask's client gets the lock and waits no more
 abbrev pub answer_ask : ℕ → Ask → SetState → Made
@@ -20,3 +20,18 @@ ask_count (ParkedTell tell) = 0
 abbrev pub is_ask_of : ℕ → Parked → Bool
 is_ask_of client (ParkedAsk ask) = ask.client == client
 is_ask_of client (ParkedTell tell) = false
+
+-- The numbers of a script, as the rules speak of them.
+
+abbrev pub rule_numbers : Numbers → rules.Numbers
+rule_numbers n = record { nodes = n.nodes; sets = n.sets; homes = n.homes.now }
+
+-- an ask that is known, or a tell
+abbrev pub is_known_item : ℕ → SetState → Parked → Bool
+is_known_item q s (ParkedAsk ask) = rules.is_known q s ask
+is_known_item q s (ParkedTell tell) = true
+
+-- no parked ask from place k on is of the client of the item, where that is an ask
+abbrev pub is_apart_from : Parked → List Ask → Bool
+is_apart_from (ParkedAsk ask) rest = not (rules.has_client ask.client rest)
+is_apart_from (ParkedTell tell) rest = true

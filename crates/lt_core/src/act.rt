@@ -1,12 +1,11 @@
 ghost use Rattle.std.specs.Prelude.{◌≡◌, ◌+◌, ◌≤◌, ◌<◌, ◌==◌, ℕ, if◌then◌else◌, None};
-ghost use Rattle.lt_modes.specs.Held.{locks_in, locks_of, count_of};
-ghost use Rattle.lt_modes.specs.Granting.{can_grant};
+ghost use Rattle.lt_modes.specs.Modes.{locks_in, locks_of, count_of};
+ghost use Rattle.lt_modes.specs.Freezing.{can_grant};
 ghost use Rattle.lt_modes.specs.SetMove.{given, ask_of, asked, locked, tried, unlocked, changed, change_held, dropped};
 ghost use Rattle.lt_held.specs.HeldData.{most_locks};
-ghost use Rattle.lt_desk.specs.OutData.{FitsOut};
+ghost use Rattle.lt_desk.specs.DeskData.{FitsOut};
 ghost use Rattle.lt_core.specs.declared.set_command.Answer.TheVariants.{Granted, Waits, True, False, Unlocked, NotHeld, Changed};
-ghost use Rattle.lt_core.specs.CoreData.{Does, HasRoom, RoomToAsk};
-ghost use Rattle.lt_core.specs.SetCommands.{answer_of, commanded, move_of, RoomForCommand};
+ghost use Rattle.lt_core.specs.CoreData.{Does, HasRoom, RoomToAsk, answer_of, commanded, move_of, RoomForCommand};
 
 use crate::one_set::Core;
 use crate::serving::give;

@@ -1,11 +1,10 @@
 ghost use Rattle.std.specs.Prelude.{◌≡◌, ◌+◌, ◌<◌, ◌^◌, ◌++◌, nat_lt, map, filter_map, drop, length, slice_index_or};
 ghost use Rattle.std.specs.List.{list_all};
-ghost use Rattle.lt_modes.specs.Queue.{no_ask};
+ghost use Rattle.lt_modes.specs.State.{no_ask, ParkedAsk};
 ghost use Rattle.lt_modes.specs.Fits.{fits, head_fits, body_fits, ask_fits, copy_fits, token_fits, tell_fits, queue_fits, is_pending, is_known, is_at_home, has_client, asks_here, parked_asks, are_apart, ask_if};
-ghost use Rattle.lt_modes.specs.State.{ParkedAsk};
 ghost use Rattle.lt_desk.specs.declared.parked.Parked.{Parked as AnyParked};
 ghost use Rattle.lt_desk.specs.LetterSeen.{letter_seen, body_seen, tell_seen, parked_seen};
-ghost use Rattle.lt_core.specs.Tests.{rule_numbers, is_known_item, is_apart_from};
+ghost use Rattle.lt_core.specs.Steps.{rule_numbers, is_known_item, is_apart_from};
 
 use crate::numbers::Numbers;
 use crate::one_set::{Core, is_of};

@@ -1,7 +1,7 @@
 ghost use Rattle.std.specs.Prelude.{◌≡◌, ◌&&◌, not};
 ghost use Rattle.lt_modes.specs.Modes.{has, covers};
-ghost use Rattle.lt_modes.specs.Granting.{can_grant};
-ghost use Rattle.lt_desk.specs.Seen.{joins_at_desk};
+ghost use Rattle.lt_modes.specs.Freezing.{can_grant};
+ghost use Rattle.lt_desk.specs.Sights.{joins_at_desk};
 
 use crate::one_set::Core;
 use lt_modes::Mode;

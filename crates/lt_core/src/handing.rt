@@ -1,12 +1,10 @@
 ghost use Rattle.std.specs.Prelude.{◌≡◌, ◌+◌, ◌≤◌, ◌<◌, length, Some, None, IfSome, slice_index_or};
-ghost use Rattle.lt_modes.specs.Queue.{no_ask};
-ghost use Rattle.lt_modes.specs.Serving.{queue_of, next_draw};
+ghost use Rattle.lt_modes.specs.State.{no_ask};
+ghost use Rattle.lt_modes.specs.Serving.{queue_of, next_draw, hand_over, hand_over_to};
 ghost use Rattle.lt_modes.specs.Freezing.{freeze};
-ghost use Rattle.lt_modes.specs.HandingOver.{hand_over, hand_over_to};
-ghost use Rattle.lt_desk.specs.Freezes.{bits_from};
-ghost use Rattle.lt_desk.specs.OutData.{FitsOut, out_after};
+ghost use Rattle.lt_desk.specs.DeskData.{bits_from, FitsOut, out_after};
 ghost use Rattle.lt_core.specs.CoreData.{Does, HasRoom, epoch_of};
-ghost use Rattle.lt_core.specs.Notices.{notices, node_if};
+ghost use Rattle.lt_core.specs.Bound.{notices, node_if};
 
 use crate::one_set::Core;
 use lt_desk::{Body, Desk, News, Out, Targets};

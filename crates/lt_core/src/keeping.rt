@@ -1,5 +1,5 @@
 ghost use Rattle.std.specs.Prelude.{◌≡◌, ◌+◌, ◌<◌, ◌≤◌, ◌^◌, ◌&&◌, nat_le, length, map, filter_map};
-ghost use Rattle.lt_modes.specs.Held.{locks_in};
+ghost use Rattle.lt_modes.specs.Modes.{locks_in};
 ghost use Rattle.lt_modes.specs.Fits.{asks_here, ask_if};
 ghost use Rattle.lt_desk.specs.LetterSeen.{parked_seen};
 ghost use Rattle.lt_core.specs.Bound.{most};

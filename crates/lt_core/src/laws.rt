@@ -1,5 +1,5 @@
 ghost use Rattle.lt_core.specs.Bound.{EndsFit, CommandsFit, TakesFit};
-ghost use Rattle.lt_core.specs.Premises.{MovesHaveRoom};
+ghost use Rattle.lt_core.specs.CoreData.{MovesHaveRoom};
 
 /// So many places suffice for the letters and the event lines of a move.
 pub fn law_room_to_send()

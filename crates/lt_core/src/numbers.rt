@@ -1,6 +1,6 @@
 ghost use Rattle.std.specs.Prelude.{◌≡◌};
 ghost use Rattle.lt_modes.specs.Fits.{is_at_home};
-ghost use Rattle.lt_core.specs.Tests.{rule_numbers};
+ghost use Rattle.lt_core.specs.Steps.{rule_numbers};
 
 use lt_modes::Ask;
 

@@ -1,9 +1,9 @@
 ghost use Rattle.std.specs.Prelude.{◌≡◌, ◌+◌, ◌≤◌, ◌<◌, length, remove};
-ghost use Rattle.lt_modes.specs.Held.{add_lock, locks_in};
+ghost use Rattle.lt_modes.specs.Modes.{add_lock, locks_in};
 ghost use Rattle.lt_modes.specs.Serving.{queue_of, put_queue, next_draw, ask_at, answer_event, serve_one, serve_copy, serve, give_up};
 ghost use Rattle.lt_held.specs.HeldData.{most_locks};
 ghost use Rattle.lt_desk.specs.Picks.{picked, IsInQueue};
-ghost use Rattle.lt_desk.specs.OutData.{FitsOut};
+ghost use Rattle.lt_desk.specs.DeskData.{FitsOut};
 ghost use Rattle.lt_core.specs.CoreData.{Does, HasRoom};
 ghost use Rattle.lt_core.specs.Steps.{answer_ask};
 

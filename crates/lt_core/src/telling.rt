@@ -1,6 +1,6 @@
 ghost use Rattle.std.specs.Prelude.{◌≡◌};
-ghost use Rattle.lt_modes.specs.Telling.{make_tell, tell, attend, finish};
-ghost use Rattle.lt_desk.specs.OutData.{FitsOut};
+ghost use Rattle.lt_modes.specs.SetMove.{make_tell, tell, attend, finish};
+ghost use Rattle.lt_desk.specs.DeskData.{FitsOut};
 ghost use Rattle.lt_core.specs.CoreData.{Does, HasRoom};
 
 use crate::one_set::Core;

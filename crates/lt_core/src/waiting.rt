@@ -1,8 +1,7 @@
 ghost use Rattle.std.specs.Prelude.{◌≡◌, ◌<◌, is_some, length, slice_index_or};
-ghost use Rattle.lt_modes.specs.Held.{count_of};
-ghost use Rattle.lt_modes.specs.Queue.{no_ask};
+ghost use Rattle.lt_modes.specs.Modes.{count_of};
+ghost use Rattle.lt_modes.specs.State.{no_ask, ParkedAsk};
 ghost use Rattle.lt_modes.specs.Serving.{waits};
-ghost use Rattle.lt_modes.specs.State.{ParkedAsk};
 ghost use Rattle.lt_modes.specs.Waiting.{pending_ask, is_before, stands_before, has_older, parked_behind};
 ghost use Rattle.lt_core.specs.Behind.{is_behind_older};
 
@@ -50,7 +49,7 @@ impl Core {
     }
 
     /// Whether an ask of the client is parked here behind an older one of the other client.
-    #[tactic(auto, using(crate::proofs::BehindLemmas::behind_step))]
+    #[tactic(auto, using(crate::proofs::BoundLemmas::behind_step))]
     pub fn parked_behind(&self, other: u16, client: u16) -> bool
         ensures { result ≡ parked_behind self.now.state other client }
     {
@@ -84,7 +83,7 @@ impl Core {
 }
 
 // Whether in the desk's queue an ask of the first client stands before one of the second.
-#[tactic(auto, using(crate::proofs::BehindLemmas::before_step))]
+#[tactic(auto, using(crate::proofs::BoundLemmas::before_step))]
 fn is_before(desk: &Desk, first: u16, second: u16) -> bool
     ensures { result ≡ is_before first second desk.now.desk.queue }
 {

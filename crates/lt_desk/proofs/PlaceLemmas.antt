@@ -1,10 +1,8 @@
 -- One place of the queue further.
-use Rattle.std.proofs.Common.{◌≡◌, ◌∙◌, ℕ, ◌+◌, ◌<◌, Bool, true, false, List, length, drop, drop-cons, Option, Some, None, refl, sym, ap, add-one, slice_index_or}
-use Rattle.std.specs.Prelude.{◌==◌, ◌&&◌, ◌||◌, not, if◌then◌else◌, IfSome}
+use Rattle.std.proofs.Common.{◌≡◌, ◌∙◌, ℕ, ◌+◌, ◌<◌, Bool, true, false, List, length, drop, drop-cons, Option, Some, None, refl, sym, ap, add-one, slice_index_or, ◌==◌, ◌&&◌, ◌||◌, not, if◌then◌else◌, IfSome}
 use Rattle.lt_modes.specs.declared.ask.Ask.{Ask}
 use Rattle.lt_modes.specs.Modes.{Modes, with_mode}
-use Rattle.lt_modes.specs.Queue.{no_ask}
-use Rattle.lt_modes.specs.State.{SetState, Desk}
+use Rattle.lt_modes.specs.State.{no_ask, SetState, Desk}
 use Rattle.lt_modes.specs.Serving.{is_free, is_local, is_copy, is_clear_at_home, is_served, may_draw, next_from, draw_from}
 use Rattle.lt_desk.specs.Picks.{first_of}
 

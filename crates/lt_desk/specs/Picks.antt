@@ -1,8 +1,7 @@
 -- What the desk does next, as one value.
 use Rattle.std.specs.Prelude.{ℕ, ◌<◌, ◌==◌, List, Option, Some, None, if◌then◌else◌, slice_index_or}
 use Rattle.lt_modes.specs.declared.ask.Ask.{Ask}
-use Rattle.lt_modes.specs.State.{SetState}
-use Rattle.lt_modes.specs.Queue.{no_ask}
+use Rattle.lt_modes.specs.State.{SetState, no_ask}
 use Rattle.lt_modes.specs.Serving.{queue_of, next_service, next_draw}
 use Rattle.lt_desk.specs.declared.pick.Pick.{Pick}
 use Rattle.lt_desk.specs.declared.pick.Pick.TheVariants.{Nothing, Local, Copy, HandOver}

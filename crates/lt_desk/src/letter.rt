@@ -1,6 +1,5 @@
 ghost use Rattle.std.specs.Prelude.{◌≡◌, ◌≤◌, IsOk, OnOk};
-ghost use Rattle.lt_desk.specs.LetterSeen.{letter_seen};
-ghost use Rattle.lt_desk.specs.Hands.{asks_in, RoomIn, places_in, body_spare};
+ghost use Rattle.lt_desk.specs.LetterSeen.{letter_seen, asks_in, RoomIn, places_in, body_spare};
 
 use crate::Desk;
 use crate::parked::Tell;

@@ -19,7 +19,7 @@ impl Model for Out {
     ghost use Rattle.std.specs.Prelude.{map};
     ghost use Rattle.std.specs.VecDeque.{deque_capacity};
     ghost use Rattle.lt_desk.specs.LetterSeen.{post_seen};
-    ghost use Rattle.lt_desk.specs.OutData.{OutData};
+    ghost use Rattle.lt_desk.specs.DeskData.{OutData};
 
     ghost Value = { OutData };
 

@@ -1,8 +1,7 @@
 -- What holds of the commands of a drawn group.
-use Rattle.std.specs.Prelude.{IsTrue, if◌then◌else◌}
-use Rattle.std.proofs.Common.{◌≡◌, ◌≢◌, ℕ, zero, suc, get_or, ◌<◌, ◌≤◌, ◌==◌, nat_lt, nat_le, not, true, List, length, refl, inl, inr, arith}
+use Rattle.std.proofs.Common.{IsTrue, if◌then◌else◌, ◌≡◌, ◌≢◌, ℕ, zero, suc, get_or, ◌<◌, ◌≤◌, ◌==◌, nat_lt, nat_le, not, true, List, length, refl, inl, inr, arith, eq-eqb, ne_eqb, leb-true}
 use Rattle.std.specs.List.{AllByRecursion}
-use Rattle.std.proofs.lemmas.Bool.{cases_eq, cases_Bool, eq-eqb, ne_eqb, leb-true}
+use Rattle.std.proofs.lemmas.Bool.{cases_eq, cases_Bool}
 use Rattle.std.proofs.lemmas.Nat.{mod_below}
 use Rattle.rand_pcg.specs.Lcg.{Lcg}
 use Rattle.rand_pcg.specs.Pcg.{pcg32}
@@ -15,8 +14,7 @@ use Rattle.lt_modes.specs.FiveModes.{is_of_five, is_of_version}
 use Rattle.lt_spec.specs.Script.{IsRequest, HasModesOf}
 use Rattle.lt_gen.specs.declared.group.Group.{Group}
 use Rattle.lt_gen.specs.declared.group.Group.TheVariants.{Last, Lock, Try, Upgrade, Change}
-use Rattle.lt_gen.specs.Draws.{draw_of}
-use Rattle.lt_gen.specs.Groups.{nth_mode, group_of, group_by, set_of, group_commands, HasFiveModes}
+use Rattle.lt_gen.specs.Generator.{draw_of, nth_mode, group_of, group_by, set_of, group_commands, HasFiveModes}
 
 group_set : (left set kind : ℕ) (g : Lcg) → set_of (group_by left set kind g).0 ≡ set
 group_set left set kind g = elim (cases_Bool (nat_lt kind 2)) [

@@ -1,6 +1,3 @@
-pub mod ClientNames
-pub mod Loads
+pub mod Generated
 pub mod SizeLemmas
 pub mod GroupLemmas
-pub mod Turns
-pub mod Generated

@@ -1,7 +1,6 @@
 -- What it means of the sizes of a script that it can be made.
-use Rattle.std.specs.Prelude.{IsTrue}
-use Rattle.std.proofs.Common.{ℕ, ◌*◌, ◌<◌, ◌≤◌, ◌&&◌, nat_le}
-use Rattle.std.proofs.lemmas.Bool.{and_parts, leb-true}
+use Rattle.std.proofs.Common.{IsTrue, ℕ, ◌*◌, ◌<◌, ◌≤◌, ◌&&◌, nat_le, leb-true}
+use Rattle.std.proofs.lemmas.Bool.{and_parts}
 use Rattle.lt_spec.specs.declared.limits.TheConstants.{MAX_NODES_OF_FIRST, MAX_CLIENTS_OF_FIRST, MAX_CLIENTS_OF_NODE, MAX_COMMANDS}
 use Rattle.lt_gen.specs.Sizes.{can_make}
 

@@ -1,5 +1,2 @@
-pub mod Draws
-pub mod Groups
-pub mod Sizes
 pub mod Generator
-pub mod Making
+pub mod Sizes

@@ -1,5 +1,5 @@
 ghost use Rattle.std.specs.Prelude.{◌≡◌, ◌<◌};
-ghost use Rattle.lt_gen.specs.Draws.{seeded, draw_of};
+ghost use Rattle.lt_gen.specs.Generator.{seeded, draw_of};
 
 use rand_core::SeedableRng;
 use rand_core::utils::NextWord;
@@ -21,7 +21,7 @@ impl Model for Draws {
 }
 
 impl Draws {
-    #[tactic(auto, unfolding(crate::specs::Draws::seeded))]
+    #[tactic(auto, unfolding(crate::specs::Generator::seeded))]
     pub fn new(seed: u64) -> Draws
         ensures { result ≡ seeded seed }
     {
@@ -31,7 +31,7 @@ impl Draws {
     }
 
     /// The next number, which is below `n`.
-    #[tactic(auto, unfolding(crate::specs::Draws::draw_of))]
+    #[tactic(auto, unfolding(crate::specs::Generator::draw_of))]
     pub fn draw(&mut self, n: u32) -> u32
         requires { 0 < n }
         ensures value { (result, self.new) ≡ draw_of n self.old }

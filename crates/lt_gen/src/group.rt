@@ -1,6 +1,6 @@
 ghost use Rattle.std.specs.Prelude.{◌≡◌, ◌<◌, ◌≤◌, length, IfOk, IsTrue};
 ghost use Rattle.lt_modes.specs.FiveModes.{is_of_five};
-ghost use Rattle.lt_gen.specs.Groups.{drawn_mode, group_of, set_of, group_commands, HasFiveModes};
+ghost use Rattle.lt_gen.specs.Generator.{drawn_mode, group_of, set_of, group_commands, HasFiveModes};
 
 use crate::draws::Draws;
 use lt_modes::{Command, MODES, Mode};

@@ -2,7 +2,7 @@
 use Rattle.std.specs.Prelude.{◌≤◌, ℕ, List, All, count_by}
 use Rattle.lt_modes.specs.declared.mode.Mode.{Mode}
 use Rattle.lt_modes.specs.declared.parts.Row.{Row}
-use Rattle.lt_modes.specs.Held.{is_row_of}
+use Rattle.lt_modes.specs.Modes.{is_row_of, count_of, locks_of, locks_in}
 
 pub record HeldData : Type 0 where
   pub rows : List Row
@@ -22,3 +22,11 @@ pub record IsCounted (row : Row) : Type 0 where
 pub record AreRows (rows : List Row) : Type 0 where
   pub counted : All IsCounted rows
   pub distinct : (client : ℕ) (mode : Mode) → count_by (is_row_of client mode) rows ≤ 1
+
+-- What holds of the counts in any rows.
+
+abbrev pub CountIsWithin : Type 0
+CountIsWithin = (rows : List Row) (client : ℕ) (mode : Mode) → count_of rows client mode ≤ locks_of rows client
+
+abbrev pub LocksAreWithin : Type 0
+LocksAreWithin = (rows : List Row) (client : ℕ) → locks_of rows client ≤ locks_in rows

@@ -1,2 +1,1 @@
 pub mod HeldData
-pub mod RowLaws

@@ -2,8 +2,7 @@ ghost use Rattle.std.specs.Prelude.{◌≡◌, ◌+◌, ◌==◌, not, nat_le, �
 ghost use Rattle.std.specs.Bool.{OnTrue, OnFalse};
 ghost use Rattle.std.specs.List.{list_any};
 ghost use Rattle.lt_modes.specs.declared.mode.Mode.{Mode as AnyMode};
-ghost use Rattle.lt_modes.specs.Modes.{has, bars};
-ghost use Rattle.lt_modes.specs.Held.{count_of, add_lock, take_lock, is_of, held_modes, own_modes, other_modes, locks_of, locks_in, without_client};
+ghost use Rattle.lt_modes.specs.Modes.{has, bars, count_of, add_lock, take_lock, is_of, held_modes, own_modes, other_modes, locks_of, locks_in, without_client};
 ghost use Rattle.lt_held.specs.HeldData.{AreRows, most_locks};
 
 use crate::rows;

@@ -1,5 +1,5 @@
 ghost use Rattle.std.specs.Prelude.{◌≡◌, ◌<◌, nat_le, length, IfSome};
-ghost use Rattle.lt_modes.specs.Held.{row_place, held_modes, own_modes, other_modes, locks_of, locks_in};
+ghost use Rattle.lt_modes.specs.Modes.{row_place, held_modes, own_modes, other_modes, locks_of, locks_in};
 ghost use Rattle.lt_held.specs.HeldData.{AreRows};
 
 use lt_modes::{Mode, ModeSet, Row};
@@ -48,7 +48,7 @@ pub(crate) fn other_modes(rows: &[Row], client: u16) -> ModeSet
 }
 
 /// How many locks the client holds.
-#[tactic(auto, using(crate::proofs::CountLemmas::few_locks, crate::proofs::CountLemmas::locks_more))]
+#[tactic(auto, using(crate::proofs::RowLemmas::few_locks, crate::proofs::RowLemmas::locks_more))]
 pub(crate) fn locks(rows: &[Row], client: u16) -> u32
     requires { AreRows rows.now }
     ensures { result ≡ locks_of rows.now client }

@@ -1,5 +1,2 @@
-pub mod Senders
-pub mod First
-pub mod Marks
-pub mod Delivered
 pub mod TakeOrder
+pub mod Marks

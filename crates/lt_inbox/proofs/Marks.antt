@@ -1,12 +1,130 @@
--- From whom to whom letters are on their way, once a letter more or less is.
-use Rattle.std.proofs.Common.{◌≡◌, ◌≢◌, Bool, true, false, ℕ, ◌<◌, List, [], ◌∷◌, ◌++◌, length, inl, inr, refl, sym, ap, subst, ◌∙◌, arith, length-set, get_or-set_same, get_or-set_other}
-use Rattle.std.specs.Prelude.{slice_set}
-use Rattle.std.proofs.lemmas.Bool.{cases_eq, eq-eqb}
-use Rattle.std.proofs.lemmas.List.{append-nil}
-use Rattle.lt_modes.specs.State.{Letter}
+-- The oldest letter from one node to another.
+use Rattle.std.proofs.Common.{◌≡◌, Bool, true, false, ℕ, suc, ◌+◌, ◌<◌, ◌==◌, List, [], ◌∷◌, ◌++◌, length, take, drop, inl, inr, refl, sym, ap, subst, ◌∙◌, arith, take-suc, ◌-◌, ◌≤◌, append_assoc, ◌≢◌, length-set, get_or-set_same, get_or-set_other, slice_index_or, Option, Some, None, IfSome, IfNone, is_some, All, slice_set, remove, eqb-true, eq-eqb, ne_eqb, append-nil}
+use Rattle.std.proofs.Math.Seq.{split_at}
+use Rattle.std.proofs.lemmas.Bool.{cases_eq, and_parts}
+use Rattle.std.proofs.lemmas.List.{get_or_default}
+use Rattle.std.proofs.lemmas.List.Elements.{filter_map-append, All-rest}
+use Rattle.lt_modes.specs.State.{Letter, Post}
 use Rattle.lt_spec.specs.World.{is_some_letter}
-use Rattle.lt_inbox.specs.Mail.{SentData, AreMarked, goes, letters_between, sent_of, has_from, senders_to, has_between, put_mark}
-use Rattle.lt_inbox.proofs.First.{between_append, between_cons, with_letter, goes_else}
+use Rattle.lt_inbox.specs.Mail.{SentData, IsOldest, goes, letter_between, letters_between, MailData, mail_in, sent_of, letters_of, AreMarked, has_from, senders_to, has_between, put_mark}
+
+pub between_append : (a b : ℕ) (xs ys : List SentData) → letters_between a b (xs ++ ys) ≡ letters_between a b xs ++ letters_between a b ys
+between_append a b xs ys = filter_map-append (letter_between a b) xs ys
+
+abbrev pub with_letter : Bool → Letter → List Letter → List Letter
+with_letter true letter rest = letter ∷ rest
+with_letter false letter rest = rest
+
+pub between_cons : (a b : ℕ) (one : SentData) (rest : List SentData) → letters_between a b (one ∷ rest) ≡ with_letter (goes a b one) one.letter (letters_between a b rest)
+between_cons a b one rest = by_case (goes a b one) refl
+  where
+    by_case : (t : Bool) → goes a b one ≡ t → letters_between a b (one ∷ rest) ≡ with_letter (goes a b one) one.letter (letters_between a b rest)
+    by_case true e = rw e refl
+    by_case false e = rw e refl
+
+-- a letter that goes from p to q goes between no others
+pub goes_else : (p q a b : ℕ) (one : SentData) → goes p q one ≡ true → (a ≡ p → b ≡ q → ⊥) → goes a b one ≡ false
+goes_else p q a b one e apart = elim (cases_eq one.sender a) [
+  | inr other ↦ rw (ne_eqb one.sender a other) refl
+  | inl sender ↦ elim (cases_eq one.receiver b) [
+    | inr other ↦ rw (eq-eqb one.sender a sender, ne_eqb one.receiver b other) refl
+    | inl receiver ↦ absurd (apart (sym sender ∙ eqb-true one.sender p (and_parts (one.sender == p) (one.receiver == q) e).0)
+        (sym receiver ∙ eqb-true one.receiver q (and_parts (one.sender == p) (one.receiver == q) e).1))
+  ]
+]
+
+pub none_more : (p q : ℕ) (sent : List SentData) (k : ℕ) (one : SentData) → k < length sent → one ≡ slice_index_or sent k one → goes p q one ≡ false
+    → letters_between p q (take k sent) ≡ [] → letters_between p q (take (k + 1) sent) ≡ []
+none_more p q sent k one below is miss none =
+    let step : k + 1 ≡ suc k = omega arith in
+    let more : take (k + 1) sent ≡ take k sent ++ one ∷ [] = ap (λ (n : ℕ). take n sent) step ∙ (take-suc sent k one below ∙ ap (λ (x : SentData). take k sent ++ x ∷ []) (sym is)) in
+    ap (letters_between p q) more
+    ∙ (between_append p q (take k sent) (one ∷ [])
+    ∙ (ap (λ (ls : List Letter). ls ++ letters_between p q (one ∷ [])) none
+    ∙ (between_cons p q one [] ∙ ap (λ (t : Bool). with_letter t one.letter []) miss)))
+
+pub first_at : (p q : ℕ) (sent : List SentData) (k : ℕ) (one : SentData) → k < length sent → one ≡ slice_index_or sent k one → goes p q one ≡ true
+    → letters_between p q (take k sent) ≡ [] → IsOldest p q sent k
+first_at p q sent k one below is hit none = record {
+  below = below;
+  first = λ it e.
+      let same : it ≡ one = e ∙ (get_or_default sent k it one below ∙ sym is) in
+      subst (λ (x : SentData). letters_between p q sent ≡ x.letter ∷ letters_between p q (remove sent k)) (sym same) (front ∙ sym (ap (λ (ls : List Letter). one.letter ∷ ls) left));
+  others = λ a b apart.
+      between_append a b before after
+      ∙ sym (ap (letters_between a b) split
+      ∙ (between_append a b before (one ∷ after)
+      ∙ ap (λ (ls : List Letter). letters_between a b before ++ ls)
+      (between_cons a b one after ∙ ap (λ (t : Bool). with_letter t one.letter (letters_between a b after)) (goes_else p q a b one hit apart))));
+}
+  where
+    before : List SentData
+    before = take k sent
+
+    after : List SentData
+    after = drop (suc k) sent
+
+    split : sent ≡ before ++ one ∷ after
+    split = split_at sent k one below ∙ ap (λ (x : SentData). before ++ x ∷ after) (sym is)
+
+    left : letters_between p q (remove sent k) ≡ letters_between p q after
+    left = between_append p q before after ∙ ap (λ (ls : List Letter). ls ++ letters_between p q after) none
+
+    front : letters_between p q sent ≡ one.letter ∷ letters_between p q after
+    front =
+        ap (letters_between p q) split
+        ∙ (between_append p q before (one ∷ after)
+        ∙ (ap (λ (ls : List Letter). ls ++ letters_between p q (one ∷ after)) none
+        ∙ (between_cons p q one after ∙ ap (λ (t : Bool). with_letter t one.letter (letters_between p q after)) hit)))
+
+-- where a first one is found, there is one
+pub any_between : (p q : ℕ) (sent : List SentData) (place : Option ℕ) → IfSome place (IsOldest p q sent) → IfNone place (letters_between p q sent ≡ [])
+    → is_some place ≡ is_some_letter (letters_between p q sent)
+any_between p q sent None found none = sym (ap is_some_letter none)
+any_between p q [] (Some k) found none = absurd (omega (arith, found.below))
+any_between p q (x ∷ xs) (Some k) found none =
+    let one = slice_index_or (x ∷ xs) k x in
+    let here : one ≡ slice_index_or (x ∷ xs) k one = get_or_default (x ∷ xs) k x one found.below in
+    sym (ap is_some_letter (found.first one here))
+
+-- Letters that are put behind those on their way, one after another.
+
+-- with one letter more of p
+abbrev pub with_post : MailData → ℕ → Post → MailData
+with_post mail p post = record mail { sent = mail.sent ++ sent_of p post.to post.letter ∷ []; free = mail.free - 1 }
+
+-- the letters of these posts are still to be delivered
+pub record LeftToDeliver (p : ℕ) (posts : List Post) (old : MailData) (left : List Post) (now : MailData) : Type 0 where
+  pub receivers : now.nodes ≡ old.nodes
+  pub letters : (a b : ℕ) → mail_in now a b ++ letters_of p left a b ≡ mail_in old a b ++ letters_of p posts a b
+  pub targets : All (λ (post : Post). post.to < now.nodes) left
+  pub room : length left ≤ now.free
+
+-- the first letter goes with those of its receiver
+one_letter : (p : ℕ) (post : Post) (rest : List Post) (a b : ℕ)
+    → letters_between a b (sent_of p post.to post.letter ∷ []) ++ letters_of p rest a b ≡ letters_of p (post ∷ rest) a b
+one_letter p post rest a b = elim (cases_eq p a) [
+  | inr other ↦ rw (ne_eqb p a other, ne_eqb a p (λ e. other (sym e))) refl
+  | inl sender ↦ elim (cases_eq post.to b) [
+    | inr other ↦ rw (eq-eqb p a sender, eq-eqb a p (sym sender), ne_eqb post.to b other) refl
+    | inl receiver ↦ rw (eq-eqb p a sender, eq-eqb a p (sym sender), eq-eqb post.to b receiver) refl
+  ]
+]
+
+pub delivered_one : (p : ℕ) (posts : List Post) (old now : MailData) (post : Post) (rest : List Post)
+    → LeftToDeliver p posts old (post ∷ rest) now → LeftToDeliver p posts old rest (with_post now p post)
+delivered_one p posts old now post rest h = record {
+  receivers = h.receivers;
+  letters = λ a b.
+      ap (λ (ls : List Letter). ls ++ letters_of p rest a b) (between_append a b now.sent (sent_of p post.to post.letter ∷ []))
+      ∙ (append_assoc (mail_in now a b) (letters_between a b (sent_of p post.to post.letter ∷ [])) (letters_of p rest a b)
+      ∙ (ap (λ (ls : List Letter). mail_in now a b ++ ls) (one_letter p post rest a b)
+      ∙ h.letters a b));
+  targets = All-rest (λ (x : Post). x.to < now.nodes) post rest (post ∷ rest) refl h.targets;
+  room = omega (arith, h.room);
+}
+
+-- From whom to whom letters are on their way, once a letter more or less is.
 
 at_receiver : (boxes : List (List Bool)) (p q : ℕ) (t : Bool) → q < length boxes → senders_to (put_mark boxes p q t) q ≡ slice_set (senders_to boxes q) p t
 at_receiver boxes p q t inside = get_or-set_same boxes q (slice_set (senders_to boxes q) p t) [] inside

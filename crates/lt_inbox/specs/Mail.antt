@@ -1,8 +1,7 @@
 -- Letters on their way, in the order in which they were sent.
-use Rattle.std.specs.Prelude.{◌≡◌, ◌<◌, ◌≤◌, ◌+◌, ◌++◌, ◌^◌, ◌&&◌, ℕ, Bool, false, List, [], ◌∷◌, Option, Some, None, if◌then◌else◌, ◌==◌, length, map, filter, flat_map, count_by, slice_index_or, slice_set}
-use Rattle.std.specs.List.{range_with_len, filter_map, remove}
-use Rattle.lt_modes.specs.State.{Letter}
-use Rattle.lt_modes.specs.Made.{Post}
+use Rattle.std.specs.Prelude.{◌≡◌, ◌<◌, ◌≤◌, ◌+◌, ◌++◌, ◌^◌, ◌&&◌, ℕ, Bool, false, List, [], ◌∷◌, Option, Some, None, if◌then◌else◌, ◌==◌, length, map, filter, flat_map, count_by, slice_index_or, slice_set, filter_map, remove}
+use Rattle.std.specs.List.{range_with_len}
+use Rattle.lt_modes.specs.State.{Letter, Post}
 use Rattle.lt_spec.specs.World.{is_some_letter, letter_for}
 use Rattle.lt_spec.specs.FixedOrder.{Turn, take_turn}
 

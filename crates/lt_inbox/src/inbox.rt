@@ -26,7 +26,7 @@ impl Model for Inbox {
 
 impl Inbox {
     /// An inbox without letters, for so many senders.
-    #[tactic(auto, using(crate::proofs::Senders::none_from, crate::proofs::Senders::none_counted))]
+    #[tactic(auto, using(crate::proofs::TakeOrder::none_from, crate::proofs::TakeOrder::none_counted))]
     pub(crate) fn new(alloc: Global, nodes: u8) -> Result<Inbox, AllocError>
         ensures count { IfOk result (λ inbox. length inbox ≡ nodes) }
         ensures empty { IfOk result (λ inbox. (p : ℕ) → has_from inbox p ≡ false) }
@@ -71,7 +71,7 @@ impl Inbox {
     }
 
     /// Letters of this sender are on their way.
-    #[tactic(auto, using(crate::proofs::Senders::fewer_senders))]
+    #[tactic(auto, using(crate::proofs::TakeOrder::fewer_senders))]
     pub(crate) fn mark(&mut self, sender: u8)
         requires { sender < length self.old }
         ensures { self.new ≡ slice_set self.old sender true }
@@ -97,7 +97,7 @@ impl Inbox {
 }
 
 // The sender at place `k` of those that have letters.
-#[tactic(auto, using(crate::proofs::Senders::filter_skips, crate::proofs::Senders::filter_keeps))]
+#[tactic(auto, using(crate::proofs::TakeOrder::filter_skips, crate::proofs::TakeOrder::filter_keeps))]
 fn sender_at(has: &[bool], k: u32) -> Option<u8>
     requires { length has.now < 2 ^ 8 }
     ensures { result ≡ slice_get (senders_in has.now) k }

@@ -1,5 +1,5 @@
 ghost use Rattle.std.specs.Prelude.{◌≡◌, ◌<◌, ◌≤◌, ◌+◌, ◌-◌, ◌^◌, ℕ, [], ◌∷◌, ◌++◌, All, false, length, slice_get, option_map, IfOk, IsOk, OnOk};
-ghost use Rattle.lt_modes.specs.Made as rules;
+ghost use Rattle.lt_modes.specs.State as rules;
 ghost use Rattle.lt_desk.specs.LetterSeen.{letter_seen};
 ghost use Rattle.lt_spec.specs.World.{is_some_letter};
 ghost use Rattle.lt_inbox.specs.Mail.{SameLetters, AreDelivered, IsTaken, senders_to, has_between, mail_in, sent_of, takes_in};

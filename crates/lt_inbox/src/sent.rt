@@ -51,7 +51,7 @@ impl Sent {
 }
 
 // The place of the oldest letter from the sender to the receiver.
-#[tactic(auto, using(crate::proofs::First::first_at, crate::proofs::First::none_more))]
+#[tactic(auto, using(crate::proofs::Marks::first_at, crate::proofs::Marks::none_more))]
 fn first_between(sent: &VecDeque<Sent>, sender: u8, receiver: u8) -> Option<usize>
     ensures first { IfSome result (IsOldest sender receiver sent.now.items) }
     ensures none { IfNone result (letters_between sender receiver sent.now.items ≡ []) }

@@ -1,7 +1,3 @@
-pub mod Source
-pub mod Sink
+pub mod Streams
 pub mod Memory
-pub mod FaultCounts
 pub mod Texts
-pub mod Reading
-pub mod Whole

@@ -2,8 +2,7 @@
 use Rattle.std.specs.Prelude.{◌≡◌, ◌<◌, ◌⊎◌, ◌+◌, ℕ, Option, Some, Contains, min, drop, vec_len, vec_capacity}
 use Rattle.lt_io.specs.declared.memory.MemorySource.{MemorySource}
 use Rattle.lt_io.specs.declared.memory.MemorySink.{MemorySink}
-use Rattle.lt_io.specs.Source.{SourceState}
-use Rattle.lt_io.specs.Sink.{Pace}
+use Rattle.lt_io.specs.Streams.{SourceState, Pace}
 
 -- what a source in memory tells of itself
 abbrev pub source_state : MemorySource → SourceState

@@ -1,10 +1,8 @@
 ghost use Rattle.std.specs.Prelude.{◌≡◌, ◌-◌, ◌↔◌, Some, min, length, IsTrue, IsFalse, IsErr, IfOk, Contains};
 ghost use Rattle.std.specs.Io.{ReadsAtMost};
 ghost use Rattle.std.specs.Io.KnownBytes.{ReadConsumes, WriteAppends};
-ghost use Rattle.lt_io.specs.FaultCounts.{count_after, HasCause};
+ghost use Rattle.lt_io.specs.Streams.{count_after, HasCause, Ends, Gives, TakesSome, KeepsPace};
 ghost use Rattle.lt_io.specs.Memory.{StopsWrite, RefusesWrite};
-ghost use Rattle.lt_io.specs.Source.{Ends, Gives};
-ghost use Rattle.lt_io.specs.Sink.{TakesSome, KeepsPace};
 
 use crate::sink::Sink;
 use crate::source::{Failed, Source, ends_after};

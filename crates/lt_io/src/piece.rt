@@ -1,6 +1,6 @@
 ghost use Rattle.std.specs.Prelude.{◌≡◌, ◌≢◌, ◌<◌, ◌≤◌, ℕ, List, [], length, take, IfOk, IfErr, OnOk};
 ghost use Rattle.lt_io.specs.declared.whole.ReadFailure.TheVariants as failure;
-ghost use Rattle.lt_io.specs.Reading.{ReadsOn, ReadsOut, FailsBy};
+ghost use Rattle.lt_io.specs.Streams.{ReadsOn, ReadsOut, FailsBy};
 
 use crate::source::Source;
 use crate::whole::ReadFailure;

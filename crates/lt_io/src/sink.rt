@@ -1,7 +1,6 @@
 ghost use Rattle.std.specs.Prelude.{ℕ, List, Option, None};
 ghost use Rattle.std.specs.Io.KnownBytes.{WriteAppends};
-ghost use Rattle.lt_io.specs.FaultCounts.{HasCause};
-ghost use Rattle.lt_io.specs.Sink.{TakesSome, Pace, KeepsPace};
+ghost use Rattle.lt_io.specs.Streams.{HasCause, TakesSome, Pace, KeepsPace};
 
 use crate::source::Failed;
 

@@ -1,8 +1,7 @@
 ghost use Rattle.std.specs.Prelude.{length};
 ghost use Rattle.std.specs.Io.{ReadsAtMost};
 ghost use Rattle.std.specs.Io.KnownBytes.{ReadConsumes};
-ghost use Rattle.lt_io.specs.FaultCounts.{HasCause};
-ghost use Rattle.lt_io.specs.Source.{SourceState, CountsEnd, Ends, Gives};
+ghost use Rattle.lt_io.specs.Streams.{HasCause, SourceState, CountsEnd, Ends, Gives};
 
 use std::error::Error;
 use std::fmt;

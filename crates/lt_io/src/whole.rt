@@ -1,9 +1,7 @@
 ghost use Rattle.std.specs.Prelude.{◌≡◌, ◌≤◌, length, vec_len, IfOk, IfErr, OnOk, OnErr};
 ghost use Rattle.std.specs.Io.KnownBytes.{Appends};
 ghost use Rattle.lt_io.specs.declared.whole.ReadFailure.TheVariants as failure;
-ghost use Rattle.lt_io.specs.FaultCounts.{Rose, HasCause};
-ghost use Rattle.lt_io.specs.Reading.{ReadsOut, FailsBy};
-ghost use Rattle.lt_io.specs.Sink.{AppendsPart, WritesByFewest, StopsByFewest};
+ghost use Rattle.lt_io.specs.Streams.{Rose, HasCause, ReadsOut, FailsBy, AppendsPart, WritesByFewest, StopsByFewest};
 
 use crate::piece::{MAX_PIECE, read_piece};
 use crate::sink::Sink;

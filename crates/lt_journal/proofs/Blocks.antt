@@ -1,6 +1,5 @@
 -- Words at the front of a block.
-use Rattle.std.proofs.Common.{◌≡◌, ◌∙◌, ℕ, ◌+◌, ◌<◌, List, [], ◌∷◌, ◌++◌, ap, sym, take, length}
-use Rattle.std.specs.Prelude.{slice_set}
+use Rattle.std.proofs.Common.{◌≡◌, ◌∙◌, ℕ, ◌+◌, ◌<◌, List, [], ◌∷◌, ◌++◌, ap, sym, take, length, slice_set}
 use Rattle.std.proofs.lemmas.List.{take-set, take_more_set}
 use Rattle.std.proofs.Math.Seq.{take-append-add}
 

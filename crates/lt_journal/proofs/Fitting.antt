@@ -1,21 +1,62 @@
--- Where the moves of a run fit, so do all its lines.
-use Rattle.std.proofs.Common.{ℕ, zero, suc, ◌<◌, ◌==◌, cond, true, false, List, [], ◌∷◌, ◌++◌, length, fold, Bool, Option, Some, None, arith}
-use Rattle.std.specs.Prelude.{if◌then◌else◌}
-use Rattle.std.specs.List.{AllByRecursion, flat_map}
+-- What a script must be like, and the moves of a run, so that their lines can be written and read back.
+use Rattle.std.proofs.Common.{◌≡◌, ◌<◌, ◌^◌, ◌==◌, ◌||◌, not, true, List, ℕ, Bool, Option, Some, length, if◌then◌else◌, flat_map, zero, suc, cond, false, [], ◌∷◌, ◌++◌, fold, None, arith, ◌+◌, take, get_or, refl, sym, ap, ◌∙◌, append_assoc}
+use Rattle.std.specs.List.{AllByRecursion, list_all}
 use Rattle.std.proofs.lemmas.List.Sums.{count_by-le-length}
+use Rattle.std.proofs.lemmas.List.{take_more}
+use Rattle.std.proofs.lemmas.List.Concat.{flat_map-append}
+use Rattle.lt_modes.specs.declared.moves.Move.{Move}
+use Rattle.lt_modes.specs.Script.{ScriptData, set_name, client_name}
 use Rattle.lt_modes.specs.declared.mode.Mode.{Mode}
 use Rattle.lt_modes.specs.declared.event.Event.{Event}
 use Rattle.lt_modes.specs.declared.event.Event.TheVariants.{Grant, Wait, Try, Unlock, NotHeld, Change, DropAll, Busy, Copy, Freeze, Token}
-use Rattle.lt_modes.specs.Script.{ScriptData}
-use Rattle.lt_spec.specs.Log.{Logged}
 use Rattle.lt_modes.specs.declared.parts.Link.{Link}
-use Rattle.lt_spec.specs.Holdings.{Holding, holding, holdings, same_holding, times_held, wanted, wanted_after, owner_of, owner_after, lines_of}
-use Rattle.lt_journal.specs.declared.line.Line.{Line}
-use Rattle.lt_journal.specs.declared.line.Line.TheVariants.{Version, Held}
 use Rattle.lt_modes.specs.Modes.{modes_in_order}
-use Rattle.lt_journal.specs.RunLines.{shown_event, event_lines, first_lines, entry_lines, moves_lines, lines_below, held_line, held_in_mode, held_in_set, held_by, held_lines, waiting_line, waiting_lines, owner_line, owner_lines, closing_lines, run_lines}
-use Rattle.lt_journal.specs.LineFits.{HasNode, HasSet, HasClient, IsNumber, FitsEvent, FitsLine}
-use Rattle.lt_journal.proofs.Conditions.{FitsEntry, FitsRun}
+use Rattle.lt_spec.specs.World.{Logged}
+use Rattle.lt_spec.specs.Holdings.{holdings, lines_of, Holding, holding, same_holding, times_held, wanted, wanted_after, owner_of, owner_after}
+use Rattle.lt_spec.specs.Script.{set_number, client_number}
+use Rattle.lt_merge.specs.Merging.{made_at, events_at}
+use Rattle.lt_journal.specs.LineFits.{IsNumber, HasNode, FitsStep, FitsEvent, FitsCut, HasSet, HasClient, FitsLine}
+use Rattle.lt_journal.specs.declared.line.Line.{Line}
+use Rattle.lt_journal.specs.declared.line.Line.TheVariants.{Version, Held, Move as MoveLine}
+use Rattle.lt_journal.specs.RunLines.{shown_event, event_lines, first_lines, entry_lines, moves_lines, lines_below, held_line, held_in_mode, held_in_set, held_by, held_lines, waiting_line, waiting_lines, owner_line, owner_lines, closing_lines, run_lines, line_text, lines_text}
+
+-- no space, line feed or carriage return
+abbrev pub is_plain_byte : ℕ → Bool
+is_plain_byte byte = not (byte == 32 || byte == 10 || byte == 13)
+
+-- the word can stand in a line
+abbrev pub is_plain : List ℕ → Bool
+is_plain word = list_all is_plain_byte word
+
+-- each name can stand in a line, and is that of this one set or client
+pub record IsNamed (script : ScriptData) : Type 0 where
+  pub plain_sets : (set : ℕ) → set < length script.sets → is_plain (set_name script set) ≡ true
+  pub sets_apart : (set : ℕ) → set < length script.sets → set_number script (set_name script set) ≡ Some set
+  pub plain_clients : (client : ℕ) → client < length script.clients → is_plain (client_name script client) ≡ true
+  pub clients_apart : (client : ℕ) → client < length script.clients → client_number script (client_name script client) ≡ Some client
+
+-- nodes have numbers of a line
+abbrev pub FewNodes : ScriptData → Type 0
+FewNodes script = script.nodes < 2 ^ 32
+
+-- what the move names is of the script, and its clock is a number of a line
+abbrev pub FitsMove : ScriptData → Move → Type 0
+FitsMove script made = IsNumber made.stamp.clock × HasNode script made.stamp.node × FitsStep script made.step
+
+-- the move fits, and so do its events
+abbrev pub FitsEntry : ScriptData → Logged → Type 0
+FitsEntry script entry = FitsMove script entry.made × AllByRecursion (FitsEvent script) entry.events
+
+-- all that the run's text names is of the script, and its numbers are those of a line
+pub record FitsRun (script : ScriptData) (entries : List Logged) (cut : Option ℕ) : Type 0 where
+  pub some_node : 0 < script.nodes
+  pub few_nodes : FewNodes script
+  pub moves : AllByRecursion (FitsEntry script) entries
+  pub few_moves : IsNumber (length entries)
+  pub few_locks : IsNumber (length (holdings script (lines_of entries)))
+  pub cut_node : FitsCut script cut
+
+-- Where the moves of a run fit, so do all its lines.
 
 append_fits : {X : Type 0} (P : X → Type 0) (xs ys : List X) → AllByRecursion P xs → AllByRecursion P ys → AllByRecursion P (xs ++ ys)
 append_fits P [] ys f g = g
@@ -151,3 +192,51 @@ pub lines_fit : (script : ScriptData) (entries : List Logged) (cut : Option ℕ)
 lines_fit script entries cut run =
     append_fits (FitsLine script) (first_lines script.version) (moves_lines script.version entries ++ closing_lines script entries cut) (first_fits script script.version)
     (append_fits (FitsLine script) (moves_lines script.version entries) (closing_lines script entries cut) (entries_fit script script.version entries run.moves) (closing_fits script entries cut run))
+
+-- What one turn of a loop adds to a text, and to the moves and events done so far.
+
+append_nil : {X : Type 0} (xs : List X) → xs ++ [] ≡ xs
+append_nil [] = refl
+append_nil {X} (x ∷ xs) = ap (λ (ys : List X). x ∷ ys) (append_nil xs)
+
+-- a piece after what was there so far
+pub list_more : {X : Type 0} (old before now done piece more : List X) → now ≡ before ++ piece → before ≡ old ++ done → done ++ piece ≡ more → now ≡ old ++ more
+list_more {X} old before now done piece more e f g =
+    e ∙ (ap (λ (t : List X). t ++ piece) f ∙ (append_assoc old done piece ∙ ap (λ (t : List X). old ++ t) g))
+
+-- the lines of these numbers, and of the next
+pub lines_below-next : (n : ℕ) (lines : ℕ → List Line) → lines_below n lines ++ lines n ≡ lines_below (n + 1) lines
+lines_below-next n lines =
+    let one : suc n ≡ n + 1 = omega arith in
+    ap (λ (k : ℕ). lines_below k lines) one
+
+pub flat_map-more : {X A : Type 0} (f : X → List A) (xs : List X) (i : ℕ) (d : X) → i < length xs → flat_map f (take i xs) ++ f (get_or xs i d) ≡ flat_map f (take (i + 1) xs)
+flat_map-more {X} {A} f xs i d h =
+    sym (ap (λ (ys : List X). flat_map f ys) (take_more xs i d h)
+    ∙ (flat_map-append f (take i xs) (get_or xs i d ∷ [])
+    ∙ ap (λ (ys : List A). flat_map f (take i xs) ++ ys) (append_nil (f (get_or xs i d)))))
+
+-- the moves up to this one
+take_entry : (entries : List Logged) (k : ℕ) (made : Move) (events : List Event) → made_at entries k ≡ Some made → events_at entries k ≡ Some events → take (suc k) entries ≡ take k entries ++ record { made = made; events = events } ∷ []
+take_entry [] k made events e f = cc
+take_entry (entry ∷ later) zero made events e f =
+    let same_made : entry.made ≡ made = cc in
+    let same_events : entry.events ≡ events = cc in
+    λ i. record { made = same_made i; events = same_events i } ∷ []
+take_entry (entry ∷ later) (suc k) made events e f =
+    ap (λ (es : List Logged). entry ∷ es) (take_entry later k made events e f)
+
+take_entry_more : (entries : List Logged) (k : ℕ) (made : Move) (events : List Event) → made_at entries k ≡ Some made → events_at entries k ≡ Some events → take (k + 1) entries ≡ take k entries ++ record { made = made; events = events } ∷ []
+take_entry_more entries k made events e f =
+    let one : k + 1 ≡ suc k = omega arith in
+    ap (λ (n : ℕ). take n entries) one ∙ take_entry entries k made events e f
+
+-- the text of the moves up to this one, and of this one with its events
+pub moves_text-more : (script : ScriptData) (entries : List Logged) (k : ℕ) (made : Move) (events : List Event) → made_at entries k ≡ Some made → events_at entries k ≡ Some events
+    → lines_text script (moves_lines script.version (take k entries)) ++ (line_text script (MoveLine made.stamp.clock made.stamp.node made.step) ++ lines_text script (event_lines script.version events)) ≡ lines_text script (moves_lines script.version (take (k + 1) entries))
+moves_text-more script entries k made events e f =
+    let entry : Logged = record { made = made; events = events } in
+    sym (ap (λ (es : List Logged). lines_text script (moves_lines script.version es)) (take_entry_more entries k made events e f)
+    ∙ (ap (λ (ls : List Line). lines_text script ls) (flat_map-append (entry_lines script.version) (take k entries) (entry ∷ []))
+    ∙ (flat_map-append (line_text script) (moves_lines script.version (take k entries)) (moves_lines script.version (entry ∷ []))
+    ∙ ap (λ (ls : List Line). lines_text script (moves_lines script.version (take k entries)) ++ lines_text script ls) (append_nil (entry_lines script.version entry)))))

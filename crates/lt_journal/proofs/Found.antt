@@ -1,23 +1,19 @@
 -- A line that is not bad is spelled as what it says.
-use Rattle.lt_journal.proofs.FoundWords.{same_word, IsSpelled, by_word, number_found, client_found, set_found, node_found, mode_found, bool_found}
-use Rattle.std.proofs.Common.{◌≡◌, ℕ, cond, Bool, true, false, List, [], ◌∷◌, map, fold, codes, Option, Some, None, refl, sym, ap, ◌∙◌, inl, inr, rules}
-use Rattle.std.specs.Prelude.{if◌then◌else◌}
-use Rattle.std.specs.Option.{option_map}
-use Rattle.std.specs.Str.{bytes_eq}
+use Rattle.lt_journal.proofs.Written.{same_word, IsSpelled, by_word, number_found, client_found, set_found, node_found, mode_found, bool_found}
+use Rattle.std.proofs.Common.{◌≡◌, ℕ, cond, Bool, true, false, List, [], ◌∷◌, map, fold, codes, Option, Some, None, refl, sym, ap, ◌∙◌, inl, inr, rules, if◌then◌else◌, option_map, bytes_eq}
 use Rattle.std.proofs.lemmas.Bool.{cases_Bool}
 use Rattle.lt_modes.specs.declared.mode.Mode.{Mode}
 use Rattle.lt_modes.specs.declared.moves.Step.{Step}
 use Rattle.lt_modes.specs.declared.moves.Step.TheVariants.{Act, Take}
 use Rattle.lt_modes.specs.Modes.{Modes, no_modes, with_mode, word_of, mode_of, modes_in_order}
 use Rattle.lt_modes.specs.Script.{ScriptData, set_name, client_name}
-use Rattle.lt_journal.specs.Words.{step_words, words_of_modes}
+use Rattle.lt_journal.specs.RunLines.{step_words, words_of_modes, IsAsWritten}
 use Rattle.lt_text.specs.Number.{exact_number}
 use Rattle.lt_spec.specs.Script.{set_number, client_number}
 use Rattle.lt_journal.specs.declared.line.Line.{Line}
 use Rattle.lt_journal.specs.declared.line.Line.TheVariants.{Version, Waiting, Bad}
 use Rattle.lt_spec.specs.Holdings.{Holding}
 use Rattle.lt_journal.specs.Grammar.{line_of, read_line, line_of_two, line_of_four, line_of_five, line_of_many, line_of_freeze, lock_line, lock_and_line, node_of, step_said, lock_of, lock_by, bool_of, modes_of, with_words, says_none, end_line, version_line, cut_line, busy_line, token_line, owner_line, move_line, drop_line, copy_line, try_line, change_line, held_line, freeze_line}
-use Rattle.lt_journal.specs.Text.{IsAsWritten}
 use Rattle.lt_journal.proofs.Spelled.{has_words, Both, both}
 use Rattle.lt_text.specs.Text.{fields, spaced}
 use Rattle.lt_text.proofs.TextLemmas.{spaced_fields}

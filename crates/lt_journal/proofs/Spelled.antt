@@ -1,7 +1,5 @@
 -- What is spelled of a line is read as this line.
-use Rattle.std.proofs.Common.{◌≡◌, ℕ, Bool, true, false, List, [], ◌∷◌, codes, Some, refl, ◌∙◌, arith, rules}
-use Rattle.std.specs.Fmt.{decimal}
-use Rattle.std.proofs.lemmas.Bool.{lt-ltb}
+use Rattle.std.proofs.Common.{◌≡◌, ℕ, Bool, true, false, List, [], ◌∷◌, codes, Some, refl, ◌∙◌, arith, rules, decimal, lt-ltb}
 use Rattle.lt_modes.specs.declared.mode.Mode.{Mode}
 use Rattle.lt_modes.specs.declared.moves.Step.{Step}
 use Rattle.lt_modes.specs.declared.moves.Step.TheVariants.{Act, Take}
@@ -9,14 +7,14 @@ use Rattle.lt_modes.specs.declared.event.Event.{Event}
 use Rattle.lt_modes.specs.declared.event.Event.TheVariants.{Grant, Wait, Try, Unlock, NotHeld, Change, DropAll, Busy, Copy, Freeze, Token}
 use Rattle.lt_modes.specs.Modes.{Modes, word_of, has}
 use Rattle.lt_modes.specs.Script.{ScriptData, set_name, client_name}
-use Rattle.lt_modes.proofs.EachMode.{mode_of_word}
-use Rattle.lt_journal.specs.Words.{event_words, words_of_modes, word_of_bool, line_words}
+use Rattle.lt_modes.proofs.ModeAlgebra.{mode_of_word}
+use Rattle.lt_journal.specs.RunLines.{event_words, words_of_modes, word_of_bool, line_words}
 use Rattle.lt_text.proofs.NumberLemmas.{exact_number_decimal}
 use Rattle.lt_journal.specs.declared.line.Line.{Line}
 use Rattle.lt_journal.specs.declared.line.Line.TheVariants.{Version, Move as MoveLine, Event as EventLine, Held, Waiting, Owner, End, Cut, Bad}
 use Rattle.lt_journal.specs.Grammar.{line_of, node_of, lock_of, modes_of, bool_of, line_of_freeze}
 use Rattle.lt_journal.specs.LineFits.{IsNumber, HasSet, HasClient, HasNode, FitsStep, FitsEvent, FitsLine}
-use Rattle.lt_journal.proofs.Conditions.{IsNamed, FewNodes}
+use Rattle.lt_journal.proofs.Fitting.{IsNamed, FewNodes}
 
 bool_of_word : (got : Bool) → bool_of (word_of_bool got) ≡ Some got
 bool_of_word true = refl

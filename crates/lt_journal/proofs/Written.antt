@@ -1,25 +1,156 @@
--- The text of lines is read as these lines.
-use Rattle.std.proofs.Common.{◌≡◌, ℕ, ◌<◌, cond, Bool, true, false, List, [], ◌∷◌, length, map, codes, refl, sym, ap, subst, ◌∙◌, arith, filter}
-use Rattle.std.specs.List.{AllByRecursion}
-use Rattle.std.specs.Fmt.{decimal}
+-- Words that are read are spelled as they stand.
+use Rattle.std.proofs.Common.{◌≡◌, ℕ, ◌^◌, ◌&&◌, ◌⊎◌, cond, not, Bool, true, false, List, [], length, nat_lt, nat_le, get_or, Option, Some, None, sym, ap, ◌∙◌, inl, inr, arith, ◌∷◌, ◌++◌, map, filter, codes, refl, subst, ◌<◌, decimal, bytes_eq, leb-true, ltb-true, ne_eqb, flat_map}
+use Rattle.std.specs.Str.Parse.{digits_value}
+use Rattle.std.proofs.lemmas.Bool.{cases_Bool, not-true, and_parts}
+use Rattle.std.proofs.lemmas.List.Quantifiers.{position-Some}
+use Rattle.std.proofs.lemmas.Option.{slice_get-get_or}
+use Rattle.std.proofs.lemmas.Slice.Eq.{bytes_eq-Decides}
+use Rattle.std.specs.List.{list_all, AllByRecursion}
 use Rattle.lt_modes.specs.declared.mode.Mode.{Mode}
+use Rattle.lt_modes.specs.declared.mode.Mode.TheVariants.{IntentionRead, Read, Upgrade, IntentionWrite, ReadIntentionWrite, Write}
+use Rattle.lt_modes.specs.Modes.{word_of, mode_of, Modes, has, has_none, modes_in_order}
+use Rattle.lt_modes.specs.Script.{ScriptData, SetData, ClientData, set_name, client_name, name_of_set, name_of_client}
 use Rattle.lt_modes.specs.declared.moves.Step.{Step}
 use Rattle.lt_modes.specs.declared.moves.Step.TheVariants.{Act, Take}
 use Rattle.lt_modes.specs.declared.event.Event.{Event}
 use Rattle.lt_modes.specs.declared.event.Event.TheVariants.{Grant, Wait, Try, Unlock, NotHeld, Change, DropAll, Busy, Copy, Freeze, Token}
-use Rattle.lt_modes.specs.Modes.{Modes, word_of, has, has_none, modes_in_order}
-use Rattle.lt_modes.specs.Script.{ScriptData, set_name, client_name}
-use Rattle.lt_modes.proofs.EachMode.{each_mode}
-use Rattle.lt_journal.specs.Words.{step_words, event_words, words_of_modes, word_of_bool, line_words}
-use Rattle.lt_journal.specs.Text.{lines_text}
-use Rattle.lt_text.specs.Text.{lines, cut_at, fields, spaced}
+use Rattle.lt_modes.proofs.ModeAlgebra.{each_mode}
+use Rattle.lt_spec.specs.Script.{set_number, client_number, is_name, is_name_byte, IsScript}
+use Rattle.lt_text.specs.Number.{exact_number, is_numeral, has_leading_zero, are_digits}
+use Rattle.lt_text.proofs.NumberLemmas.{decimal_value}
+use Rattle.lt_text.specs.Text.{after_space, lines, cut_at, fields, spaced}
+use Rattle.lt_journal.specs.RunLines.{word_of_bool, line_words, words_of_modes, member_words, step_words, event_words, lines_text}
 use Rattle.lt_journal.specs.declared.line.Line.{Line}
-use Rattle.lt_journal.specs.declared.line.Line.TheVariants.{Version, Move as MoveLine, Event as EventLine, Held, Waiting, Owner, End, Cut, Bad}
-use Rattle.lt_journal.specs.Grammar.{line_of, read_line, journal_of}
+use Rattle.lt_journal.specs.declared.line.Line.TheVariants.{Bad, Version, Move as MoveLine, Event as EventLine, Held, Waiting, Owner, End, Cut}
+use Rattle.lt_journal.specs.Grammar.{node_of, below, bool_of, line_of, read_line, journal_of}
+use Rattle.lt_journal.proofs.Fitting.{is_plain_byte, is_plain, IsNamed, FewNodes}
 use Rattle.lt_journal.specs.LineFits.{IsNumber, FitsStep, FitsEvent, FitsLine}
-use Rattle.lt_journal.proofs.Conditions.{IsNamed, FewNodes, is_plain}
 use Rattle.lt_journal.proofs.Plain.{IsPlain, ArePlain, plain, plain_decimal, lines_line, fields_line}
 use Rattle.lt_journal.proofs.Spelled.{line_read}
+
+pub same_word : (word other : List ℕ) → bytes_eq word other ≡ true → word ≡ other
+same_word word other e = (bytes_eq-Decides word other).0 e
+
+-- the line is bad, or its words are these
+abbrev pub IsSpelled : ScriptData → List (List ℕ) → Line → Type 0
+IsSpelled script words x = (x ≡ Bad) ⊎ (line_words script x ≡ words)
+
+pub by_word : (P : Line → Type 0) (word other : List ℕ) (x y : Line) → (word ≡ other → P x) → P y → P (cond (bytes_eq word other) x y)
+by_word P word other x y f g = elim (cases_Bool (bytes_eq word other)) [
+  | inl e ↦ rw e (f (same_word word other e))
+  | inr e ↦ rw e g
+]
+
+pub number_found : (word : List ℕ) (n : ℕ) → exact_number word ≡ Some n → decimal n ≡ word
+number_found word n e = elim (cases_Bool (is_numeral word 10 && not (has_leading_zero word) && nat_lt (digits_value 10 word) (2 ^ 32))) [
+  | inl is ↦
+      let value : digits_value 10 word ≡ n = let h = rw is at e in cc in
+      let outer = and_parts (is_numeral word 10 && not (has_leading_zero word)) (nat_lt (digits_value 10 word) (2 ^ 32)) is in
+      let numeral = and_parts (is_numeral word 10) (not (has_leading_zero word)) outer.0 in
+      let parts = and_parts (nat_lt 0 (length word) && nat_le (length word) 10) (are_digits word) numeral.0 in
+      let sizes = and_parts (nat_lt 0 (length word)) (nat_le (length word) 10) parts.0 in
+      let some = ltb-true 0 (length word) sizes.0 in
+      sym (decimal_value word (ne_eqb (length word) 0 (λ h. omega (arith, h, some))) (leb-true (length word) 10 sizes.1) parts.1 (not-true (has_leading_zero word) numeral.1)
+      ∙ ap decimal value)
+  | inr other ↦ absurd (let h = rw other at e in cc)
+]
+
+pub client_found : (script : ScriptData) (word : List ℕ) (k : ℕ) → client_number script word ≡ Some k → client_name script k ≡ word
+client_found script word k e =
+    let none : ClientData = record { name = []; node = 0 } in
+    let found = position-Some (λ (x : ClientData). bytes_eq x.name word) script.clients k none e in
+    ap name_of_client (slice_get-get_or script.clients k none found.0) ∙ same_word (get_or script.clients k none).name word found.1
+
+pub set_found : (script : ScriptData) (word : List ℕ) (k : ℕ) → set_number script word ≡ Some k → set_name script k ≡ word
+set_found script word k e =
+    let none : SetData = record { name = []; family = 0 } in
+    let found = position-Some (λ (x : SetData). bytes_eq x.name word) script.sets k none e in
+    ap name_of_set (slice_get-get_or script.sets k none found.0) ∙ same_word (get_or script.sets k none).name word found.1
+
+pub node_found : (script : ScriptData) (word : List ℕ) (k : ℕ) → node_of script word ≡ Some k → decimal k ≡ word
+node_found script word k e = number_found word k (from (exact_number word) e)
+  where
+    from : (o : Option ℕ) → below script.nodes o ≡ Some k → o ≡ Some k
+    from None h = absurd (cc)
+    from (Some n) h = elim (cases_Bool (nat_lt n script.nodes)) [
+      | inl same ↦ let g = rw same at h in g
+      | inr other ↦ absurd (let g = rw other at h in cc)
+    ]
+
+pub mode_found : (word : List ℕ) (mode : Mode) → mode_of word ≡ Some mode → word_of mode ≡ word
+mode_found word mode e =
+    pick IntentionRead _ (pick Read _ (pick Upgrade _ (pick IntentionWrite _ (pick ReadIntentionWrite _ (pick Write None (λ h. absurd (cc))))))) e
+  where
+    pick : (m : Mode) (later : Option Mode) → (later ≡ Some mode → word_of mode ≡ word) → cond (bytes_eq word (word_of m)) (Some m) later ≡ Some mode → word_of mode ≡ word
+    pick m later f h = elim (cases_Bool (bytes_eq word (word_of m))) [
+      | inl same ↦ let g : m ≡ mode = let k = rw same at h in cc in sym (ap word_of g) ∙ sym (same_word word (word_of m) same)
+      | inr other ↦ f (let g = rw other at h in g)
+    ]
+
+pub bool_found : (word : List ℕ) (got : Bool) → bool_of word ≡ Some got → word_of_bool got ≡ word
+bool_found word got e =
+    pick true _ (pick false None (λ h. absurd (cc))) e
+  where
+    pick : (b : Bool) (later : Option Bool) → (later ≡ Some got → word_of_bool got ≡ word) → cond (bytes_eq word (word_of_bool b)) (Some b) later ≡ Some got → word_of_bool got ≡ word
+    pick b later f h = elim (cases_Bool (bytes_eq word (word_of_bool b))) [
+      | inl same ↦ let g : b ≡ got = let k = rw same at h in cc in sym (ap word_of_bool g) ∙ sym (same_word word (word_of_bool b) same)
+      | inr other ↦ f (let g = rw other at h in g)
+    ]
+
+-- The words of a set of modes, one mode after the other.
+
+kept_words : (modes : Modes) (ms : List Mode)
+    → flat_map after_space (map word_of (filter (λ mode. has mode modes) ms)) ≡ flat_map (member_words modes) ms
+kept_words modes [] = refl
+kept_words modes (m ∷ ms) = by_test (has m modes) (kept_words modes ms)
+  where
+    rest : List Mode
+    rest = filter (λ mode. has mode modes) ms
+
+    by_test : (t : Bool) → flat_map after_space (map word_of rest) ≡ flat_map (member_words modes) ms
+        → flat_map after_space (map word_of (cond t (m ∷ rest) rest)) ≡ cond t (after_space (word_of m)) [] ++ flat_map (member_words modes) ms
+    by_test true later = ap (λ (t : List ℕ). after_space (word_of m) ++ t) later
+    by_test false later = later
+
+pub words_kept : (modes : Modes) → has_none modes ≡ false → flat_map after_space (words_of_modes modes) ≡ flat_map (member_words modes) modes_in_order
+words_kept modes some =
+    ap (λ (b : Bool). flat_map after_space (cond b (codes "none" ∷ []) (map word_of (filter (λ mode. has mode modes) modes_in_order)))) some
+    ∙ kept_words modes modes_in_order
+
+-- The names of a script can stand in a line, and each is found as its own.
+
+no_name_byte : {A : Type 0} (byte other : ℕ) → is_name_byte byte ≡ true → byte ≡ other → (is_name_byte other ≡ true → A) → A
+no_name_byte byte other named e none = none (subst (λ (b : ℕ). is_name_byte b ≡ true) e named)
+
+plain_name_byte : (byte : ℕ) → is_name_byte byte ≡ true → is_plain_byte byte ≡ true
+plain_name_byte byte named =
+    rw (
+      ne_eqb byte 32 (λ e. no_name_byte byte 32 named e (λ h. cc)),
+      ne_eqb byte 10 (λ e. no_name_byte byte 10 named e (λ h. cc)),
+      ne_eqb byte 13 (λ e. no_name_byte byte 13 named e (λ h. cc)),
+    ) refl
+
+plain_bytes : (word : List ℕ) → list_all is_name_byte word ≡ true → is_plain word ≡ true
+plain_bytes [] named = refl
+plain_bytes (byte ∷ word) named =
+    let parts = and_parts (is_name_byte byte) (list_all is_name_byte word) named in
+    rw (plain_name_byte byte parts.0, plain_bytes word parts.1) refl
+
+plain_name : (word : List ℕ) → is_name word ≡ true → is_plain word ≡ true
+plain_name word named = plain_bytes word (and_parts _ _ (and_parts _ _ named).0).1
+
+pub named : (script : ScriptData) → IsScript script → IsNamed script
+named script is_script = record {
+  plain_sets = λ set inside. plain_name (set_name script set) (is_script.sets_named set inside);
+  sets_apart = is_script.sets_found;
+  plain_clients = λ client inside. plain_name (client_name script client) (is_script.clients_named client inside);
+  clients_apart = is_script.clients_found;
+}
+
+pub few_nodes : (script : ScriptData) → IsScript script → FewNodes script
+few_nodes script is_script = omega (arith, is_script.few_nodes)
+
+-- The text of lines is read as these lines.
 
 -- a node or another small number is plain
 plain_number : (n : ℕ) → IsNumber n → IsPlain (decimal n)

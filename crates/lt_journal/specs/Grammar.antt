@@ -1,7 +1,5 @@
 -- What a line of a journal says, by its words: a line that has none of the forms is bad.
-use Rattle.std.specs.Prelude.{List, [], ◌∷◌, ℕ, map, Bool, true, false, Option, Some, None, if◌then◌else◌, codes, nat_lt}
-use Rattle.std.specs.Option.{option_map}
-use Rattle.std.specs.Str.{bytes_eq}
+use Rattle.std.specs.Prelude.{List, [], ◌∷◌, ℕ, map, Bool, true, false, Option, Some, None, if◌then◌else◌, codes, nat_lt, option_map, bytes_eq}
 use Rattle.lt_modes.specs.declared.mode.Mode.{Mode}
 use Rattle.lt_modes.specs.declared.moves.Step.{Step}
 use Rattle.lt_modes.specs.declared.moves.Step.TheVariants.{Act, Take}

@@ -1,17 +1,19 @@
 -- The lines of a run: for version 2 the line `version 2`, those of each move and its events, and then the closing lines.
-use Rattle.std.specs.Prelude.{◌==◌, List, [], ◌∷◌, ◌++◌, ℕ, zero, suc, Option, Some, None, if◌then◌else◌, length, map}
-use Rattle.std.specs.List.{flat_map}
+use Rattle.std.specs.Prelude.{◌==◌, List, [], ◌∷◌, ◌++◌, ℕ, zero, suc, Option, Some, None, if◌then◌else◌, length, map, Bool, true, false, codes, filter, ◌≡◌, ◌⊎◌, flat_map, decimal}
 use Rattle.lt_modes.specs.declared.mode.Mode.{Mode}
 use Rattle.lt_modes.specs.declared.event.Event.{Event}
-use Rattle.lt_modes.specs.declared.event.Event.TheVariants.{Freeze}
+use Rattle.lt_modes.specs.declared.event.Event.TheVariants.{Freeze, Grant, Wait, Try, Unlock, NotHeld, Change, DropAll, Busy, Copy, Token}
 use Rattle.lt_modes.specs.FiveModes.{shown_in}
 use Rattle.lt_modes.specs.declared.parts.Link.{Link}
-use Rattle.lt_modes.specs.Script.{ScriptData}
-use Rattle.lt_spec.specs.Log.{Logged}
+use Rattle.lt_modes.specs.Script.{ScriptData, set_name, client_name}
+use Rattle.lt_modes.specs.Modes.{modes_in_order, Modes, word_of, has, has_none}
+use Rattle.lt_modes.specs.declared.moves.Step.{Step}
+use Rattle.lt_modes.specs.declared.moves.Step.TheVariants.{Act, Take}
+use Rattle.lt_spec.specs.World.{Logged}
 use Rattle.lt_spec.specs.Holdings.{Holding, holding, holdings, times_held, wanted, owner_of, lines_of}
-use Rattle.lt_modes.specs.Modes.{modes_in_order}
+use Rattle.lt_text.specs.Text.{after_space, spaced}
 use Rattle.lt_journal.specs.declared.line.Line.{Line}
-use Rattle.lt_journal.specs.declared.line.Line.TheVariants.{Version, Move as MoveLine, Event as EventLine, Held, Waiting, Owner, End, Cut}
+use Rattle.lt_journal.specs.declared.line.Line.TheVariants.{Version, Move as MoveLine, Event as EventLine, Held, Waiting, Owner, End, Cut, Bad}
 
 -- the event as a journal of this version shows it: a freeze in version 1 without the sixth mode
 abbrev pub shown_event : ℕ → Event → Event
@@ -93,3 +95,101 @@ closing_lines script entries (Some node) = Cut node ∷ []
 -- the lines of a run
 abbrev pub run_lines : ScriptData → List Logged → Option ℕ → List Line
 run_lines script entries cut = first_lines script.version ++ (moves_lines script.version entries ++ closing_lines script entries cut)
+
+-- The words of each line of a journal.
+
+-- a line of these words, with its line feed
+abbrev pub line : List (List ℕ) → List ℕ
+line words = spaced words ++ 10 ∷ []
+
+-- a set of modes: their words in order, or `none`
+abbrev pub words_of_modes : Modes → List (List ℕ)
+words_of_modes modes =
+    if has_none modes then codes "none" ∷ [] else map word_of (filter (λ mode. has mode modes) modes_in_order)
+
+-- the word of the mode with the space before it, where it is in the set
+abbrev pub member_words : Modes → Mode → List ℕ
+member_words modes mode = if has mode modes then after_space (word_of mode) else []
+
+-- the words that say what a move does
+abbrev pub step_words : ScriptData → Step → List (List ℕ)
+step_words script (Act client) = codes "act" ∷ client_name script client ∷ []
+step_words script (Take from) = codes "take" ∷ decimal from ∷ []
+
+-- the words of a line that names a client, a set and a mode
+abbrev pub lock_words : ScriptData → List ℕ → ℕ → ℕ → Mode → List (List ℕ)
+lock_words script first client set mode = first ∷ client_name script client ∷ set_name script set ∷ word_of mode ∷ []
+
+-- the words of a line that names two clients and a set
+abbrev pub drop_words : ScriptData → List ℕ → ℕ → ℕ → ℕ → List (List ℕ)
+drop_words script first client other set = first ∷ client_name script client ∷ client_name script other ∷ set_name script set ∷ []
+
+-- the words of a line that names a set and the node that a letter goes to
+abbrev pub letter_words : ScriptData → List ℕ → ℕ → ℕ → List (List ℕ)
+letter_words script first set to = first ∷ set_name script set ∷ decimal to ∷ []
+
+-- the last word of a `try`
+abbrev pub word_of_bool : Bool → List ℕ
+word_of_bool true = codes "true"
+word_of_bool false = codes "false"
+
+-- the words of an event's line
+abbrev pub event_words : ScriptData → Event → List (List ℕ)
+event_words script (Grant client set mode) = lock_words script (codes "grant") client set mode
+event_words script (Wait client set mode) = lock_words script (codes "wait") client set mode
+event_words script (Try client set mode got) = lock_words script (codes "try") client set mode ++ word_of_bool got ∷ []
+event_words script (Unlock client set mode) = lock_words script (codes "unlock") client set mode
+event_words script (NotHeld client set mode) = lock_words script (codes "not_held") client set mode
+event_words script (Change client set gives_up mode) = lock_words script (codes "change") client set gives_up ++ word_of mode ∷ []
+event_words script (DropAll client other set count) =
+    drop_words script (codes "drop") client other set ++ decimal count ∷ []
+event_words script (Busy client other set) = drop_words script (codes "busy") client other set
+event_words script (Copy set to client mode) =
+    letter_words script (codes "copy") set to ++ client_name script client ∷ word_of mode ∷ []
+event_words script (Freeze set to number modes) =
+    letter_words script (codes "freeze") set to ++ decimal number ∷ words_of_modes modes
+event_words script (Token set to epoch) = letter_words script (codes "token") set to ++ decimal epoch ∷ []
+
+-- the words of an event's line after those that name a lock, a drop or a letter
+abbrev pub further_words : ScriptData → Event → List (List ℕ)
+further_words script (Grant client set mode) = []
+further_words script (Wait client set mode) = []
+further_words script (Try client set mode got) = word_of_bool got ∷ []
+further_words script (Unlock client set mode) = []
+further_words script (NotHeld client set mode) = []
+further_words script (Change client set gives_up mode) = word_of mode ∷ []
+further_words script (DropAll client other set count) = decimal count ∷ []
+further_words script (Busy client other set) = []
+further_words script (Copy set to client mode) = client_name script client ∷ word_of mode ∷ []
+further_words script (Freeze set to number modes) = decimal number ∷ words_of_modes modes
+further_words script (Token set to epoch) = decimal epoch ∷ []
+
+-- the words of a line
+abbrev pub line_words : ScriptData → Line → List (List ℕ)
+line_words script Version = codes "version" ∷ codes "2" ∷ []
+line_words script (MoveLine clock node step) = codes "move" ∷ decimal clock ∷ decimal node ∷ step_words script step
+line_words script (EventLine event) = event_words script event
+line_words script (Held client set mode count) = lock_words script (codes "held") client set mode ++ decimal count ∷ []
+line_words script (Waiting client set mode) = lock_words script (codes "waiting") client set mode
+line_words script (Owner set node epoch) = codes "owner" ∷ set_name script set ∷ decimal node ∷ decimal epoch ∷ []
+line_words script (End count) = codes "end" ∷ decimal count ∷ []
+line_words script (Cut node) = codes "cut" ∷ decimal node ∷ []
+line_words script Bad = []
+
+-- The text of a run: its lines, spelled.
+
+-- the text of a line
+abbrev pub line_text : ScriptData → Line → List ℕ
+line_text script x = line (line_words script x)
+
+-- the text of these lines
+abbrev pub lines_text : ScriptData → List Line → List ℕ
+lines_text script lines = flat_map (line_text script) lines
+
+-- the text of a run
+abbrev pub text_of : ScriptData → List Logged → Option ℕ → List ℕ
+text_of script entries cut = lines_text script (run_lines script entries cut)
+
+-- the line is bad, or stands here as it is written
+abbrev pub IsAsWritten : ScriptData → List ℕ → Line → Type 0
+IsAsWritten script line x = (x ≡ Bad) ⊎ (spaced (line_words script x) ≡ line)

@@ -1,6 +1,5 @@
 -- Where an input is cut into a script and a journal.
-use Rattle.std.specs.Prelude.{List, [], ◌∷◌, ℕ, zero, suc, ◌+◌, ◌-◌, Bool, false, Option, Some, None, if◌then◌else◌, codes, length, position}
-use Rattle.std.specs.Str.{bytes_eq}
+use Rattle.std.specs.Prelude.{List, [], ◌∷◌, ℕ, zero, suc, ◌+◌, ◌-◌, Bool, false, Option, Some, None, if◌then◌else◌, codes, length, position, bytes_eq}
 use Rattle.lt_text.specs.Text.{lines, words, is_line_end}
 use Rattle.lt_journal.specs.declared.splitting.Parts.{Parts}
 

@@ -1,6 +1,5 @@
 -- The names of a script as a journal has them.
-use Rattle.std.specs.Prelude.{◌≡◌, ◌++◌, List, IfSome}
-use Rattle.std.specs.List.{All}
+use Rattle.std.specs.Prelude.{◌≡◌, ◌++◌, List, IfSome, All}
 use Rattle.lt_modes.specs.Modes.{word_of}
 use Rattle.lt_modes.specs.Script.{ScriptData, set_name, client_name}
 use Rattle.lt_text.specs.Text.{after_space}

@@ -4,7 +4,7 @@ ghost use Rattle.lt_journal.specs.declared.line.Line.TheVariants.{Move as MoveLi
 ghost use Rattle.lt_modes.specs.Modes.{word_of};
 ghost use Rattle.lt_modes.specs.Script.{set_name, client_name};
 ghost use Rattle.lt_text.specs.Text.{after_space};
-ghost use Rattle.lt_journal.specs.Text.{line_text};
+ghost use Rattle.lt_journal.specs.RunLines.{line_text};
 
 use crate::events::words_of_event;
 use crate::text::Text;

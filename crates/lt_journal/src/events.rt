@@ -2,9 +2,8 @@ ghost use Rattle.std.specs.Prelude.{◌≡◌, ◌++◌, [], ◌∷◌, OnOk, if
 ghost use Rattle.std.specs.List.{flat_map};
 ghost use Rattle.lt_journal.specs.declared.line.Line.TheVariants.{Move as MoveLine};
 ghost use Rattle.lt_text.specs.Text.{after_space, spaced};
-ghost use Rattle.lt_journal.specs.Words.{line_words, lock_words, drop_words, letter_words, event_words, further_words, words_of_modes, member_words};
+ghost use Rattle.lt_journal.specs.RunLines.{line_words, lock_words, drop_words, letter_words, event_words, further_words, words_of_modes, member_words, shown_event};
 ghost use Rattle.lt_modes.specs.FiveModes.{shown_in};
-ghost use Rattle.lt_journal.specs.RunLines.{shown_event};
 
 use crate::names::{client_name, set_name};
 use crate::text::Text;

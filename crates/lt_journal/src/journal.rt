@@ -1,6 +1,5 @@
 ghost use Rattle.std.specs.Prelude.{◌≡◌, ◌++◌, OnOk, IfOk};
-ghost use Rattle.lt_journal.specs.RunLines.{first_lines, event_lines, moves_lines, closing_lines};
-ghost use Rattle.lt_journal.specs.Text.{lines_text, text_of};
+ghost use Rattle.lt_journal.specs.RunLines.{first_lines, event_lines, moves_lines, closing_lines, lines_text, text_of};
 
 use crate::closing::closing_lines;
 use crate::entries::{event_line, move_line};

@@ -4,8 +4,7 @@ ghost use Rattle.lt_spec.specs.Script.{IsScript};
 ghost use Rattle.lt_journal.specs.declared.line.Line.{Line as AnyLine};
 ghost use Rattle.lt_journal.specs.Grammar.{read_line};
 ghost use Rattle.lt_text.specs.Text.{spaced};
-ghost use Rattle.lt_journal.specs.Words.{line_words};
-ghost use Rattle.lt_journal.specs.Text.{IsAsWritten};
+ghost use Rattle.lt_journal.specs.RunLines.{line_words, IsAsWritten};
 ghost use Rattle.lt_journal.specs.LineFits.{FitsLine};
 
 /// A line that is not bad stands there exactly as it is written, and what is written of a line is read as it.

@@ -1,7 +1,6 @@
 ghost use Rattle.std.specs.Prelude.{◌≡◌, ◌++◌, OnOk, IfOk};
 ghost use Rattle.lt_text.specs.Text.{spaced};
-ghost use Rattle.lt_journal.specs.Words.{line_words};
-ghost use Rattle.lt_journal.specs.Text.{lines_text};
+ghost use Rattle.lt_journal.specs.RunLines.{line_words, lines_text};
 
 use crate::events::{lock, words_of_event, words_of_move};
 use crate::line::Line;

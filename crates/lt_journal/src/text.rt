@@ -79,7 +79,7 @@ impl Text {
     }
 
     // Writes a number of one or two digits as a later word of a line.
-    #[tactic(auto, using(crate::proofs::Digits::one_digit, crate::proofs::Digits::two_digits))]
+    #[tactic(auto, using(crate::proofs::Plain::one_digit, crate::proofs::Plain::two_digits))]
     #[inline(always)]
     fn short_number(&mut self, number: u64) -> Result<(), AllocError>
         requires { number < 100 }
@@ -95,7 +95,7 @@ impl Text {
 
     // Writes a number of three or four digits as a later word of a line.
     #[inline(never)]
-    #[tactic(auto, using(crate::proofs::Digits::three_digits, crate::proofs::Digits::four_digits))]
+    #[tactic(auto, using(crate::proofs::Plain::three_digits, crate::proofs::Plain::four_digits))]
     fn middle_number(&mut self, number: u64) -> Result<(), AllocError>
         requires many { 100 ≤ number }
         requires few { number < 10000 }

@@ -1,26 +1,21 @@
 -- Asks that the desk here or a copy answers keep the account of their node.
-use Rattle.std.proofs.Common.{◌≡◌, ◌≢◌, inl, inr, List, Bool, false, sym, ap, subst, ◌∙◌}
-use Rattle.std.specs.Prelude.{◌⊎◌, if◌then◌else◌, Contains, IsTrue, IsFalse}
+use Rattle.std.proofs.Common.{◌≡◌, ◌≢◌, inl, inr, List, Bool, false, sym, ap, subst, ◌∙◌, ◌⊎◌, if◌then◌else◌, Contains, IsTrue, IsFalse}
 use Rattle.std.proofs.lemmas.Bool.{both_ways, false_from_ne_true}
 use Rattle.lt_modes.specs.declared.mode.Mode.{Mode}
 use Rattle.lt_modes.specs.declared.ask.Ask.{Ask}
 use Rattle.lt_modes.specs.declared.parts.Row.{Row}
-use Rattle.lt_modes.specs.Modes.{Modes, conflicts, has, union, one, with_mode}
-use Rattle.lt_modes.specs.State.{Tell}
-use Rattle.lt_modes.specs.Held.{other_modes, held_modes}
-use Rattle.lt_modes.specs.Queue.{without, modes_of_asks}
-use Rattle.lt_modes.specs.Records.{record_of, still_owed, modes_of_owed}
+use Rattle.lt_modes.specs.Modes.{Modes, conflicts, has, union, one, with_mode, other_modes, held_modes}
+use Rattle.lt_modes.specs.State.{Tell, without, modes_of_asks, record_of, still_owed, modes_of_owed}
 use Rattle.lt_modes.specs.Serving.{answered}
 use Rattle.lt_modes.specs.Sound.{ChargeKept}
 use Rattle.lt_modes.proofs.ModeAlgebra.{conflicts-sym, union_bars_both}
 use Rattle.lt_law_accounts.specs.Account.{Account, AccountKept, ClocksKept, AsksKnown, CopiesOwed, Covers, IsBelow, own_of, owed_and_waiting, now_modes, left_after, IsFreshTell}
 use Rattle.lt_law_accounts.specs.AccountSteps.{IsLoss, MayAnswer, answering, MayDeliver, delivering}
-use Rattle.lt_law_accounts.specs.AccountLaws.{AnswersKeep, Delivers}
-use Rattle.lt_law_accounts.proofs.AccountFacts.{same_by_stamp, still_owed-which, still_owed-at, bars_not, below_by_members, copy_is_waiting, held_below_charge}
-use Rattle.lt_law_accounts.proofs.ModeMembers.{has-union, has-left, has-right, has-kept, has-added, has-with_mode, mode_which, mode_at}
-use Rattle.lt_law_accounts.proofs.AccountRows.{charge_in_move, below_one_more, clear_one_more, counts_less, counts_one_more}
+use Rattle.lt_law_accounts.specs.AccountPlay.{AnswersKeep, Delivers}
+use Rattle.lt_law_accounts.proofs.AccountFacts.{same_by_stamp, still_owed-which, still_owed-at, bars_not, below_by_members, copy_is_waiting, held_below_charge, has-union, has-left, has-right, has-kept, has-added, has-with_mode, mode_which, mode_at}
+use Rattle.lt_law_accounts.proofs.AccountGrants.{charge_in_move, below_one_more, clear_one_more, counts_less, counts_one_more}
 use Rattle.lt_law_accounts.proofs.Rows.{AreOneMore, held-at, held_one_more, others-at, rows_granted}
-use Rattle.lt_law_accounts.proofs.Unanswered.{without_only, without_kept, without_gone, without_apart}
+use Rattle.lt_law_accounts.proofs.Asks.{without_only, without_kept, without_gone, without_apart}
 
 -- the account once the ask is answered, with this charge and these copies
 abbrev answered_with : Ask → Modes → List Ask → Account → Account

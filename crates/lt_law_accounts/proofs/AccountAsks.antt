@@ -1,22 +1,18 @@
 -- An account as the clock of its node goes on, as a client asks, as a move ends, and as letters are elsewhere on their way.
-use Rattle.std.proofs.Common.{◌≡◌, ◌≢◌, ℕ, ◌<◌, ◌≤◌, inl, inr, [], ◌∷◌, ◌++◌, Bool, true, false, ap, subst, arith}
-use Rattle.std.specs.Prelude.{Contains, IsTrue, if◌then◌else◌, slice_index_or}
+use Rattle.std.proofs.Common.{◌≡◌, ◌≢◌, ℕ, ◌<◌, ◌≤◌, inl, inr, [], ◌∷◌, ◌++◌, Bool, true, false, ap, subst, arith, Contains, IsTrue, if◌then◌else◌, slice_index_or}
 use Rattle.std.proofs.lemmas.List.Elements.{Contains-append_left, Contains-push_cases, Contains-get_or}
 use Rattle.std.proofs.lemmas.List.Quantifiers.{all_pairs_push}
 use Rattle.lt_modes.specs.declared.mode.Mode.{Mode}
 use Rattle.lt_modes.specs.declared.stamp.Stamp.{Stamp}
 use Rattle.lt_modes.specs.declared.ask.Ask.{Ask}
 use Rattle.lt_modes.specs.declared.parts.Owed.{Owed}
-use Rattle.lt_modes.specs.Modes.{Modes, has, union}
-use Rattle.lt_modes.specs.Held.{held_modes}
-use Rattle.lt_modes.specs.Queue.{modes_of_asks}
-use Rattle.lt_modes.specs.Records.{record_of, modes_of_owed, still_owed}
+use Rattle.lt_modes.specs.Modes.{Modes, has, union, held_modes}
+use Rattle.lt_modes.specs.State.{modes_of_asks, record_of, modes_of_owed, still_owed}
 use Rattle.lt_modes.specs.Sound.{IsNoLater}
 use Rattle.lt_law_accounts.specs.Account.{Account, IsBelow, own_of}
 use Rattle.lt_law_accounts.specs.AccountSteps.{asking}
-use Rattle.lt_law_accounts.specs.AccountLaws.{Ticks, Ages, Asks, Rests, Freezes, Reorders}
-use Rattle.lt_law_accounts.proofs.ModeMembers.{has-union, has-left, has-right}
-use Rattle.lt_law_accounts.proofs.AccountFacts.{still_owed-which, still_owed-at, below_by_members, held_below_charge, no_later_at_all, before_in_move, open_later, now_with}
+use Rattle.lt_law_accounts.specs.AccountPlay.{Ticks, Ages, Asks, Rests, Freezes, Reorders}
+use Rattle.lt_law_accounts.proofs.AccountFacts.{has-union, has-left, has-right, still_owed-which, still_owed-at, below_by_members, held_below_charge, no_later_at_all, before_in_move, open_later, now_with}
 use Rattle.lt_modes.proofs.StampOrder.{newer_by_clock}
 
 later_still : (moving : Bool) (old new k : ℕ) → old < new → IsNoLater moving old k → k < new

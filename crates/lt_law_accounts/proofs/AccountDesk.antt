@@ -1,25 +1,19 @@
 -- An account as the desk leaves its node, comes to it, or sends a copy there.
-use Rattle.std.proofs.Common.{◌≡◌, ℕ, ◌≤◌, inl, inr, List, [], ◌∷◌, ◌++◌, Bool, true, false, sym, ap, subst, arith, ◌∙◌}
-use Rattle.std.specs.Prelude.{◌⊎◌, Contains, IsTrue, IsFalse, if◌then◌else◌}
+use Rattle.std.proofs.Common.{◌≡◌, ℕ, ◌≤◌, inl, inr, List, [], ◌∷◌, ◌++◌, Bool, true, false, sym, ap, subst, arith, ◌∙◌, ◌⊎◌, Contains, IsTrue, IsFalse, if◌then◌else◌}
 use Rattle.std.proofs.lemmas.Bool.{false_from_ne_true}
 use Rattle.std.proofs.lemmas.List.Elements.{Contains-append_left, Contains-push, Contains-push_cases}
 use Rattle.lt_modes.specs.declared.mode.Mode.{Mode}
 use Rattle.lt_modes.specs.declared.ask.Ask.{Ask}
 use Rattle.lt_modes.specs.declared.parts.Owed.{Owed}
-use Rattle.lt_modes.specs.Modes.{Modes, conflicts, has, with_mode, bars}
-use Rattle.lt_modes.specs.State.{Entry, Tell}
-use Rattle.lt_modes.specs.Held.{held_modes}
-use Rattle.lt_modes.specs.Queue.{modes_of_asks}
-use Rattle.lt_modes.specs.Records.{record_of, modes_of_owed}
-use Rattle.lt_modes.specs.Tells.{is_open, left_owed}
-use Rattle.lt_modes.specs.Serving.{owing}
+use Rattle.lt_modes.specs.Modes.{Modes, conflicts, has, with_mode, bars, held_modes}
+use Rattle.lt_modes.specs.State.{Entry, Tell, modes_of_asks, record_of, modes_of_owed}
+use Rattle.lt_modes.specs.Serving.{is_open, left_owed, owing}
 use Rattle.lt_modes.specs.Sound.{IsNoLater}
 use Rattle.lt_modes.proofs.ModeAlgebra.{conflicts-sym, covers_by_table, copy_is_not_taking}
 use Rattle.lt_law_accounts.specs.Account.{AsksKnown, Covers, Bars, IsBelow, left_after, now_modes, own_of}
 use Rattle.lt_law_accounts.specs.AccountSteps.{IsGain, owing_copy}
-use Rattle.lt_law_accounts.specs.AccountLaws.{Owes}
-use Rattle.lt_law_accounts.proofs.ModeMembers.{has-union, has-left, has-right, has-kept, has-added}
-use Rattle.lt_law_accounts.proofs.AccountFacts.{same_by_stamp, owed_mode-which, owed_mode-at, left_owed-which, left_owed-at, below_by_members, bars_not, not_bars, held_below_record, one_more_below, asks_which, asks_at}
+use Rattle.lt_law_accounts.specs.AccountPlay.{Owes}
+use Rattle.lt_law_accounts.proofs.AccountFacts.{has-union, has-left, has-right, has-kept, has-added, same_by_stamp, owed_mode-which, owed_mode-at, left_owed-which, left_owed-at, below_by_members, bars_not, not_bars, held_below_record, one_more_below, asks_which, asks_at}
 
 -- the modes of owed asks with one more
 owed_more-cases : (owed : List Owed) (copy : Owed) (mode : Mode) → IsTrue (has mode (modes_of_owed (owed ++ copy ∷ [])))

@@ -1,24 +1,91 @@
--- Facts on a kept account that many of its steps use.
-use Rattle.std.proofs.Common.{◌≡◌, ◌≢◌, ℕ, ◌<◌, ◌≤◌, inl, inr, List, Bool, true, false, refl, sym, ap, subst, arith, ◌∙◌}
-use Rattle.std.specs.Prelude.{◌⊎◌, ◌==◌, Contains, IsTrue, IsFalse, AllPairs, slice_index_or}
-use Rattle.std.proofs.lemmas.Bool.{both_ways, and_parts, and_from, or_cases, or_left, or_right, eq-eqb, eqb-true, cases_order}
+-- What is in the sets of modes that are gathered from rows, asks and owed asks, and in lists that a test leaves.
+use Rattle.std.proofs.Common.{◌≡◌, inl, inr, List, [], ◌∷◌, refl, sym, ap, subst, arith, ◌∙◌, ◌≢◌, ℕ, ◌<◌, ◌≤◌, Bool, true, false, ◌⊎◌, Contains, IsTrue, fold, ◌==◌, IsFalse, AllPairs, slice_index_or, eq-eqb, eqb-true}
+use Rattle.std.proofs.lemmas.Bool.{or_cases, or_left, or_right, both_ways, and_parts, and_from, cases_order}
 use Rattle.std.proofs.lemmas.List.{get_or_default}
 use Rattle.lt_modes.specs.declared.mode.Mode.{Mode}
+use Rattle.lt_modes.specs.Modes.{Modes, has, no_modes, union, one, with_mode, same_mode, conflicts, bars, held_modes}
+use Rattle.lt_modes.proofs.ModeAlgebra.{has-modes_by, has-itself, union_has_both, same_mode-true, none_in_none, bars_by_table, union_bars_both}
 use Rattle.lt_modes.specs.declared.stamp.Stamp.{Stamp}
 use Rattle.lt_modes.specs.declared.ask.Ask.{Ask}
 use Rattle.lt_modes.specs.declared.parts.Owed.{Owed}
-use Rattle.lt_modes.specs.Modes.{Modes, conflicts, has, union, bars}
-use Rattle.lt_modes.specs.State.{Tell}
-use Rattle.lt_modes.specs.Held.{held_modes}
-use Rattle.lt_modes.specs.Queue.{has_stamp, modes_of_asks}
-use Rattle.lt_modes.specs.Records.{record_of, modes_of_owed, is_unanswered, still_owed}
-use Rattle.lt_modes.specs.Tells.{is_newer, is_open, is_listed, same_stamp, left_owed}
+use Rattle.lt_modes.specs.State.{Tell, has_stamp, modes_of_asks, record_of, modes_of_owed, is_unanswered, still_owed}
+use Rattle.lt_modes.specs.Serving.{is_newer, is_open, is_listed, same_stamp, left_owed}
 use Rattle.lt_modes.specs.Sound.{IsNoLater, ChargeKept}
-use Rattle.lt_modes.proofs.ModeAlgebra.{bars_by_table, union_bars_both}
+use Rattle.lt_lists.proofs.Members.{contains_first, contains_later, contains_cases, contains_filter, contains_filtered, list_any-at, list_any-which}
 use Rattle.lt_law_accounts.specs.Account.{Account, AccountKept, CopiesOwed, Bars, IsBelow, owed_and_waiting, now_modes}
 use Rattle.lt_law_accounts.proofs.Asks.{has_stamp-true, has_stamp-own}
-use Rattle.lt_law_accounts.proofs.ModeMembers.{mode_which, mode_at}
-use Rattle.lt_lists.proofs.Members.{contains_filter, contains_filtered, list_any-at, list_any-which}
+
+-- one mode more
+pub has-with_mode : (mode more : Mode) (modes : Modes) → IsTrue (has mode (with_mode modes more)) → IsTrue (has mode modes) ⊎ (more ≡ mode)
+has-with_mode mode more modes h = elim (or_cases (has mode modes) (has mode (one more)) (sym (union_has_both modes (one more) mode) ∙ h)) [
+  | inl own ↦ inl own
+  | inr new ↦ inr (same_mode-true more mode (sym (has-modes_by (same_mode more) mode) ∙ new))
+]
+
+pub has-kept : (mode more : Mode) (modes : Modes) → IsTrue (has mode modes) → IsTrue (has mode (with_mode modes more))
+has-kept mode more modes h = union_has_both modes (one more) mode ∙ or_left (has mode modes) (has mode (one more)) h
+
+pub has-added : (mode : Mode) (modes : Modes) → IsTrue (has mode (with_mode modes mode))
+has-added mode modes =
+    union_has_both modes (one mode) mode
+    ∙ or_right (has mode modes) (has mode (one mode)) (has-modes_by (same_mode mode) mode ∙ has-itself mode)
+
+-- a union has what one of the two has
+pub has-union : (mode : Mode) (a b : Modes) → IsTrue (has mode (union a b)) → IsTrue (has mode a) ⊎ IsTrue (has mode b)
+has-union mode a b h = or_cases (has mode a) (has mode b) (sym (union_has_both a b mode) ∙ h)
+
+pub has-left : (mode : Mode) (a b : Modes) → IsTrue (has mode a) → IsTrue (has mode (union a b))
+has-left mode a b h = union_has_both a b mode ∙ or_left (has mode a) (has mode b) h
+
+pub has-right : (mode : Mode) (a b : Modes) → IsTrue (has mode b) → IsTrue (has mode (union a b))
+has-right mode a b h = union_has_both a b mode ∙ or_right (has mode a) (has mode b) h
+
+-- the modes of items, gathered from this set on
+abbrev gathered : {X : Type 0} → (X → Mode) → Modes → List X → Modes
+gathered mode_of from xs = fold (λ modes x. with_mode modes (mode_of x)) from xs
+
+gathered-from : {X : Type 0} (mode_of : X → Mode) (from : Modes) (xs : List X) (mode : Mode) → IsTrue (has mode from)
+    → IsTrue (has mode (gathered mode_of from xs))
+gathered-from mode_of from [] mode h = h
+gathered-from mode_of from (x ∷ rest) mode h =
+    gathered-from mode_of (with_mode from (mode_of x)) rest mode (has-kept mode (mode_of x) from h)
+
+gathered-which : {X : Type 0} (mode_of : X → Mode) (from : Modes) (xs : List X) (mode : Mode) → IsTrue (has mode (gathered mode_of from xs))
+    → IsTrue (has mode from) ⊎ ((x : X) × Contains xs x × (mode_of x ≡ mode))
+gathered-which mode_of from [] mode h = inl h
+gathered-which mode_of from (x ∷ rest) mode h =
+    elim (gathered-which mode_of (with_mode from (mode_of x)) rest mode h) [
+      | inl before ↦ elim (has-with_mode mode (mode_of x) from before) [
+        | inl own ↦ inl own
+        | inr same ↦ inr (x, contains_first x x rest refl, same)
+      ]
+      | inr later ↦ inr (later.0, contains_later x later.0 rest later.1, later.2)
+    ]
+
+gathered-at : {X : Type 0} (mode_of : X → Mode) (from : Modes) (xs : List X) (x : X) → Contains xs x
+    → IsTrue (has (mode_of x) (gathered mode_of from xs))
+gathered-at mode_of from [] x h = absurd (omega (arith, h.1))
+gathered-at mode_of from (first ∷ rest) x h = elim (contains_cases first x rest h) [
+  | inl same ↦
+      gathered-from mode_of (with_mode from (mode_of first)) rest (mode_of x)
+      (subst (λ (m : Mode). IsTrue (has m (with_mode from (mode_of first)))) (ap mode_of same) (has-added (mode_of first) from))
+  | inr later ↦ gathered-at mode_of (with_mode from (mode_of first)) rest x later
+]
+
+-- a mode gathered from nothing is that of an item
+pub mode_which : {X : Type 0} (mode_of : X → Mode) (xs : List X) (mode : Mode)
+    → IsTrue (has mode (fold (λ modes x. with_mode modes (mode_of x)) no_modes xs)) → (x : X) × Contains xs x × (mode_of x ≡ mode)
+mode_which mode_of xs mode h = elim (gathered-which mode_of no_modes xs mode h) [
+  | inl none ↦ none_in_none mode none
+  | inr found ↦ found
+]
+
+-- and the mode of each item is gathered
+pub mode_at : {X : Type 0} (mode_of : X → Mode) (xs : List X) (x : X) → Contains xs x
+    → IsTrue (has (mode_of x) (fold (λ modes x. with_mode modes (mode_of x)) no_modes xs))
+mode_at mode_of xs x h = gathered-at mode_of no_modes xs x h
+
+-- Facts on a kept account that many of its steps use.
 
 -- asks with different stamps: two that stand there with one stamp are one
 pub same_by_stamp : (asks : List Ask) (a b : Ask) → AllPairs (λ (x y : Ask). x.stamp ≢ y.stamp) asks → Contains asks a → Contains asks b

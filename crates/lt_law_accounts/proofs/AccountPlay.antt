@@ -1,32 +1,27 @@
 -- Accounts to which things happen in any order stay kept and clear of each other.
-use Rattle.std.proofs.Common.{◌≡◌, ◌≢◌, ℕ, zero, suc, ◌<◌, inl, inr, List, [], ◌∷◌, Bool, true, false, refl, sym, ap, subst, arith, ◌∙◌}
-use Rattle.std.specs.Prelude.{◌⊎◌, ◌==◌, Contains, IsTrue, if◌then◌else◌}
-use Rattle.std.proofs.lemmas.Bool.{eq-eqb, ne_eqb, cases_eq, false_from_ne_true}
+use Rattle.std.proofs.Common.{◌≡◌, ◌≢◌, ℕ, zero, suc, ◌<◌, inl, inr, List, [], ◌∷◌, Bool, true, false, refl, sym, ap, subst, arith, ◌∙◌, ◌⊎◌, ◌==◌, Contains, IsTrue, if◌then◌else◌, eq-eqb, ne_eqb}
+use Rattle.std.proofs.lemmas.Bool.{cases_eq, false_from_ne_true}
 use Rattle.lt_modes.specs.declared.mode.Mode.{Mode}
 use Rattle.lt_modes.specs.declared.parts.Owed.{Owed}
-use Rattle.lt_modes.specs.Modes.{Modes, conflicts, has, no_modes, with_mode}
-use Rattle.lt_modes.specs.Held.{held_modes}
-use Rattle.lt_modes.specs.Queue.{modes_of_asks}
-use Rattle.lt_modes.specs.Tells.{is_newer, is_open, left_owed}
-use Rattle.lt_modes.proofs.ModeAlgebra.{conflicts-sym, union_bars_both, clear_below, clear_both_ways}
-use Rattle.lt_lists.specs.Below.{put}
-use Rattle.lt_law_accounts.specs.Account.{Account, AccountKept, Bars, AreClear, counted, owed_and_waiting}
-use Rattle.lt_law_accounts.specs.AccountLaws.{CountsSame, CountsLess, CountsOneMore}
-use Rattle.lt_law_accounts.specs.AccountPlay.{AccountStep, Tick, Wait, Grant, Unlock, Drop, Answer, Owe, Deliver, Apply, Say, Settle, Arrive, Rest, Freeze, Reorder, after_step, MayStep, others_counted, after_one, AllClear, AllKept, CountsOn, ClearStays, first_account, FirstAccounts, LocksAgree, AnyOrder, FromTheStart}
-use Rattle.lt_law_accounts.specs.AccountFacts.{OwedAreOnWay, OnWayAreOwed, TellKeepsWaiting, TwiceIsOnce, RecordBoundsHeld}
-use Rattle.lt_modes.proofs.EachMode.{none_in_none}
-use Rattle.lt_law_accounts.proofs.ModeMembers.{has-with_mode}
-use Rattle.lt_law_accounts.proofs.FirstAccount.{empty_is_kept}
-use Rattle.lt_law_accounts.proofs.AccountFacts.{waiting_is_copy, copy_is_waiting, asks_which, asks_at, left_owed-at, held_below_now, open-cases, open_later}
+use Rattle.lt_modes.specs.Modes.{Modes, conflicts, has, no_modes, with_mode, held_modes}
+use Rattle.lt_modes.specs.State.{modes_of_asks, Tell}
+use Rattle.lt_modes.specs.Serving.{is_newer, is_open, left_owed}
+use Rattle.lt_modes.proofs.ModeAlgebra.{conflicts-sym, union_bars_both, clear_below, clear_both_ways, none_in_none}
 use Rattle.lt_modes.proofs.StampOrder.{newer_in_turn}
+use Rattle.lt_modes.specs.declared.ask.Ask.{Ask}
+use Rattle.lt_lists.specs.Below.{put}
+use Rattle.lt_lists.proofs.Puts.{put-same, put-other}
+use Rattle.lt_law_accounts.specs.Account.{Account, AccountKept, Bars, AreClear, counted, owed_and_waiting, OwedAreOnWay, OnWayAreOwed, TellKeepsWaiting, TwiceIsOnce, RecordBoundsHeld}
+use Rattle.lt_law_accounts.specs.AccountPlay.{CountsSame, CountsLess, CountsOneMore, AccountStep, Tick, Wait, Grant, Unlock, Drop, Answer, Owe, Deliver, Apply, Say, Settle, Arrive, Rest, Freeze, Reorder, after_step, MayStep, others_counted, after_one, AllClear, AllKept, CountsOn, ClearStays, first_account, FirstAccounts, LocksAgree, AnyOrder, FromTheStart}
+use Rattle.lt_law_accounts.proofs.AccountFacts.{has-with_mode, waiting_is_copy, copy_is_waiting, asks_which, asks_at, left_owed-at, held_below_now, open-cases, open_later}
+use Rattle.lt_law_accounts.proofs.AccountTells.{empty_is_kept, stale_kept, tells_kept}
 use Rattle.lt_law_accounts.proofs.AccountAsks.{ticks_kept, asks_kept, rests_kept, freezes_kept, reorders_kept}
 use Rattle.lt_law_accounts.proofs.Rows.{held-at}
 use Rattle.lt_law_accounts.proofs.AccountGrants.{grants_kept, unlocks_kept, drops_kept}
 use Rattle.lt_law_accounts.proofs.AccountAnswers.{answers_kept, delivers_kept}
-use Rattle.lt_law_accounts.proofs.AccountTells.{stale_kept, tells_kept}
-use Rattle.lt_law_accounts.proofs.AccountApplies.{applies_kept}
+use Rattle.lt_law_accounts.proofs.AccountApplies.{applies_kept, settles_kept, arrives_kept, hold_clear}
 use Rattle.lt_law_accounts.proofs.AccountDesk.{owes_kept}
-use Rattle.lt_law_accounts.proofs.AccountSettles.{settles_kept, arrives_kept, hold_clear}
+use Rattle.lt_law_accounts.specs.AccountSteps.{HaveSame, reordering, freezing}
 
 pub clear_stays : ClearStays
 clear_stays n x counts now clear here on y z hy hz d = by_first (cases_eq y x)
@@ -221,3 +216,58 @@ twice_is_once later older (copy ∷ rest) newer lists =
         ] in
         let no : true ≡ false = sym open_too ∙ eo in cc
     by_tests false false eo el again = again
+
+-- Accounts of several nodes that are all kept, and clear of each other: what changes one of them, or all at once.
+
+-- one thing happens that may
+pub one_happens : (n : ℕ) (accounts : ℕ → Account) (x : ℕ) (step : AccountStep) → AllKept n accounts → x < n
+    → MayStep (others_counted n accounts x) step (accounts x)
+    → AllKept n (after_one accounts (record { node = x; step = step }))
+one_happens n accounts x step h below may = (any_order n accounts (record { node = x; step = step } ∷ []) h (below, may, tt)).0
+
+-- the same accounts
+pub same_kept : (n : ℕ) (accounts later : ℕ → Account) → AllKept n accounts → ((x : ℕ) → x < n → later x ≡ accounts x) → AllKept n later
+same_kept n accounts later h same = record {
+  kept = λ x below. subst AccountKept (sym (same x below)) (h.kept x below);
+  clear = λ x y hx hy d.
+      subst (λ (a : Account). AreClear (counted a) (counted (later y))) (sym (same x hx))
+      (subst (λ (a : Account). AreClear (counted (accounts x)) (counted a)) (sym (same y hy)) (h.clear x y hx hy d));
+}
+
+-- one account makes a step that it may, and all others are the same
+pub one_changes : (n : ℕ) (accounts later : ℕ → Account) (v : ℕ) (step : AccountStep) → AllKept n accounts → v < n
+    → MayStep (others_counted n accounts v) step (accounts v)
+    → ((x : ℕ) → x < n → x ≢ v → later x ≡ accounts x) → later v ≡ after_step step (accounts v) → AllKept n later
+one_changes n accounts later v step h below may others own =
+    same_kept n (after_one accounts (record { node = v; step = step })) later (one_happens n accounts v step h below may)
+    (λ x under. elim (cases_eq x v) [
+      | inl e ↦ ap later e ∙ own ∙ sym (put-same accounts v (after_step step (accounts v))) ∙ ap (after_one accounts (record { node = v; step = step })) (sym e)
+      | inr d ↦ others x under d ∙ sym (put-other accounts v (after_step step (accounts v)) x d)
+    ])
+
+-- the same tells and copies stand in other lists
+pub all_reordered : (n : ℕ) (accounts : ℕ → Account) (tells : ℕ → List Tell) (copies : ℕ → List Ask) → AllKept n accounts
+    → ((x : ℕ) → x < n → HaveSame (accounts x).tells (tells x) × HaveSame (accounts x).copies (copies x))
+    → AllKept n (λ x. reordering (tells x) (copies x) (accounts x))
+all_reordered n accounts tells copies h same = record {
+  kept = λ x below. (reorders_kept (accounts x) (tells x) (copies x) (h.kept x below) (record { tells_same = (same x below).0; copies_same = (same x below).1 })).0;
+  clear = h.clear;
+}
+
+-- some entries say what was told of frozen modes
+pub some_frozen : (n : ℕ) (accounts later : ℕ → Account) → AllKept n accounts
+    → ((x : ℕ) → x < n → (later x ≡ accounts x) ⊎ ((frozen : Modes) × (later x ≡ freezing frozen (accounts x)))) → AllKept n later
+some_frozen n accounts later h same = record {
+  kept = λ x below. elim (same x below) [
+    | inl e ↦ subst AccountKept (sym e) (h.kept x below)
+    | inr e ↦ subst AccountKept (sym e.1) (freezes_kept (accounts x) e.0 (h.kept x below)).0
+  ];
+  clear = λ x y hx hy d.
+      subst (λ (a : Modes). AreClear a (counted (later y))) (sym (counts x hx)) (subst (λ (a : Modes). AreClear (counted (accounts x)) a) (sym (counts y hy)) (h.clear x y hx hy d));
+}
+  where
+    counts : (x : ℕ) → x < n → counted (later x) ≡ counted (accounts x)
+    counts x below = elim (same x below) [
+      | inl e ↦ ap counted e
+      | inr e ↦ ap counted e.1
+    ]

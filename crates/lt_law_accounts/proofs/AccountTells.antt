@@ -1,26 +1,20 @@
 -- An account as the desk takes a tell of its node, and as the node makes one.
-use Rattle.lt_law_accounts.proofs.AccountApplies.{told_stale}
-use Rattle.std.proofs.Common.{◌≡◌, ◌<◌, inl, inr, List, true, false, refl, sym, ap, subst, arith, ◌∙◌}
-use Rattle.std.specs.Prelude.{Contains, IsTrue, IsFalse}
+use Rattle.std.proofs.Common.{◌≡◌, ◌<◌, inl, inr, List, true, false, refl, sym, ap, subst, arith, ◌∙◌, ℕ, [], Bool, Contains, IsTrue, IsFalse}
 use Rattle.lt_modes.specs.declared.mode.Mode.{Mode}
 use Rattle.lt_modes.specs.declared.stamp.Stamp.{Stamp}
 use Rattle.lt_modes.specs.declared.ask.Ask.{Ask}
 use Rattle.lt_modes.specs.declared.parts.Owed.{Owed}
-use Rattle.lt_modes.specs.Modes.{conflicts, has}
-use Rattle.lt_modes.specs.State.{Entry, Tell}
-use Rattle.lt_modes.specs.Held.{held_modes}
-use Rattle.lt_modes.specs.Queue.{modes_of_asks}
-use Rattle.lt_modes.specs.Records.{record_of, modes_of_owed}
-use Rattle.lt_modes.specs.Tells.{is_newer, is_open, left_owed}
-use Rattle.lt_modes.specs.HandingOver.{stamps_of}
+use Rattle.lt_modes.specs.Modes.{conflicts, has, held_modes, no_modes}
+use Rattle.lt_modes.specs.State.{Entry, Tell, modes_of_asks, record_of, modes_of_owed, first_entry}
+use Rattle.lt_modes.specs.Serving.{is_newer, is_open, left_owed, stamps_of}
 use Rattle.lt_modes.proofs.ModeAlgebra.{union_bars_both}
+use Rattle.lt_modes.proofs.StampOrder.{newer_by_clock, newer_not_before, not_after_itself}
+use Rattle.lt_lists.proofs.Members.{contains_map, contains_mapped, none_in}
+use Rattle.lt_law_accounts.proofs.AccountApplies.{told_stale}
 use Rattle.lt_law_accounts.specs.Account.{Account, AccountKept, Covers, IsBelow, left_after, now_modes, counted}
 use Rattle.lt_law_accounts.specs.AccountSteps.{MayApply, tell_by}
-use Rattle.lt_law_accounts.specs.AccountLaws.{AppliesStale, TellsKeep}
-use Rattle.lt_law_accounts.proofs.ModeMembers.{has-union, has-left, has-right}
-use Rattle.lt_lists.proofs.Members.{contains_map, contains_mapped}
-use Rattle.lt_law_accounts.proofs.AccountFacts.{owed_mode-which, owed_mode-at, left_owed-which, left_owed-at, below_by_members, held_below_charge, no_later_at_all, before_in_move, open-cases, open_listed, asks_which, asks_at}
-use Rattle.lt_modes.proofs.StampOrder.{newer_by_clock, newer_not_before, not_after_itself}
+use Rattle.lt_law_accounts.specs.AccountPlay.{AppliesStale, TellsKeep}
+use Rattle.lt_law_accounts.proofs.AccountFacts.{has-union, has-left, has-right, owed_mode-which, owed_mode-at, left_owed-which, left_owed-at, below_by_members, held_below_charge, no_later_at_all, before_in_move, open-cases, open_listed, asks_which, asks_at}
 
 stale : (a : Account) (tell : Tell) (tells : List Tell) → AccountKept a → MayApply tell tells a → IsFalse (is_newer tell.stamp a.entry.told_at)
     → AccountKept (record a { tells = tells })
@@ -198,3 +192,56 @@ tells_kept a stamp tells h may = (
           | inl own ↦ inl (held_below_charge a.moving (held_modes a.held) a.charge (h.charge may.away) mode own)
           | inr brought ↦ inr brought
         ])
+
+-- The account of a node at the start is kept.
+
+-- an account in which nothing is
+abbrev pub empty_account : ℕ → Bool → Account
+empty_account clock here = record {
+  clock = clock;
+  held = [];
+  charge = no_modes;
+  pending = [];
+  entry = first_entry;
+  tells = [];
+  copies = [];
+  here = here;
+  moving = false;
+}
+
+pub empty_is_kept : (clock : ℕ) (here : Bool) → AccountKept (empty_account clock here)
+empty_is_kept clock here = record {
+  clocks = record {
+    asks = λ ask h. none_in ask h;
+    apart = λ i j d before below. absurd (omega (arith, below));
+    tells_made = λ tell t. none_in tell t;
+    tells_apart = λ x y h. none_in x h;
+    told = omega arith;
+    owed = λ copy h. none_in copy h;
+  };
+  known = record {
+    in_entry = λ ask h. none_in ask h;
+    in_tells = λ ask tell h. none_in ask h;
+    lists = λ later older t. none_in later t;
+    entry_list = λ tell t. none_in tell t.0;
+  };
+  owed = record {
+    waits = λ ask h. none_in ask h;
+    owed = λ ask h. none_in ask h;
+    on_way = λ copy ask h. none_in copy h;
+    open_still = λ copy h. none_in copy h;
+  };
+  charge = λ away. refl;
+  cover = λ away. record {
+    record_bound = λ mode bar. bar;
+    left_bound = λ tell t. none_in tell t.0;
+    record_shrinks = λ tell t. none_in tell t.0;
+    left_shrinks = λ later older t. none_in later t.0;
+    exact = inl (λ mode bar. bar);
+  };
+  clear = record {
+    copies_clear = λ x y h. none_in x h;
+    copy_and_held = λ ask h. none_in ask h;
+    clients = λ x y h. none_in x h;
+  };
+}

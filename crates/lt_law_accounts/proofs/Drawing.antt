@@ -1,19 +1,15 @@
 -- Which ask draws the desk.
-use Rattle.std.proofs.Common.{◌≡◌, true, false, ℕ, zero, suc, ◌+◌, ◌<◌, List, [], ◌∷◌, ◌++◌, Option, Some, length, take, inl, inr, refl, sym, ap, subst, ◌∙◌, arith, append_assoc, append-nil}
-use Rattle.std.specs.Prelude.{if◌then◌else◌, ◌==◌, ◌&&◌, ◌||◌, not, IsFalse, slice_index_or}
-use Rattle.std.proofs.lemmas.Bool.{and_parts, and_from, or_cases, or_left, or_right, eqb-true, eq-eqb, ne_eqb, not-true, false_from_ne_true, false≢true, cases_lt}
-use Rattle.std.proofs.lemmas.List.{length-append, take_at}
+use Rattle.std.proofs.Common.{◌≡◌, true, false, ℕ, zero, suc, ◌+◌, ◌<◌, List, [], ◌∷◌, ◌++◌, Option, Some, length, take, inl, inr, refl, sym, ap, subst, ◌∙◌, arith, append_assoc, append-nil, if◌then◌else◌, ◌==◌, ◌&&◌, ◌||◌, not, IsFalse, slice_index_or, eqb-true, eq-eqb, ne_eqb, length-append, take_at}
+use Rattle.std.proofs.lemmas.Bool.{and_parts, and_from, or_cases, or_left, or_right, not-true, false_from_ne_true, false≢true, cases_lt}
 use Rattle.std.proofs.lemmas.Grind.{fold-append}
 use Rattle.lt_modes.specs.declared.mode.Mode.{Mode}
 use Rattle.lt_modes.specs.declared.ask.Ask.{Ask}
 use Rattle.lt_modes.specs.Modes.{Modes, no_modes, has, union, bars, with_mode, conflicts}
-use Rattle.lt_modes.specs.State.{SetState, Desk}
-use Rattle.lt_modes.specs.Queue.{no_ask, modes_of_asks}
-use Rattle.lt_modes.specs.Records.{others, modes_at}
+use Rattle.lt_modes.specs.State.{SetState, Desk, no_ask, modes_of_asks, others, modes_at}
 use Rattle.lt_modes.specs.Serving.{is_free, is_clear_at_home, may_draw, draw_from, move_at}
 use Rattle.lt_modes.proofs.ModeAlgebra.{bars_by_table}
-use Rattle.lt_law_accounts.proofs.ModeMembers.{has-union, has-left, has-right, mode_which, mode_at}
-use Rattle.lt_law_accounts.specs.RuleLaws.{AgreesWith, MayDraw, DrawsAt, IsFirstDrawing, DrawnByFirst}
+use Rattle.lt_law_accounts.proofs.AccountFacts.{has-union, has-left, has-right, mode_which, mode_at}
+use Rattle.lt_law_accounts.specs.Account.{AgreesWith, MayDraw, DrawsAt, IsFirstDrawing, DrawnByFirst}
 
 -- a set bars no mode with which it agrees, and no other
 agrees : (modes : Modes) (mode : Mode) → has mode (bars modes) ≡ false → AgreesWith modes mode

@@ -1,13 +1,11 @@
 -- Where an ask enters the queue.
-use Rattle.std.proofs.Common.{◌≡◌, true, false, ℕ, ◌+◌, ◌-◌, List, [], ◌∷◌, ◌++◌, length, inl, inr, refl, sym, ap, subst, ◌∙◌, arith, append_assoc, append-nil}
-use Rattle.std.specs.Prelude.{if◌then◌else◌, IsFalse, insert}
+use Rattle.std.proofs.Common.{◌≡◌, true, false, ℕ, ◌+◌, ◌-◌, List, [], ◌∷◌, ◌++◌, length, inl, inr, refl, sym, ap, subst, ◌∙◌, arith, append_assoc, append-nil, if◌then◌else◌, IsFalse, insert, length-append}
 use Rattle.std.specs.List.{AllByRecursion}
 use Rattle.std.proofs.lemmas.List.Edits.{insert-append_right}
-use Rattle.std.proofs.lemmas.List.{length-append}
 use Rattle.lt_modes.specs.declared.ask.Ask.{Ask}
-use Rattle.lt_modes.specs.Queue.{after_holders_from, place}
+use Rattle.lt_modes.specs.State.{after_holders_from, place}
 use Rattle.lt_lists.proofs.AllLemmas.{all_append}
-use Rattle.lt_law_accounts.specs.RuleLaws.{EndsWithHolder, HolderEntersAfterHolders, OthersEnterLast}
+use Rattle.lt_law_accounts.specs.Account.{EndsWithHolder, HolderEntersAfterHolders, OthersEnterLast}
 
 abbrev IsNoHolder : Ask → Type 0
 IsNoHolder ask = IsFalse ask.holder

@@ -4,17 +4,11 @@ pub mod AccountDesk
 pub mod AccountFacts
 pub mod AccountGrants
 pub mod AccountPlay
-pub mod AccountRows
 pub mod AccountTells
 pub mod NewsLemmas
 pub mod Rows
-pub mod Unanswered
 pub mod Asks
-pub mod ModeMembers
-pub mod FirstAccount
 pub mod RowTotals
-pub mod AllKept
-pub mod AccountSettles
 pub mod AccountApplies
 pub mod Entering
 pub mod Parking

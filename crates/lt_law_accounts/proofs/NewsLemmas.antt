@@ -1,12 +1,9 @@
 -- The news of a node, as the desk freezes, as freezes arrive, and as the desk comes and goes.
-use Rattle.std.proofs.Common.{◌≡◌, ◌+◌, ◌<◌, ◌≤◌, inl, inr, List, Bool, true, false, refl, sym, ap, subst, arith, ◌∙◌}
-use Rattle.std.specs.Prelude.{nat_lt, Contains, if◌then◌else◌}
-use Rattle.std.proofs.lemmas.Bool.{both_ways, ltb-true, lt-ltb, cases_lt}
+use Rattle.std.proofs.Common.{◌≡◌, ◌+◌, ◌<◌, ◌≤◌, inl, inr, List, Bool, true, false, refl, sym, ap, subst, arith, ◌∙◌, nat_lt, Contains, if◌then◌else◌, ltb-true, lt-ltb}
+use Rattle.std.proofs.lemmas.Bool.{both_ways, cases_lt}
 use Rattle.lt_modes.specs.Modes.{has_none}
 use Rattle.lt_modes.proofs.ModeAlgebra.{same_modes-true}
-use Rattle.lt_law_accounts.specs.News.{News, Notice, NewsKept}
-use Rattle.lt_law_accounts.specs.NewsSteps.{MayTake}
-use Rattle.lt_law_accounts.specs.NewsLaws.{BeginsKeep, Changes, Sends, Spares, Keeps, TakesKeep, Leaves, Arrives, Reorders, FrozenAtRest}
+use Rattle.lt_law_accounts.specs.News.{News, Notice, NewsKept, MayTake, BeginsKeep, Changes, Sends, Spares, Keeps, TakesKeep, Leaves, Arrives, Reorders, FrozenAtRest}
 use Rattle.lt_lists.proofs.Members.{none_in}
 
 pub begins_kept : BeginsKeep

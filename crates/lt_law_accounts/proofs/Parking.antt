@@ -1,15 +1,14 @@
 -- What is parked, and which freeze is kept.
-use Rattle.std.proofs.Common.{◌≡◌, Bool, true, false, ℕ, Option, Some, None, inl, inr, refl, arith}
-use Rattle.std.specs.Prelude.{if◌then◌else◌, ◌==◌, ◌&&◌, ◌⊎◌, nat_lt}
-use Rattle.std.proofs.lemmas.Bool.{and_parts, and_from, eqb-true, eq-eqb, lt-ltb, ltb-true, false_from_ne_true}
+use Rattle.std.proofs.Common.{◌≡◌, Bool, true, false, ℕ, Option, Some, None, inl, inr, refl, arith, if◌then◌else◌, ◌==◌, ◌&&◌, ◌⊎◌, nat_lt, eqb-true, eq-eqb, lt-ltb, ltb-true}
+use Rattle.std.proofs.lemmas.Bool.{and_parts, and_from, false_from_ne_true}
 use Rattle.lt_modes.specs.declared.ask.Ask.{Ask}
 use Rattle.lt_modes.specs.declared.parts.Hoped.{Hoped}
 use Rattle.lt_modes.specs.Modes.{excludes_itself}
 use Rattle.lt_modes.specs.State.{SetState, Parked, ParkedAsk, ParkedTell}
-use Rattle.lt_modes.specs.Routing.{Parks, Goes, way, way_onward, hoped_way, is_behind}
-use Rattle.lt_modes.specs.Tells.{is_newer}
+use Rattle.lt_modes.specs.SetMove.{Parks, Goes, way, way_onward, hoped_way, is_behind}
+use Rattle.lt_modes.specs.Serving.{is_newer}
 use Rattle.lt_lists.proofs.Members.{list_any-at, list_any-which}
-use Rattle.lt_law_accounts.specs.RuleLaws.{IsBehindTaking, IsMarkedBehind, ParksBehindTakingAsk, KeepsFreezeOfSameNumber, TakesLaterFreeze}
+use Rattle.lt_law_accounts.specs.Account.{IsBehindTaking, IsMarkedBehind, ParksBehindTakingAsk, KeepsFreezeOfSameNumber, TakesLaterFreeze}
 
 is_older : Ask → Ask → Bool
 is_older ask own = excludes_itself own.mode && is_newer ask.stamp own.stamp

@@ -1,16 +1,13 @@
 -- How many locks of a client and a mode rows count.
-use Rattle.std.proofs.Common.{◌≡◌, ℕ, ◌+◌, ◌-◌, ◌<◌, ◌≤◌, List, [], ◌∷◌, ◌++◌, length, Option, Some, None, Bool, true, false, refl, sym, ap, arith, set as set_at, ◌∙◌}
-use Rattle.std.specs.Prelude.{◌==◌, ◌&&◌, not, if◌then◌else◌, remove, sum_by, slice_index_or}
-use Rattle.std.proofs.lemmas.Bool.{eq-eqb, eqb-true, and_parts, and_from, false≢true}
+use Rattle.std.proofs.Common.{◌≡◌, ℕ, ◌+◌, ◌-◌, ◌<◌, ◌≤◌, List, [], ◌∷◌, ◌++◌, length, Option, Some, None, Bool, true, false, refl, sym, ap, arith, set as set_at, ◌∙◌, ◌==◌, ◌&&◌, not, if◌then◌else◌, remove, sum_by, slice_index_or, eq-eqb, eqb-true}
+use Rattle.std.proofs.lemmas.Bool.{and_parts, and_from, false≢true}
 use Rattle.std.proofs.lemmas.List.Quantifiers.{position-Some}
 use Rattle.std.proofs.lemmas.List.Sums.{sum_by-cons, sum_by_push, sum_by-set, sum_by-remove}
 use Rattle.lt_modes.specs.declared.mode.Mode.{Mode}
 use Rattle.lt_modes.specs.declared.parts.Row.{Row}
-use Rattle.lt_modes.specs.Modes.{same_mode}
-use Rattle.lt_modes.specs.Held.{is_row_of, no_row, row_place, one_more, one_less, add_at, add_lock, take_at, take_lock, without_client}
-use Rattle.lt_modes.proofs.ModeAlgebra.{has-itself}
+use Rattle.lt_modes.specs.Modes.{same_mode, is_row_of, no_row, row_place, one_more, one_less, add_at, add_lock, take_at, take_lock, without_client}
+use Rattle.lt_modes.proofs.ModeAlgebra.{has-itself, same_mode-true}
 use Rattle.lt_lists.proofs.Sums.{none_found, sum_by-zero}
-use Rattle.lt_modes.proofs.EachMode.{same_mode-true}
 
 -- the locks of the client and the mode in these rows
 abbrev pub row_count : ℕ → Mode → Row → ℕ

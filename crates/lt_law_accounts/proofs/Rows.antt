@@ -1,18 +1,14 @@
 -- Which rows a node has with one lock more, with one less, and without a client; and which modes they hold.
-use Rattle.std.proofs.Common.{◌≡◌, ◌≢◌, ℕ, ◌<◌, inl, inr, List, [], ◌∷◌, length, Option, Some, None, Bool, true, false, refl, sym, ap, subst, arith, ◌∙◌}
-use Rattle.std.specs.Prelude.{◌⊎◌, ◌==◌, not, if◌then◌else◌, IsTrue, Contains, fold, remove, slice_index_or, slice_set}
-use Rattle.std.proofs.lemmas.Bool.{eqb-true, eq-eqb, ne_eqb}
+use Rattle.std.proofs.Common.{◌≡◌, ◌≢◌, ℕ, ◌<◌, inl, inr, List, [], ◌∷◌, length, Option, Some, None, Bool, true, false, refl, sym, ap, subst, arith, ◌∙◌, ◌⊎◌, ◌==◌, not, if◌then◌else◌, IsTrue, Contains, fold, remove, slice_index_or, slice_set, eqb-true, eq-eqb, ne_eqb}
 use Rattle.std.proofs.lemmas.List.Elements.{Contains-get_or, Contains-push_cases}
 use Rattle.std.proofs.lemmas.List.Quantifiers.{position-Some}
 use Rattle.lt_modes.specs.declared.mode.Mode.{Mode}
 use Rattle.lt_modes.specs.declared.parts.Row.{Row}
-use Rattle.lt_modes.specs.Modes.{Modes, has, no_modes, with_mode}
-use Rattle.lt_modes.specs.Held.{is_of, is_row_of, no_row, one_more, one_less, row_place, gather, add_at, add_lock, take_at, take_lock, without_client, own_modes, other_modes, held_modes}
+use Rattle.lt_modes.specs.Modes.{Modes, has, no_modes, with_mode, is_of, is_row_of, no_row, one_more, one_less, row_place, gather, add_at, add_lock, take_at, take_lock, without_client, own_modes, other_modes, held_modes}
 use Rattle.lt_modes.specs.Serving.{give_up}
-use Rattle.lt_modes.proofs.EachMode.{none_in_none}
-use Rattle.lt_law_accounts.proofs.ModeMembers.{has-with_mode, has-kept, has-added, mode_which, mode_at}
-use Rattle.lt_lists.proofs.EditedLists.{contains_set, contains_removed}
-use Rattle.lt_lists.proofs.Members.{contains_first, contains_later, contains_cases, contains_filtered}
+use Rattle.lt_modes.proofs.ModeAlgebra.{none_in_none}
+use Rattle.lt_law_accounts.proofs.AccountFacts.{has-with_mode, has-kept, has-added, mode_which, mode_at}
+use Rattle.lt_lists.proofs.Members.{contains_set, contains_removed, contains_first, contains_later, contains_cases, contains_filtered}
 
 -- a row of these has the client and the mode of this one
 pub record Was (rows : List Row) (row : Row) : Type 0 where

@@ -1,9 +1,4 @@
 pub mod Account
 pub mod AccountSteps
-pub mod AccountLaws
 pub mod AccountPlay
-pub mod AccountFacts
 pub mod News
-pub mod NewsSteps
-pub mod NewsLaws
-pub mod RuleLaws

@@ -1,8 +1,6 @@
-ghost use Rattle.lt_law_accounts.specs.AccountLaws.{Ticks, Ages, Asks, Grants, Unlocks, Drops, AnswersKeep, Owes, Delivers, Applies, AppliesStale, TellsKeep, Settles, Arrives, Rests, Freezes, Reorders, HoldClear};
-ghost use Rattle.lt_law_accounts.specs.AccountFacts.{OwedAreOnWay, OnWayAreOwed, TellKeepsWaiting, TwiceIsOnce, RecordBoundsHeld};
-ghost use Rattle.lt_law_accounts.specs.AccountPlay.{ClearStays, FirstAccounts, AnyOrder, FromTheStart};
-ghost use Rattle.lt_law_accounts.specs.RuleLaws.{DrawnByFirst, HolderEntersAfterHolders, OthersEnterLast, ParksBehindTakingAsk, KeepsFreezeOfSameNumber, TakesLaterFreeze};
-ghost use Rattle.lt_law_accounts.specs.NewsLaws.{BeginsKeep, Changes, Sends, Spares, Keeps, TakesKeep, Leaves, Arrives as NewsArrive, Reorders as NewsReorder, FrozenAtRest};
+ghost use Rattle.lt_law_accounts.specs.AccountPlay.{Ticks, Ages, Asks, Grants, Unlocks, Drops, AnswersKeep, Owes, Delivers, Applies, AppliesStale, TellsKeep, Settles, Arrives, Rests, Freezes, Reorders, HoldClear, ClearStays, FirstAccounts, AnyOrder, FromTheStart};
+ghost use Rattle.lt_law_accounts.specs.Account.{OwedAreOnWay, OnWayAreOwed, TellKeepsWaiting, TwiceIsOnce, RecordBoundsHeld, DrawnByFirst, HolderEntersAfterHolders, OthersEnterLast, ParksBehindTakingAsk, KeepsFreezeOfSameNumber, TakesLaterFreeze};
+ghost use Rattle.lt_law_accounts.specs.News.{BeginsKeep, Changes, Sends, Spares, Keeps, TakesKeep, Leaves, Arrives as NewsArrive, Reorders as NewsReorder, FrozenAtRest};
 
 /// What can happen to the account of a node keeps it. What counts of the node then bars the same, or less, or one mode
 /// more, which no other node bars.

@@ -1,7 +1,6 @@
 -- The order in which clients act, and how many places it has.
-use Rattle.std.proofs.Common.{◌≡◌, ◌≢◌, Bool, true, false, ℕ, zero, suc, ◌<◌, ◌≤◌, ◌+◌, Option, Some, None, inl, inr, ◌⊎◌, refl, sym, ◌∙◌, length, arith}
-use Rattle.std.specs.Prelude.{◌||◌, ◌&&◌, ◌==◌, ◌↔◌, nat_lt, IsNone, option_and_then}
-use Rattle.std.proofs.lemmas.Bool.{and_parts, and_from, or_cases, or_left, or_right, and_right, false_from_ne_true, cases_order, ltb-true, lt-ltb, eqb-true, eq-eqb, false≢true}
+use Rattle.std.proofs.Common.{◌≡◌, ◌≢◌, Bool, true, false, ℕ, zero, suc, ◌<◌, ◌≤◌, ◌+◌, Option, Some, None, inl, inr, ◌⊎◌, refl, sym, ◌∙◌, length, arith, ◌||◌, ◌&&◌, ◌==◌, ◌↔◌, nat_lt, IsNone, option_and_then, ltb-true, lt-ltb, eqb-true, eq-eqb}
+use Rattle.std.proofs.lemmas.Bool.{and_parts, and_from, or_cases, or_left, or_right, and_right, false_from_ne_true, cases_order, false≢true}
 use Rattle.std.proofs.lemmas.Bool.Decides.{nat_tests}
 use Rattle.lt_modes.specs.Script.{ScriptData}
 use Rattle.lt_spec.specs.World.{World, made_by, is_runnable}

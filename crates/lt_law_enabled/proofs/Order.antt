@@ -1,15 +1,13 @@
 -- Where a world rests, which moves are enabled, and which of them is first.
-use Rattle.std.proofs.Common.{◌≡◌, ◌≢◌, Bool, true, false, ℕ, zero, suc, ◌<◌, ◌≤◌, ◌-◌, List, [], ◌∷◌, length, Option, Some, None, inl, inr, refl, sym, ap, subst, ◌∙◌, arith}
-use Rattle.std.specs.Prelude.{◌&&◌, ◌==◌, ◌↔◌, not, nat_lt, if◌then◌else◌, IsTrue, IsFalse, IsNone, Contains, is_some, slice_get, option_map}
-use Rattle.std.proofs.lemmas.Bool.{and_parts, and_from, or_cases, not-true, eqb-true, eq-eqb, ne_eqb, ltb-true, ltb-false, lt-ltb, false_from_ne_true, false≢true, cases_eq}
+use Rattle.std.proofs.Common.{◌≡◌, ◌≢◌, Bool, true, false, ℕ, zero, suc, ◌<◌, ◌≤◌, ◌-◌, List, [], ◌∷◌, length, Option, Some, None, inl, inr, refl, sym, ap, subst, ◌∙◌, arith, ◌&&◌, ◌==◌, ◌↔◌, not, nat_lt, if◌then◌else◌, IsTrue, IsFalse, IsNone, Contains, is_some, slice_get, option_map, eqb-true, eq-eqb, ne_eqb, ltb-true, ltb-false, lt-ltb}
+use Rattle.std.proofs.lemmas.Bool.{and_parts, and_from, or_cases, not-true, false_from_ne_true, false≢true, cases_eq}
 use Rattle.lt_modes.specs.declared.ask.Ask.{Ask}
 use Rattle.lt_modes.specs.declared.moves.Step.{Step}
 use Rattle.lt_modes.specs.declared.moves.Step.TheVariants.{Act, Take}
 use Rattle.lt_modes.specs.Script.{ScriptData}
 use Rattle.lt_modes.specs.State.{Letter}
 use Rattle.lt_modes.specs.Serving.{waits}
-use Rattle.lt_spec.specs.Families.{home, commands_of}
-use Rattle.lt_spec.specs.NodeMove.{node_waits, has_command}
+use Rattle.lt_spec.specs.NodeMove.{home, commands_of, node_waits, has_command}
 use Rattle.lt_spec.specs.World.{World, made_by, is_waiting, is_runnable, is_some_letter, has_mail, is_enabled, is_at_rest}
 use Rattle.lt_spec.specs.FixedOrder.{Turn, act_turn, takes, next_act, act_after, acts_before, count_turns}
 use Rattle.lt_lists.specs.Below.{any_below}

@@ -1,8 +1,7 @@
 -- The order of takes.
-use Rattle.std.proofs.Common.{◌≡◌, Bool, true, false, ℕ, zero, suc, ◌<◌, ◌≤◌, ◌+◌, List, [], ◌∷◌, ◌++◌, inl, inr, refl, sym, subst, ◌∙◌, arith, map, filter, flat_map}
-use Rattle.std.specs.Prelude.{nat_lt, if◌then◌else◌}
+use Rattle.std.proofs.Common.{◌≡◌, Bool, true, false, ℕ, zero, suc, ◌<◌, ◌≤◌, ◌+◌, List, [], ◌∷◌, ◌++◌, inl, inr, refl, sym, subst, ◌∙◌, arith, map, filter, flat_map, nat_lt, if◌then◌else◌, ltb-true}
 use Rattle.std.specs.List.{range_with_len}
-use Rattle.std.proofs.lemmas.Bool.{and_parts, ltb-true, false≢true, cases_lt, cases_order}
+use Rattle.std.proofs.lemmas.Bool.{and_parts, false≢true, cases_lt, cases_order}
 use Rattle.lt_modes.specs.Script.{ScriptData}
 use Rattle.lt_spec.specs.World.{World, has_mail}
 use Rattle.lt_spec.specs.FixedOrder.{Turn, take_turn, senders}

@@ -4,7 +4,7 @@ use Rattle.lt_modes.specs.declared.ask.Ask.{Ask}
 use Rattle.lt_modes.specs.declared.moves.Step.{Step}
 use Rattle.lt_modes.specs.declared.moves.Step.TheVariants.{Act, Take}
 use Rattle.lt_modes.specs.Script.{ScriptData}
-use Rattle.lt_spec.specs.Families.{home, commands_of}
+use Rattle.lt_spec.specs.NodeMove.{home, commands_of}
 use Rattle.lt_spec.specs.World.{World, made_by, is_enabled, is_at_rest}
 use Rattle.lt_spec.specs.FixedOrder.{Turn, count_turns, pick}
 

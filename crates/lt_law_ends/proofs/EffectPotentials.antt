@@ -1,37 +1,18 @@
 -- What the effects of a move do to the token moves that may still come: a service, freezes, the desk that leaves, letters sent on.
-use Rattle.std.proofs.Common.{◌≡◌, ◌≢◌, ◌⊎◌, inl, inr, ℕ, zero, suc, ◌+◌, ◌<◌, ◌≤◌, List, [], ◌∷◌, ◌++◌, length, map, Option, Some, None, Bool, true, false, refl, sym, ap, subst, arith, ◌∙◌, take as take_first, drop as drop_front, length-set}
-use Rattle.std.specs.Prelude.{◌==◌, ◌&&◌, ◌||◌, not, nat_lt, if◌then◌else◌, IsTrue, fold, remove, sum_by, slice_set, slice_index_or}
-use Rattle.std.specs.List.{AllByRecursion}
-use Rattle.std.proofs.lemmas.Bool.{cases_eq, eq-eqb, ne_eqb, eqb-true, and_parts, and_from, or_cases, or_left, or_right, not-true, false≢true}
-use Rattle.std.proofs.lemmas.List.{take-append-drop, get_or-set_same, get_or-set_other}
+use Rattle.std.proofs.Common.{◌≡◌, ◌⊎◌, inl, inr, ℕ, ◌+◌, ◌<◌, ◌≤◌, List, [], ◌∷◌, ◌++◌, length, map, Option, Some, None, Bool, true, false, refl, sym, ap, subst, arith, ◌∙◌, take as take_first, drop as drop_front, ◌==◌, ◌&&◌, not, if◌then◌else◌, fold, remove, sum_by, slice_set, slice_index_or, eq-eqb, take-append-drop}
+use Rattle.std.proofs.lemmas.Bool.{false≢true}
 use Rattle.std.proofs.lemmas.List.Sums.{sum_by-append, sum_by-cons, sum_by_push, sum_by-remove}
-use Rattle.lt_modes.specs.declared.mode.Mode.{Mode}
 use Rattle.lt_modes.specs.declared.stamp.Stamp.{Stamp}
 use Rattle.lt_modes.specs.declared.ask.Ask.{Ask}
-use Rattle.lt_modes.specs.declared.parts.Link.{Link}
-use Rattle.lt_modes.specs.declared.parts.Row.{Row}
-use Rattle.lt_modes.specs.Modes.{Modes, no_modes, excludes_itself, has, union, with_mode, bars, same_modes}
-use Rattle.lt_modes.specs.Held.{held_modes, other_modes, take_lock}
-use Rattle.lt_modes.specs.State.{SetState, Desk, Body, AskBody, TellBody, CopyBody, TokenBody, FreezeBody, Letter, Parked, ParkedAsk, ParkedTell, first_entry}
-use Rattle.lt_modes.specs.Made.{Made, Post, silent, post_of}
-use Rattle.lt_modes.specs.Queue.{place, no_ask}
-use Rattle.lt_modes.specs.Records.{record_of, entry_of, own_owed, own_part, modes_at, others_below, others}
-use Rattle.lt_modes.specs.Serving.{queue_of, queue_of_desk, put_queue, owed_at, owing, ask_at, is_free, is_local, is_copy, is_clear_at_home, is_served, next_from, next_at, next_service, may_draw, draw_from, move_at, next_draw, served, serve_one, serve_local, serve_copy}
+use Rattle.lt_modes.specs.Modes.{Modes, no_modes, excludes_itself, bars, same_modes, held_modes}
+use Rattle.lt_modes.specs.State.{SetState, Desk, Body, CopyBody, TokenBody, FreezeBody, Letter, Parked, ParkedAsk, ParkedTell, Made, Post, silent, post_of, place, no_ask, entry_of}
+use Rattle.lt_modes.specs.Serving.{queue_of, queue_of_desk, put_queue, owed_at, owing, ask_at, next_service, draw_from, move_at, next_draw, served, serve_one, serve_local, serve_copy, hand_over_to, leaving}
 use Rattle.lt_modes.specs.Freezing.{freeze, freeze_at, frozen_by, targets, number_after}
-use Rattle.lt_modes.specs.HandingOver.{hand_over_to, leaving, settled}
-use Rattle.lt_modes.specs.Routing.{Way, Parks, Goes, learn, dealt, body_of, reversed, sent_on, route}
-use Rattle.lt_modes.specs.Telling.{tell_of, make_tell}
-use Rattle.lt_modes.specs.Taking.{take_body, take_copy, take_token, arrive}
-use Rattle.lt_modes.specs.SetMove.{ask_of, asked, given, dropped, take}
+use Rattle.lt_modes.specs.SetMove.{Way, Parks, Goes, dealt, body_of, reversed, sent_on, route, tell_of, make_tell, asked}
 use Rattle.lt_spec.specs.Facts.{tokens_in}
-use Rattle.lt_law_accounts.specs.Account.{IsBelow}
-use Rattle.lt_law_accounts.proofs.AccountFacts.{bars_not, not_bars, below_by_members}
-use Rattle.lt_law_accounts.proofs.ModeMembers.{has-union, has-left, has-right}
-use Rattle.lt_law_accounts.proofs.Rows.{other-which, held-at}
 use Rattle.lt_model.specs.PathEffects.{posts_weight}
-use Rattle.lt_model.proofs.Effects.{Fact, HoldsOf, EndEffects, ActEffects, ByEffects, route_ways, next_service-within, acts_by_effects, take_by_effects}
-use Rattle.lt_model.proofs.NodeEffects.{IsOfSet}
-use Rattle.lt_law_ends.specs.Potential.{records_below, records_without, is_sure_from, is_sure, away, queue_potential, desk_potential, token_potential, parked_potential, due_potential, here_potential, state_potential, body_potential}
+use Rattle.lt_model.proofs.Effects.{Fact, HoldsOf, route_ways}
+use Rattle.lt_law_ends.specs.Weights.{is_sure, away, queue_potential, desk_potential, token_potential, parked_potential, due_potential, here_potential, state_potential, body_potential}
 use Rattle.lt_law_ends.proofs.SureAsks.{IsDrawn, draws_from}
 use Rattle.lt_law_ends.proofs.EffectWeights.{same_itself}
 

@@ -1,35 +1,24 @@
 -- What a command of a client does to the weight of its node, and to the number of commands left.
-use Rattle.std.proofs.Common.{◌≡◌, ◌≢◌, ◌⊎◌, inl, inr, ℕ, ◌+◌, ◌<◌, ◌≤◌, List, [], ◌∷◌, length, Option, Some, None, Bool, true, false, refl, sym, ap, subst, arith, ◌∙◌}
-use Rattle.std.specs.Prelude.{◌==◌, ◌&&◌, ◌-◌, not, nat_lt, if◌then◌else◌, IfSome, IsTrue, Contains, sum_by, slice_get, slice_index, slice_index_or, drop as drop_rest}
+use Rattle.std.proofs.Common.{◌≡◌, inl, inr, ℕ, ◌+◌, ◌<◌, ◌≤◌, List, [], ◌∷◌, length, Option, Some, None, Bool, true, false, refl, sym, ap, subst, arith, ◌∙◌, ◌==◌, ◌&&◌, not, nat_lt, if◌then◌else◌, IsTrue, sum_by, eq-eqb, ne_eqb, ltb-true}
 use Rattle.std.specs.List.{AllByRecursion}
-use Rattle.std.proofs.lemmas.Bool.{cases_eq, cases_lt, eq-eqb, ne_eqb, and_parts, ltb-true, lt-ltb}
-use Rattle.std.proofs.lemmas.Option.{slice_get-get_or}
-use Rattle.std.proofs.lemmas.List.Sums.{sum_by-append, sum_by-cons, sum_by-drop_more}
-use Rattle.lt_modes.specs.declared.mode.Mode.TheVariants.{IntentionRead}
+use Rattle.std.proofs.lemmas.Bool.{cases_eq, and_parts}
+use Rattle.std.proofs.lemmas.List.Sums.{sum_by-append, sum_by-cons}
 use Rattle.lt_modes.specs.declared.stamp.Stamp.{Stamp}
-use Rattle.lt_modes.specs.declared.parts.Link.{Link}
 use Rattle.lt_modes.specs.declared.command.Command.{Command}
 use Rattle.lt_modes.specs.declared.command.Command.TheVariants.{Lock, Unlock, Try, Change, DropAll}
-use Rattle.lt_modes.specs.declared.moves.Step.TheVariants.{Act, Take}
+use Rattle.lt_modes.specs.declared.moves.Step.TheVariants.{Act}
 use Rattle.lt_modes.specs.Script.{ScriptData, SetData}
-use Rattle.lt_modes.specs.State.{SetState, Desk, Body, AskBody, TellBody, CopyBody, TokenBody, FreezeBody, Letter}
-use Rattle.lt_modes.specs.Made.{Made, Post}
-use Rattle.lt_modes.specs.Places.{cons_if, places_from}
-use Rattle.lt_modes.specs.Routing.{learn}
-use Rattle.lt_modes.specs.Telling.{finish}
-use Rattle.lt_modes.specs.SetMove.{drop, take}
-use Rattle.lt_lists.specs.Below.{put, sum_below}
+use Rattle.lt_modes.specs.State.{SetState, Letter, Made, Post}
+use Rattle.lt_modes.specs.Freezing.{cons_if, places_from}
+use Rattle.lt_modes.specs.SetMove.{finish, drop}
+use Rattle.lt_lists.specs.Below.{put}
 use Rattle.lt_lists.proofs.Puts.{put-same, put-other}
-use Rattle.lt_lists.proofs.Sums.{sum_below-same, sum_below-change}
-use Rattle.lt_spec.specs.Families.{commands_of, home, family, related}
-use Rattle.lt_spec.specs.NodeMove.{NodeState, NodeMade, node_waits, has_command, next_command, touched, each_touched, drop_all, obey, act_stamp, take_stamp, at_clock, one_made, node_act, node_take}
-use Rattle.lt_spec.specs.World.{World, made_by, is_waiting, is_runnable, is_enabled, opened, put_mail, sent, after_made, after}
-use Rattle.lt_spec.specs.WholeScripts.{IsWhole, HasTargetsAt}
-use Rattle.lt_model.specs.Paths.{IsTrueLink, KnowsLater, HasWay, BodyOnPath, Paths}
+use Rattle.lt_lists.proofs.Sums.{sum_below-change}
+use Rattle.lt_spec.specs.NodeMove.{commands_of, home, family, related, NodeState, NodeMade, node_waits, has_command, next_command, touched, each_touched, drop_all, obey, act_stamp, at_clock, one_made, node_act, HasTargetsAt}
+use Rattle.lt_spec.specs.World.{World, made_by, is_waiting, is_runnable, is_enabled, after_made, after}
 use Rattle.lt_model.specs.PathEffects.{posts_weight}
-use Rattle.lt_model.proofs.Letters.{mail_weight, IsCounted, mail_weight-sent, mail_weight-taken}
-use Rattle.lt_model.proofs.HomesMove.{next_targets, related_below, IsMaker, maker}
-use Rattle.lt_law_ends.specs.Weights.{tell_weight, ask_weight, letter_weight, state_weight, command_cost, command_weight, left_weight, node_weight, world_weight}
+use Rattle.lt_model.proofs.HomesMove.{related_below}
+use Rattle.lt_law_ends.specs.Weights.{tell_weight, ask_weight, letter_weight, state_weight, command_cost, node_weight}
 use Rattle.lt_law_ends.proofs.StateWeights.{drop_weighs, finish_weighs, weighs_moves, weighs_within}
 use Rattle.lt_law_ends.proofs.EffectWeights.{IsFit, Weighs}
 

@@ -1,33 +1,15 @@
 -- What asks and tells do to the weight of a set at a node: at the desk, parked, or sent on.
-use Rattle.std.proofs.Common.{◌≡◌, ◌⊎◌, inl, inr, ℕ, ◌+◌, ◌<◌, ◌≤◌, List, [], ◌∷◌, ◌++◌, length, map, Option, Some, None, Bool, true, false, refl, sym, ap, subst, arith, ◌∙◌, take as take_first, drop as drop_front, length-set}
-use Rattle.std.proofs.Math.Seq.{set_out}
-use Rattle.std.specs.Prelude.{◌==◌, ◌&&◌, ◌||◌, ◌-◌, not, nat_lt, if◌then◌else◌, IfSome, fold, remove, sum_by, count_by, slice_set}
-use Rattle.std.proofs.lemmas.Bool.{cases_lt, lt-ltb}
-use Rattle.std.proofs.lemmas.List.{take-append-drop}
-use Rattle.std.proofs.lemmas.List.Sums.{sum_by-append, sum_by-cons, sum_by_push, sum_by-set, sum_by-remove, count_by-le-length}
-use Rattle.lt_modes.specs.declared.mode.Mode.TheVariants.{IntentionRead, Read, Upgrade, IntentionWrite, ReadIntentionWrite, Write}
+use Rattle.std.proofs.Common.{◌≡◌, ℕ, ◌+◌, ◌≤◌, List, [], ◌∷◌, ◌++◌, Option, Some, None, Bool, true, false, refl, ap, subst, arith, take as take_first, drop as drop_front, length-set, ◌==◌, ◌&&◌, ◌-◌, not, if◌then◌else◌, IfSome, fold, sum_by, take-append-drop}
+use Rattle.std.proofs.lemmas.List.Sums.{sum_by-append, sum_by-cons, sum_by_push}
 use Rattle.lt_modes.specs.declared.stamp.Stamp.{Stamp}
 use Rattle.lt_modes.specs.declared.ask.Ask.{Ask}
-use Rattle.lt_modes.specs.declared.parts.Link.{Link}
-use Rattle.lt_modes.specs.declared.parts.Row.{Row}
-use Rattle.lt_modes.specs.Modes.{Modes, excludes_itself, has, bars, has_none, is_within, same_modes}
-use Rattle.lt_modes.specs.Held.{held_modes, take_lock, without_client}
-use Rattle.lt_modes.specs.State.{SetState, Desk, Entry, Body, AskBody, TellBody, CopyBody, TokenBody, FreezeBody, Letter, Parked, ParkedAsk, ParkedTell}
-use Rattle.lt_modes.specs.Made.{Made, Post, silent, post_of}
-use Rattle.lt_modes.specs.Places.{cons_if, places_from, map_from}
-use Rattle.lt_modes.specs.Queue.{place, no_ask}
-use Rattle.lt_modes.specs.Records.{record_of, entry_of}
-use Rattle.lt_modes.specs.Tells.{told}
-use Rattle.lt_modes.specs.Serving.{queue_of, queue_of_desk, put_queue, owed_at, owing, ask_at, served, serve_one, serve_local, serve_copy}
-use Rattle.lt_modes.specs.Freezing.{freeze, freeze_at, frozen_by, is_target, targets, frozen_entry, number_after}
-use Rattle.lt_modes.specs.HandingOver.{hand_over_to, settled}
-use Rattle.lt_modes.specs.Routing.{Way, Parks, Goes, learn, dealt, body_of, reversed, sent_on, route, way, way_onward, is_behind}
-use Rattle.lt_modes.specs.Telling.{tell_of, make_tell, finish}
-use Rattle.lt_modes.specs.Taking.{take_body, take_copy, arrive}
-use Rattle.lt_modes.specs.SetMove.{ask_of, asked, given, dropped, take}
-use Rattle.lt_model.specs.PathEffects.{posts_weight}
-use Rattle.lt_model.proofs.Effects.{Fact, HoldsOf, EndEffects, ActEffects, ByEffects, route_ways, next_service-within, acts_by_effects, finish_by_effects, take_by_effects}
-use Rattle.lt_law_ends.specs.Weights.{tell_weight, queued_weight, outside_weight, ask_weight, is_untold, untold, desk_weight, parked_weight, body_weight, letter_weight, due_weight, here_weight, state_weight}
+use Rattle.lt_modes.specs.Modes.{excludes_itself, bars, same_modes, held_modes}
+use Rattle.lt_modes.specs.State.{SetState, Desk, Parked, ParkedAsk, ParkedTell, silent, place, entry_of}
+use Rattle.lt_modes.specs.Freezing.{frozen_by}
+use Rattle.lt_modes.specs.Serving.{told}
+use Rattle.lt_modes.specs.SetMove.{Way, Parks, Goes, dealt, body_of, reversed, sent_on, route, way, way_onward, tell_of, make_tell, asked}
+use Rattle.lt_model.proofs.Effects.{route_ways}
+use Rattle.lt_law_ends.specs.Weights.{tell_weight, queued_weight, ask_weight, is_untold, desk_weight, parked_weight, body_weight, due_weight, here_weight, state_weight}
 use Rattle.lt_law_ends.proofs.EffectWeights.{IsDeskFit, IsFit, Weighs, count-set, few_untold, same_itself}
 
 -- what the desk deals with

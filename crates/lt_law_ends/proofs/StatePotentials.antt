@@ -1,37 +1,19 @@
 -- What a move of a set at its node does to the token moves that may still come.
-use Rattle.std.proofs.Common.{◌≡◌, ◌≢◌, ◌⊎◌, inl, inr, ℕ, zero, suc, ◌+◌, ◌<◌, ◌≤◌, List, [], ◌∷◌, ◌++◌, length, map, Option, Some, None, Bool, true, false, refl, sym, ap, subst, arith, ◌∙◌, take as take_first, drop as drop_front, length-set}
-use Rattle.std.specs.Prelude.{◌==◌, ◌&&◌, ◌||◌, not, nat_lt, if◌then◌else◌, IsTrue, fold, remove, sum_by, slice_set, slice_index_or}
+use Rattle.std.proofs.Common.{◌≡◌, ◌≢◌, inl, inr, ℕ, ◌+◌, ◌<◌, ◌≤◌, List, [], ◌∷◌, length, Option, Some, None, Bool, true, false, refl, sym, ap, subst, arith, ◌∙◌, nat_lt, if◌then◌else◌, fold, ne_eqb}
 use Rattle.std.specs.List.{AllByRecursion}
-use Rattle.std.proofs.lemmas.Bool.{cases_eq, eq-eqb, ne_eqb, eqb-true, and_parts, and_from, or_cases, or_left, or_right, not-true, false≢true}
-use Rattle.std.proofs.lemmas.List.{take-append-drop, get_or-set_same, get_or-set_other}
-use Rattle.std.proofs.lemmas.List.Sums.{sum_by-append, sum_by-cons, sum_by_push, sum_by-remove}
-use Rattle.lt_modes.specs.declared.mode.Mode.{Mode}
+use Rattle.std.proofs.lemmas.List.Sums.{sum_by-append, sum_by-cons}
 use Rattle.lt_modes.specs.declared.stamp.Stamp.{Stamp}
-use Rattle.lt_modes.specs.declared.ask.Ask.{Ask}
 use Rattle.lt_modes.specs.declared.parts.Link.{Link}
 use Rattle.lt_modes.specs.declared.parts.Row.{Row}
-use Rattle.lt_modes.specs.Modes.{Modes, no_modes, excludes_itself, has, union, with_mode, bars, same_modes}
-use Rattle.lt_modes.specs.Held.{held_modes, other_modes, take_lock}
-use Rattle.lt_modes.specs.State.{SetState, Desk, Body, AskBody, TellBody, CopyBody, TokenBody, FreezeBody, Letter, Parked, ParkedAsk, ParkedTell, first_entry}
-use Rattle.lt_modes.specs.Made.{Made, Post, silent, post_of}
-use Rattle.lt_modes.specs.Queue.{place, no_ask}
-use Rattle.lt_modes.specs.Records.{record_of, entry_of, own_owed, own_part, modes_at, others_below, others}
-use Rattle.lt_modes.specs.Serving.{queue_of, queue_of_desk, put_queue, owed_at, owing, ask_at, is_free, is_local, is_copy, is_clear_at_home, is_served, next_from, next_at, next_service, may_draw, draw_from, move_at, next_draw, served, serve_one, serve_local, serve_copy}
-use Rattle.lt_modes.specs.Freezing.{freeze, freeze_at, frozen_by, targets, number_after}
-use Rattle.lt_modes.specs.HandingOver.{hand_over_to, leaving, settled}
-use Rattle.lt_modes.specs.Routing.{Way, Parks, Goes, learn, dealt, body_of, reversed, sent_on, route}
-use Rattle.lt_modes.specs.Telling.{tell_of, make_tell}
-use Rattle.lt_modes.specs.Taking.{take_body, take_copy, take_token, arrive}
-use Rattle.lt_modes.specs.SetMove.{ask_of, asked, given, dropped, take}
-use Rattle.lt_spec.specs.Facts.{tokens_in}
-use Rattle.lt_law_accounts.specs.Account.{IsBelow}
-use Rattle.lt_law_accounts.proofs.AccountFacts.{bars_not, not_bars, below_by_members}
-use Rattle.lt_law_accounts.proofs.ModeMembers.{has-union, has-left, has-right}
-use Rattle.lt_law_accounts.proofs.Rows.{other-which, held-at}
+use Rattle.lt_modes.specs.Modes.{Modes, no_modes, bars, same_modes, held_modes, take_lock}
+use Rattle.lt_modes.specs.State.{SetState, Desk, Body, AskBody, TellBody, CopyBody, TokenBody, FreezeBody, Letter, Parked, ParkedAsk, ParkedTell, Post, silent}
+use Rattle.lt_modes.specs.Serving.{queue_of, ask_at, next_at, next_service, serve_one, hand_over_to}
+use Rattle.lt_modes.specs.Freezing.{freeze}
+use Rattle.lt_modes.specs.SetMove.{learn, dealt, make_tell, take_body, take_copy, take_token, arrive, ask_of, asked, given, dropped, take}
 use Rattle.lt_model.specs.PathEffects.{posts_weight}
-use Rattle.lt_model.proofs.Effects.{Fact, HoldsOf, EndEffects, ActEffects, ByEffects, route_ways, next_service-within, acts_by_effects, take_by_effects}
+use Rattle.lt_model.proofs.Effects.{HoldsOf, EndEffects, ActEffects, ByEffects, next_service-within, acts_by_effects, take_by_effects}
 use Rattle.lt_model.proofs.NodeEffects.{IsOfSet}
-use Rattle.lt_law_ends.specs.Potential.{records_below, records_without, is_sure_from, is_sure, away, queue_potential, desk_potential, token_potential, parked_potential, due_potential, here_potential, state_potential, body_potential}
+use Rattle.lt_law_ends.specs.Weights.{is_sure, away, queue_potential, desk_potential, token_potential, here_potential, state_potential, body_potential}
 use Rattle.lt_law_ends.proofs.EffectPotentials.{Keeps, KeepsWith, Owes, asks_potential, away_most, base_less, base_potential, dealt_queue, due_at_most, freezes_potential, keeps_then, leaves_potential, route_potential, sent_potential, serves_potential, tells_potential}
 use Rattle.lt_law_ends.proofs.SureAsks.{IsBound, serves_sure}
 

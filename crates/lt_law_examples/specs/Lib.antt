@@ -12,4 +12,3 @@ pub mod WorldDrop
 pub mod WorldOrder
 pub mod WorldCopy
 pub mod WorldExamples
-pub mod WorkedSixth

@@ -1,9 +1,8 @@
 //! The rules as definitions give the worked examples, each computed whole by the proof.
-ghost use Rattle.lt_law_examples.specs.Worked.{IsFirstRun, IsWholeRun};
+ghost use Rattle.lt_law_examples.specs.Worked.{IsFirstRun, IsWholeRun, whole_read_beside_intention_read, upgrade_to_sixth};
 ghost use Rattle.lt_law_examples.specs.WorkedOneNode.{lock_then_unlock, write_in_turn, write_kept, many_locks, never_held, drop_in_family, holder_first, change_down, changes_wait};
 ghost use Rattle.lt_law_examples.specs.WorkedNodes.{read_everywhere, reader_draws_desk, token_to_writer, frozen_read, try_at_home, change_after_reader, changes_from_two_nodes, asks_park_behind, TwoAsksParked, marked_ask_parks, upgrade_with_readers, change_before_writer, drop_without_waiting, shared_with_upgrade};
 ghost use Rattle.lt_law_examples.specs.WorkedOrders.{late_copy, overtaking_tells, drop_at_desk, several_copies, copy_and_freeze, desk_with_copy_out, second_ask_bars, token_meets_parked, upgrades_in_turn, copy_after_move, change_to_write, old_freeze, old_tell};
-ghost use Rattle.lt_law_examples.specs.WorkedSixth.{whole_read_beside_intention_read, upgrade_to_sixth};
 ghost use Rattle.lt_law_examples.specs.WorkedLong.{freezes_overtake, copies_and_freezes, token_goes_round, token_comes_back, three_sets, upgrade_from_write, copies_stay_owed, owed_until_told};
 
 /// The worked examples on one node: the rules give these moves and lines.

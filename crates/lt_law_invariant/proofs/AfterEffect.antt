@@ -1,22 +1,18 @@
 -- The world after one effect of node q on a set: what states, clocks and letters it leaves, and what comes after it.
-use Rattle.std.proofs.Common.{◌≡◌, ◌≢◌, ℕ, ◌<◌, inl, inr, List, [], ◌∷◌, ◌++◌, Option, None, Bool, true, false, refl, sym, ap, ◌∙◌}
-use Rattle.std.specs.Prelude.{◌==◌, ◌⊎◌, if◌then◌else◌, Contains, slice_index_or}
-use Rattle.std.specs.List.{AllByRecursion, filter_map, cons_option}
+use Rattle.std.proofs.Common.{◌≡◌, ◌≢◌, ℕ, ◌<◌, inl, inr, List, [], ◌∷◌, ◌++◌, Option, None, Bool, true, false, refl, sym, ap, ◌∙◌, ◌==◌, ◌⊎◌, if◌then◌else◌, Contains, slice_index_or, filter_map, append-nil}
+use Rattle.std.specs.List.{AllByRecursion, cons_option}
 use Rattle.std.proofs.lemmas.Bool.{cases_eq}
-use Rattle.std.proofs.lemmas.List.{append-nil}
 use Rattle.std.proofs.lemmas.List.Elements.{filter_map-append, recursion_from_All, Contains-get_or}
 use Rattle.lt_modes.specs.Script.{ScriptData}
-use Rattle.lt_modes.specs.State.{SetState, Body, Letter}
-use Rattle.lt_modes.specs.Made.{Made, Post}
+use Rattle.lt_modes.specs.State.{SetState, Body, Letter, Made, Post}
 use Rattle.lt_spec.specs.NodeMove.{NodeState, touched}
 use Rattle.lt_spec.specs.World.{World, sent}
-use Rattle.lt_spec.specs.Facts.{state_at}
+use Rattle.lt_spec.specs.Facts.{state_at, Comes}
 use Rattle.lt_model.specs.OnWay.{in_set, copy_in, freeze_in, copies_to, freezes_to}
-use Rattle.lt_spec.specs.Desks.{Comes}
 use Rattle.lt_model.proofs.Letters.{letters_to, letters_to-same, letters_to-other, all_sent, still_on_way, sent_on_way}
 use Rattle.lt_lists.proofs.Puts.{put-same, put-other}
 use Rattle.lt_lists.proofs.Gathering.{gather_same}
-use Rattle.lt_law_invariant.specs.OneEffect.{after_effect}
+use Rattle.lt_law_invariant.specs.InvariantLaws.{after_effect}
 
 pub state_here : (w : World) (q s : ℕ) (m : Made) → state_at (after_effect w q s m) s q ≡ m.state
 state_here w q s m = ap (λ (n : NodeState). n.set s) (put-same w.node q (touched (w.node q) s m).node) ∙ put-same (w.node q).set s m.state

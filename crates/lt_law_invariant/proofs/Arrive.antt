@@ -1,30 +1,22 @@
 -- A letter arrives: from the ledgers before the move to those in the middle of it.
-use Rattle.std.proofs.Common.{◌≡◌, ℕ, ◌<◌, inl, inr, List, [], ◌∷◌, length, Option, Some, None, Bool, true, false, refl, sym, ap, subst, ◌∙◌}
-use Rattle.std.specs.Prelude.{if◌then◌else◌, Contains, fold, nat_lt}
+use Rattle.std.proofs.Common.{◌≡◌, ℕ, ◌<◌, inl, inr, List, [], ◌∷◌, length, Option, Some, None, Bool, true, false, refl, sym, ap, subst, ◌∙◌, if◌then◌else◌, Contains, fold, nat_lt, length-set}
 use Rattle.std.specs.List.{AllByRecursion}
-use Rattle.std.proofs.lemmas.List.{length-set}
 use Rattle.lt_modes.specs.declared.stamp.Stamp.{Stamp}
 use Rattle.lt_modes.specs.Script.{ScriptData}
-use Rattle.lt_modes.specs.State.{SetState, Desk, Body, AskBody, TellBody, CopyBody, TokenBody, FreezeBody, Parked, ParkedAsk, ParkedTell}
-use Rattle.lt_modes.specs.Made.{Made, silent}
-use Rattle.lt_modes.specs.Records.{entry_of}
-use Rattle.lt_modes.specs.Tells.{told, tell_applied}
-use Rattle.lt_modes.specs.Routing.{dealt, route, route_by}
-use Rattle.lt_modes.specs.Taking.{take_body, take_copy, take_freeze, take_token}
+use Rattle.lt_modes.specs.State.{SetState, Desk, Body, AskBody, TellBody, CopyBody, TokenBody, FreezeBody, Parked, ParkedAsk, ParkedTell, Made, silent, entry_of}
+use Rattle.lt_modes.specs.Serving.{told, tell_applied}
+use Rattle.lt_modes.specs.SetMove.{dealt, route, route_by, take_body, take_copy, take_freeze, take_token}
 use Rattle.lt_spec.specs.World.{World}
-use Rattle.lt_spec.specs.Facts.{state_at}
-use Rattle.lt_model.specs.Moments.{Acting}
-use Rattle.lt_model.specs.OnWay.{copies_to}
-use Rattle.lt_spec.specs.Desks.{DeskIs}
+use Rattle.lt_spec.specs.Facts.{state_at, DeskIs}
+use Rattle.lt_model.specs.OnWay.{Acting, copies_to}
 use Rattle.lt_model.specs.AccountRules.{IsParkedOf}
 use Rattle.lt_model.specs.Invariant.{DeskKept}
-use Rattle.lt_law_invariant.specs.OneEffect.{after_effect}
+use Rattle.lt_law_invariant.specs.InvariantLaws.{after_effect}
 use Rattle.lt_law_invariant.proofs.AfterEffect.{state_here}
 use Rattle.lt_law_invariant.proofs.OwnSteps.{HasDesk}
 use Rattle.lt_law_invariant.proofs.InHand.{InHand}
-use Rattle.lt_law_invariant.proofs.TakeCopy.{nothing_in_hand, take_copy_keeps}
-use Rattle.lt_law_invariant.proofs.TakeFreeze.{take_freeze_keeps}
-use Rattle.lt_law_invariant.proofs.TakeTell.{apply_keeps, route_tell_keeps}
+use Rattle.lt_law_invariant.proofs.TakeTell.{nothing_in_hand, take_copy_keeps, apply_keeps, route_tell_keeps}
+use Rattle.lt_law_invariant.proofs.Freezes.{take_freeze_keeps}
 use Rattle.lt_law_invariant.proofs.TakeToken.{token_keeps}
 use Rattle.lt_law_invariant.proofs.Ledgers.{Ledger, ledger_here, kept_here, desk_stays, routed, routed_desk, with_item}
 

@@ -1,7 +1,6 @@
 -- What clients hold and wait for in a set, through the commands of one of them.
-use Rattle.std.proofs.Common.{◌≡◌, ◌≢◌, ℕ, ◌+◌, ◌-◌, ◌≤◌, inl, inr, List, [], ◌∷◌, ◌++◌, Option, Some, None, Bool, true, false, refl, sym, ap, subst, arith, ◌∙◌}
-use Rattle.std.specs.Prelude.{◌⊎◌, ◌==◌, ◌&&◌, if◌then◌else◌, Contains, All, AllPairs, count_by, slice_index_or, is_none, sum_by}
-use Rattle.std.proofs.lemmas.Bool.{cases_eq, eq-eqb, ne_eqb, and_left}
+use Rattle.std.proofs.Common.{◌≡◌, ◌≢◌, ℕ, ◌+◌, ◌-◌, ◌≤◌, inl, inr, List, [], ◌∷◌, ◌++◌, Option, Some, None, Bool, true, false, refl, sym, ap, subst, arith, ◌∙◌, ◌⊎◌, ◌==◌, ◌&&◌, if◌then◌else◌, Contains, All, AllPairs, count_by, slice_index_or, is_none, sum_by, eq-eqb, ne_eqb}
+use Rattle.std.proofs.lemmas.Bool.{cases_eq, and_left}
 use Rattle.std.proofs.lemmas.List.Elements.{Contains-push_cases}
 use Rattle.std.proofs.lemmas.List.Quantifiers.{position-Some}
 use Rattle.std.proofs.lemmas.List.Sums.{get_or-le-sum_by}
@@ -10,19 +9,16 @@ use Rattle.lt_modes.specs.declared.stamp.Stamp.{Stamp}
 use Rattle.lt_modes.specs.declared.ask.Ask.{Ask}
 use Rattle.lt_modes.specs.declared.parts.Row.{Row}
 use Rattle.lt_modes.specs.declared.event.Event.TheVariants.{Try, Unlock, NotHeld, Change}
-use Rattle.lt_modes.specs.Modes.{same_mode}
-use Rattle.lt_modes.specs.State.{SetState, Desk, Parked, ParkedAsk}
-use Rattle.lt_modes.specs.Held.{is_row_of, no_row, row_place, count_at, count_of, add_lock, take_lock, without_client, locks_of}
-use Rattle.lt_modes.specs.Made.{Post}
-use Rattle.lt_modes.specs.Queue.{times_in}
-use Rattle.lt_modes.specs.Granting.{can_grant}
+use Rattle.lt_modes.specs.Modes.{same_mode, is_row_of, no_row, row_place, count_at, count_of, add_lock, take_lock, without_client, locks_of}
+use Rattle.lt_modes.specs.State.{SetState, Desk, Parked, ParkedAsk, Post, times_in}
+use Rattle.lt_modes.specs.Freezing.{can_grant}
 use Rattle.lt_modes.specs.Serving.{queue_of_desk, give_up}
 use Rattle.lt_modes.specs.SetMove.{answers, given, granted, ask_of, asked, locked, tried, unlocked, change_held, changed, dropped}
 use Rattle.lt_spec.specs.Facts.{times_parked}
-use Rattle.lt_model.specs.Standing.{IsMadeBy}
+use Rattle.lt_model.specs.Invariant.{IsMadeBy}
 use Rattle.lt_model.proofs.Effects.{Fact, HoldsOf, ActEffects, quiet_made, both}
 use Rattle.lt_model.proofs.StandingEffects.{standing_acts, asks-stands}
-use Rattle.lt_model.proofs.StandingParts.{Stands, stands}
+use Rattle.lt_model.proofs.SentInMove.{Stands, stands}
 use Rattle.lt_law_invariant.proofs.OwnSteps.{route_same}
 use Rattle.lt_law_accounts.proofs.RowTotals.{row_count, total, total_taken, total_dropped}
 use Rattle.lt_law_invariant.proofs.ClientCounts.{each_some, some_taken, some_dropped, locks_added, locks_fewer, locks_dropped, asks_pushed}

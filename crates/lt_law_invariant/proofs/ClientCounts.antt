@@ -1,7 +1,6 @@
 -- How many locks and asks a client has in a set, after rules changed them.
-use Rattle.std.proofs.Common.{◌≡◌, ◌≢◌, ℕ, suc, ◌+◌, ◌-◌, ◌<◌, ◌≤◌, List, [], ◌∷◌, ◌++◌, length, Option, Some, None, Bool, true, false, refl, sym, ap, arith, set as set_at, take as take_first, drop as drop_front, ◌∙◌}
-use Rattle.std.specs.Prelude.{◌==◌, not, if◌then◌else◌, Contains, All, AllPairs, filter, position, remove, sum_by, count_by, slice_index_or}
-use Rattle.std.proofs.lemmas.Bool.{eq-eqb, eqb-true, and_parts, and_from, false≢true}
+use Rattle.std.proofs.Common.{◌≡◌, ◌≢◌, ℕ, suc, ◌+◌, ◌-◌, ◌<◌, ◌≤◌, List, [], ◌∷◌, ◌++◌, length, Option, Some, None, Bool, true, false, refl, sym, ap, arith, set as set_at, take as take_first, drop as drop_front, ◌∙◌, ◌==◌, not, if◌then◌else◌, Contains, All, AllPairs, filter, position, remove, sum_by, count_by, slice_index_or, eq-eqb, eqb-true}
+use Rattle.std.proofs.lemmas.Bool.{and_parts, and_from, false≢true}
 use Rattle.std.proofs.lemmas.List.{get_or_default}
 use Rattle.std.proofs.lemmas.List.Elements.{All-push, All-set, All-append, All-take, All-drop, All-filter}
 use Rattle.std.proofs.lemmas.List.Quantifiers.{position-Some}
@@ -9,9 +8,8 @@ use Rattle.std.proofs.lemmas.List.Sums.{sum_by-cons, sum_by_push, sum_by-set, su
 use Rattle.lt_modes.specs.declared.mode.Mode.{Mode}
 use Rattle.lt_modes.specs.declared.ask.Ask.{Ask}
 use Rattle.lt_modes.specs.declared.parts.Row.{Row}
-use Rattle.lt_modes.specs.Modes.{same_mode}
-use Rattle.lt_modes.specs.Held.{is_row_of, is_of, no_row, row_place, one_more, one_less, add_at, add_lock, take_at, take_lock, without_client, locks_of}
-use Rattle.lt_modes.specs.Queue.{has_stamp, without, without_at}
+use Rattle.lt_modes.specs.Modes.{same_mode, is_row_of, is_of, no_row, row_place, one_more, one_less, add_at, add_lock, take_at, take_lock, without_client, locks_of}
+use Rattle.lt_modes.specs.State.{has_stamp, without, without_at}
 use Rattle.lt_law_accounts.proofs.Asks.{has_stamp-true}
 use Rattle.lt_law_accounts.proofs.AccountFacts.{same_by_stamp}
 use Rattle.lt_law_accounts.proofs.RowTotals.{row_count, total}

@@ -1,27 +1,21 @@
 -- What clients hold and wait for in a set, through answers and the end of a move.
-use Rattle.std.proofs.Common.{◌≡◌, ◌≢◌, ℕ, ◌+◌, ◌-◌, ◌≤◌, inl, inr, List, Option, Some, None, Bool, true, false, refl, sym, ap, subst, arith, ◌∙◌}
-use Rattle.std.specs.Prelude.{◌==◌, ◌&&◌, if◌then◌else◌, Contains, AllPairs, count_by, slice_index_or, is_none}
-use Rattle.std.proofs.lemmas.Bool.{cases_eq, eq-eqb, ne_eqb, eqb-true, and_left}
+use Rattle.std.proofs.Common.{◌≡◌, ◌≢◌, ℕ, ◌+◌, ◌-◌, ◌≤◌, inl, inr, List, Option, Some, None, Bool, true, false, refl, sym, ap, subst, arith, ◌∙◌, ◌==◌, ◌&&◌, if◌then◌else◌, Contains, AllPairs, count_by, slice_index_or, is_none, eq-eqb, ne_eqb, eqb-true}
+use Rattle.std.proofs.lemmas.Bool.{cases_eq, and_left}
 use Rattle.std.proofs.lemmas.List.{get_or_default}
 use Rattle.std.proofs.lemmas.List.Elements.{Contains-get_or}
 use Rattle.lt_modes.specs.declared.mode.Mode.{Mode}
 use Rattle.lt_modes.specs.declared.stamp.Stamp.{Stamp}
 use Rattle.lt_modes.specs.declared.ask.Ask.{Ask}
 use Rattle.lt_modes.specs.declared.parts.Row.{Row}
-use Rattle.lt_modes.specs.Modes.{same_mode}
-use Rattle.lt_modes.specs.State.{SetState, Desk, ParkedTell}
-use Rattle.lt_modes.specs.Held.{add_lock, take_lock, locks_of, held_modes}
-use Rattle.lt_modes.specs.Made.{Post}
-use Rattle.lt_modes.specs.Queue.{no_ask, without}
-use Rattle.lt_modes.specs.Serving.{ask_at, queue_of, next_service, give_up, answered, serve_local, serve_copy}
+use Rattle.lt_modes.specs.Modes.{same_mode, add_lock, take_lock, locks_of, held_modes}
+use Rattle.lt_modes.specs.State.{SetState, Desk, ParkedTell, Post, no_ask, without}
+use Rattle.lt_modes.specs.Serving.{ask_at, queue_of, next_service, give_up, answered, serve_local, serve_copy, hand_over_to}
 use Rattle.lt_modes.specs.Freezing.{freeze_at}
-use Rattle.lt_modes.specs.HandingOver.{hand_over_to}
-use Rattle.lt_modes.specs.Telling.{tell_of, make_tell}
-use Rattle.lt_law_accounts.proofs.Asks.{times_in-some}
+use Rattle.lt_modes.specs.SetMove.{tell_of, make_tell}
+use Rattle.lt_law_accounts.proofs.Asks.{times_in-some, without_only, without_gone}
 use Rattle.lt_model.proofs.Effects.{Fact, EndEffects, next_service-within, both}
-use Rattle.lt_law_accounts.proofs.Unanswered.{without_only, without_gone}
 use Rattle.lt_model.proofs.StandingEffects.{standing_ends, found_here}
-use Rattle.lt_model.proofs.StandingParts.{Stands, stands}
+use Rattle.lt_model.proofs.SentInMove.{Stands, stands}
 use Rattle.lt_law_invariant.proofs.OwnSteps.{route_same}
 use Rattle.lt_lists.proofs.Sums.{counted_twice}
 use Rattle.lt_law_accounts.proofs.RowTotals.{total, total_added, total_taken}

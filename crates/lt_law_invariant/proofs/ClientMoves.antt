@@ -1,35 +1,27 @@
 -- What clients hold and wait for, in every run.
-use Rattle.std.proofs.Common.{◌≡◌, ◌≢◌, ℕ, ◌+◌, ◌<◌, ◌≤◌, inl, inr, List, [], length, Some, Bool, true, false, refl, sym, subst, arith, ◌∙◌}
-use Rattle.std.specs.Prelude.{◌⊎◌, ◌==◌, if◌then◌else◌, Contains, count_by, slice_index_or}
+use Rattle.std.proofs.Common.{◌≡◌, ◌≢◌, ℕ, ◌+◌, ◌<◌, ◌≤◌, inl, inr, List, [], length, Some, Bool, true, false, refl, sym, subst, arith, ◌∙◌, ◌⊎◌, ◌==◌, if◌then◌else◌, Contains, count_by, slice_index_or, eq-eqb}
 use Rattle.std.specs.List.{AllByRecursion, list_any}
-use Rattle.std.proofs.lemmas.Bool.{cases_eq, eq-eqb, false≢true}
+use Rattle.std.proofs.lemmas.Bool.{cases_eq, false≢true}
 use Rattle.std.proofs.lemmas.List.Elements.{Contains-get_or}
 use Rattle.lt_modes.specs.declared.stamp.Stamp.{Stamp}
 use Rattle.lt_modes.specs.declared.ask.Ask.{Ask}
 use Rattle.lt_modes.specs.declared.command.Command.{Command}
 use Rattle.lt_modes.specs.declared.command.Command.TheVariants.{Lock, Unlock, Try, Change, DropAll}
 use Rattle.lt_modes.specs.Script.{ScriptData}
-use Rattle.lt_modes.specs.State.{SetState}
-use Rattle.lt_modes.specs.Made.{Made}
-use Rattle.lt_modes.specs.Held.{locks_of}
+use Rattle.lt_modes.specs.State.{SetState, Made}
+use Rattle.lt_modes.specs.Modes.{locks_of}
 use Rattle.lt_modes.specs.Serving.{waits}
-use Rattle.lt_modes.specs.Telling.{finish}
-use Rattle.lt_modes.specs.SetMove.{locked, tried, unlocked, changed, dropped, lock, try, unlock, change, drop}
+use Rattle.lt_modes.specs.SetMove.{finish, locked, tried, unlocked, changed, dropped, lock, try, unlock, change, drop}
 use Rattle.lt_lists.specs.Below.{put}
-use Rattle.lt_spec.specs.Families.{related}
-use Rattle.lt_spec.specs.WholeScripts.{IsWhole, HasTargetsAt}
-use Rattle.lt_spec.specs.NodeMove.{NodeState, node_waits, act_stamp, at_clock, one_made, touched, drop_all, obey}
-use Rattle.lt_model.specs.SoundNode.{unanswered_asks, new_asks_of, locks_in_all, ClientsKept}
+use Rattle.lt_spec.specs.NodeMove.{related, IsWhole, HasTargetsAt, NodeState, node_waits, act_stamp, at_clock, one_made, touched, drop_all, obey}
+use Rattle.lt_model.specs.Invariant.{unanswered_asks, new_asks_of, locks_in_all, ClientsKept, AsksStand}
 use Rattle.lt_spec.specs.World.{World}
-use Rattle.lt_model.specs.Standing.{AsksStand}
 use Rattle.lt_lists.proofs.Members.{list_any-at}
 use Rattle.lt_model.proofs.Effects.{Fact, HoldsOf, EndEffects, ends_by_effects, finish_by_effects, both}
-use Rattle.lt_model.proofs.NodeMoves.{each-beside}
-use Rattle.lt_model.proofs.NodeEffects.{IsOfSet, IsOnce, once_or_aside, each_by_effects, both_of_set}
+use Rattle.lt_model.proofs.NodeEffects.{each-beside, IsOfSet, IsOnce, once_or_aside, each_by_effects, both_of_set}
 use Rattle.lt_lists.proofs.Puts.{put-same, put-other}
-use Rattle.lt_model.proofs.SentInMove.{finish-sent, drop-sent}
+use Rattle.lt_model.proofs.SentInMove.{finish-sent, drop-sent, stands}
 use Rattle.lt_model.proofs.StandingEffects.{stands_later}
-use Rattle.lt_model.proofs.StandingParts.{stands}
 use Rattle.lt_model.proofs.StandingBegins.{elsewhere, unanswered, only_here, stands_before, none_in_hand, stands_of_set}
 use Rattle.lt_lists.proofs.Searches.{any_below_none}
 use Rattle.lt_lists.proofs.Sums.{sum_below-add, sum_below-at, sum_below-most, sum_below-one, sum_by-zero}

@@ -1,8 +1,7 @@
 -- What clients hold and wait for is sound after each move.
-use Rattle.std.proofs.Common.{◌≡◌, ◌≢◌, ℕ, ◌+◌, ◌<◌, ◌≤◌, inl, inr, List, [], ◌∷◌, ◌++◌, length, Option, Some, None, Bool, true, false, refl, sym, ap, subst, arith, ◌∙◌}
-use Rattle.std.specs.Prelude.{◌⊎◌, ◌==◌, not, nat_lt, if◌then◌else◌, Contains, AllPairs, IsTrue, count_by, drop as drop_front}
+use Rattle.std.proofs.Common.{◌≡◌, ◌≢◌, ℕ, ◌+◌, ◌<◌, ◌≤◌, inl, inr, List, [], ◌∷◌, ◌++◌, length, Option, Some, None, Bool, true, false, refl, sym, ap, subst, arith, ◌∙◌, ◌⊎◌, ◌==◌, not, nat_lt, if◌then◌else◌, Contains, AllPairs, IsTrue, count_by, drop as drop_front, eq-eqb, ne_eqb}
 use Rattle.std.proofs.lemmas.List.Elements.{All-contains, All-weaker}
-use Rattle.std.proofs.lemmas.Bool.{cases_eq, eq-eqb, ne_eqb, and_parts}
+use Rattle.std.proofs.lemmas.Bool.{cases_eq, and_parts}
 use Rattle.lt_modes.specs.declared.stamp.Stamp.{Stamp}
 use Rattle.lt_modes.specs.declared.ask.Ask.{Ask}
 use Rattle.lt_modes.specs.declared.mode.Mode.{Mode}
@@ -13,35 +12,23 @@ use Rattle.lt_modes.specs.declared.command.Command.TheVariants.{Lock, Unlock, Tr
 use Rattle.lt_modes.specs.declared.moves.Step.{Step}
 use Rattle.lt_modes.specs.declared.moves.Step.TheVariants.{Act, Take}
 use Rattle.lt_modes.specs.Script.{ScriptData}
-use Rattle.lt_modes.specs.State.{SetState, Body, AskBody, TellBody, CopyBody, TokenBody, FreezeBody, Letter, ParkedAsk, ParkedTell}
-use Rattle.lt_modes.specs.Made.{Made}
+use Rattle.lt_modes.specs.State.{SetState, Body, AskBody, TellBody, CopyBody, TokenBody, FreezeBody, Letter, ParkedAsk, ParkedTell, Made, without}
 use Rattle.lt_modes.specs.Serving.{answered}
-use Rattle.lt_modes.specs.Queue.{without}
-use Rattle.lt_modes.specs.Routing.{learn}
-use Rattle.lt_modes.specs.Taking.{arrive, take_body}
-use Rattle.lt_modes.specs.SetMove.{drop, take as take_letter}
-use Rattle.lt_modes.specs.Telling.{finish}
+use Rattle.lt_modes.specs.SetMove.{learn, arrive, take_body, drop, take as take_letter, finish}
 use Rattle.lt_lists.specs.Below.{put}
-use Rattle.lt_spec.specs.Families.{home, related}
-use Rattle.lt_model.specs.Standing.{AsksStand}
-use Rattle.lt_spec.specs.WholeScripts.{IsWhole}
-use Rattle.lt_model.specs.Invariant.{WorldInvariant}
-use Rattle.lt_spec.specs.NodeMove.{NodeState, node_waits, next_command, act_stamp, take_stamp, at_clock, one_made, node_take, touched, each_touched, drop_all, obey}
+use Rattle.lt_spec.specs.NodeMove.{home, related, IsWhole, NodeState, node_waits, next_command, act_stamp, take_stamp, at_clock, one_made, node_take, touched, each_touched, drop_all, obey}
+use Rattle.lt_model.specs.Invariant.{AsksStand, WorldInvariant, unanswered_asks}
 use Rattle.lt_modes.specs.Fits.{numbers_of}
-use Rattle.lt_model.specs.SoundNode.{unanswered_asks}
 use Rattle.lt_spec.specs.World.{World, is_enabled, is_waiting, is_some_letter, put_mail, take_front, node_move}
 use Rattle.lt_spec.specs.Facts.{state_at}
 use Rattle.lt_lists.proofs.Sums.{sum_below-none}
 use Rattle.lt_model.proofs.Effects.{take_by_effects, both}
 use Rattle.lt_lists.proofs.Puts.{put-same, put-other}
-use Rattle.lt_model.proofs.PathsMove.{has_mail_parts}
+use Rattle.lt_model.proofs.PathsMove.{has_mail_parts, desk_somewhere, kept_stands}
 use Rattle.lt_model.proofs.HomesMove.{IsMaker, maker, next_targets}
-use Rattle.lt_model.proofs.StandingParts.{stands}
-use Rattle.lt_model.proofs.StandingBegins.{stands_arrived, elsewhere, unanswered, only_here}
-use Rattle.lt_model.proofs.TokenComes.{desk_somewhere}
-use Rattle.lt_model.proofs.Gathered.{copies_are_on_way}
+use Rattle.lt_model.proofs.SentInMove.{stands}
+use Rattle.lt_model.proofs.StandingBegins.{stands_arrived, elsewhere, unanswered, only_here, copies_are_on_way}
 use Rattle.lt_law_invariant.proofs.OwnSteps.{route_same}
-use Rattle.lt_model.proofs.KeptSets.{kept_stands}
 use Rattle.lt_law_invariant.proofs.ClientEffects.{GivenBy, Clients, clients, clients_ends, answers_kept, same_clients}
 use Rattle.lt_law_invariant.proofs.ClientCommands.{count_within, one_for}
 use Rattle.lt_law_invariant.proofs.ClientMoves.{SoundClients, bonus_at, node_after, at_first, act_clients, idle_in}

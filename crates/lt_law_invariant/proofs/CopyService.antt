@@ -1,29 +1,22 @@
 -- A copy that is sent for an ask keeps the ledgers of the set.
-use Rattle.std.proofs.Common.{◌≡◌, ℕ, ◌<◌, inl, inr, [], Some, Bool, true, false, refl, sym, ap, subst, arith, ◌∙◌}
-use Rattle.std.specs.Prelude.{◌==◌, ◌⊎◌, if◌then◌else◌, Contains, IsFalse, IsTrue}
-use Rattle.std.proofs.lemmas.Bool.{eq-eqb, ne_eqb}
+use Rattle.std.proofs.Common.{◌≡◌, ℕ, ◌<◌, inl, inr, [], Some, Bool, true, false, refl, sym, ap, subst, arith, ◌∙◌, ◌==◌, ◌⊎◌, if◌then◌else◌, Contains, IsFalse, IsTrue, eq-eqb, ne_eqb}
 use Rattle.lt_modes.specs.declared.ask.Ask.{Ask}
 use Rattle.lt_modes.specs.Modes.{Modes, has, bars, covers}
-use Rattle.lt_modes.specs.State.{Desk, Entry, CopyBody}
-use Rattle.lt_modes.specs.Made.{Made, Post}
-use Rattle.lt_modes.specs.Records.{entry_of, others}
+use Rattle.lt_modes.specs.State.{Desk, Entry, CopyBody, Made, Post, entry_of, others}
 use Rattle.lt_modes.specs.Serving.{serve_copy, owing, owed_at}
 use Rattle.lt_spec.specs.World.{World}
 use Rattle.lt_spec.specs.Facts.{state_at}
-use Rattle.lt_model.specs.Moments.{Acting}
-use Rattle.lt_model.specs.OnWay.{tell_in, freeze_in, tells_of, copies_to, freezes_to, account_of}
+use Rattle.lt_model.specs.OnWay.{Acting, tell_in, freeze_in, tells_of, copies_to, freezes_to, account_of}
 use Rattle.lt_law_accounts.specs.Account.{Account}
 use Rattle.lt_law_accounts.specs.AccountSteps.{MayOwe, owing_copy}
 use Rattle.lt_law_accounts.specs.AccountPlay.{Owe, others_counted}
-use Rattle.lt_law_accounts.proofs.AllKept.{one_changes}
+use Rattle.lt_law_accounts.proofs.AccountPlay.{one_changes}
 use Rattle.lt_model.proofs.AccountRules.{services_are_steps, rules_count}
-use Rattle.lt_model.proofs.Gathered.{copies_are_on_way}
+use Rattle.lt_model.proofs.StandingBegins.{copies_are_on_way}
 use Rattle.lt_lists.proofs.Members.{contains_cases}
-use Rattle.lt_law_invariant.specs.OneEffect.{after_effect, copied}
-use Rattle.lt_law_invariant.specs.LedgerLaws.{CopyServiceKeeps}
+use Rattle.lt_law_invariant.specs.InvariantLaws.{after_effect, copied, CopyServiceKeeps}
 use Rattle.lt_law_invariant.proofs.AfterEffect.{says_none, copies_stay, freezes_stay, clock_stays, comes_or_sent, comes_still, comes_sent}
-use Rattle.lt_law_invariant.proofs.Seen.{SameOwn, all_kept, kept_by, account_seen, news_change, own_stays, frozen_stays}
-use Rattle.lt_law_invariant.proofs.Quiet.{tells_stay}
+use Rattle.lt_law_invariant.proofs.Seen.{SameOwn, all_kept, kept_by, account_seen, news_change, own_stays, frozen_stays, tells_stay}
 
 pub copy_service_keeps : CopyServiceKeeps
 copy_service_keeps script w s q k stamp desk ask at waiting free h =

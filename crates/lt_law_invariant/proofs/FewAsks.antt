@@ -1,26 +1,35 @@
 -- No more asks stand at a node than a script has clients, and fewer are unanswered than a node may have clients where one of them can act.
-use Rattle.std.proofs.Common.{◌≡◌, ◌≢◌, ℕ, zero, suc, ◌+◌, ◌<◌, ◌≤◌, inl, inr, Bool, true, false, List, [], ◌∷◌, length, refl, arith, ap, sym, subst, ◌∙◌}
-use Rattle.std.specs.Prelude.{◌==◌, ◌||◌, if◌then◌else◌, not, nat_lt, All, Contains, count_by, IsTrue}
-use Rattle.std.proofs.lemmas.Bool.{cases_eq, eq-eqb, ne_eqb, and_parts, ltb-true, true≢false}
+use Rattle.std.proofs.Common.{◌≡◌, ◌≢◌, ℕ, zero, suc, ◌+◌, ◌<◌, ◌≤◌, inl, inr, Bool, true, false, List, [], ◌∷◌, length, refl, arith, ap, sym, subst, ◌∙◌, Option, Some, None, ◌==◌, ◌||◌, if◌then◌else◌, not, nat_lt, All, Contains, count_by, IsTrue, eq-eqb, ne_eqb, ltb-true, true≢false, le-leb, lt-ltb, take_all, filter_map}
+use Rattle.std.proofs.lemmas.Bool.{cases_eq, and_parts, and_from}
 use Rattle.std.proofs.lemmas.List.{length-map}
-use Rattle.std.proofs.lemmas.List.Elements.{All-contains}
+use Rattle.std.proofs.lemmas.List.Elements.{All-contains, All-weaker}
 use Rattle.std.proofs.lemmas.List.Sums.{sum_by-cons}
 use Rattle.lt_modes.specs.declared.ask.Ask.{Ask}
 use Rattle.lt_modes.specs.Script.{ScriptData, ClientData, home_at}
-use Rattle.lt_modes.specs.State.{SetState}
+use Rattle.lt_modes.specs.State.{SetState, Desk}
 use Rattle.lt_modes.specs.Serving.{waits}
 use Rattle.lt_modes.specs.Fits.{has_client, are_apart, asks_here, is_at_home, numbers_of}
-use Rattle.lt_modes.specs.Sound.{SoundHere}
-use Rattle.lt_spec.specs.Script.{IsScript, load_of}
-use Rattle.lt_spec.specs.declared.limits.TheConstants.{MAX_CLIENTS, MAX_CLIENTS_OF_NODE}
-use Rattle.lt_lists.specs.Below.{sum_below, one_if}
+use Rattle.lt_modes.specs.Sound.{SoundHere, SoundDesk}
+use Rattle.lt_modes.specs.declared.command.Command.{Command}
+use Rattle.lt_modes.specs.declared.parts.Row.{Row}
+use Rattle.lt_modes.specs.Modes.{is_of, locks_of, locks_in}
+use Rattle.lt_modes.specs.declared.command.Command.TheVariants as command
+use Rattle.lt_lists.specs.Below.{sum_below, one_if, any_below}
 use Rattle.lt_lists.proofs.Members.{contains_first, contains_later}
-use Rattle.lt_lists.proofs.Sums.{sum_below-add, sum_below-at, sum_below-most}
-use Rattle.lt_spec.specs.Families.{home}
-use Rattle.lt_spec.specs.NodeMove.{NodeState}
-use Rattle.lt_model.specs.Homes.{IsAskOf}
-use Rattle.lt_model.specs.SoundNode.{ClientsKept}
-use Rattle.lt_law_invariant.proofs.Counting.{weight_at, by_key, few_keys, length_sum}
+use Rattle.lt_lists.proofs.Sums.{sum_below-add, sum_below-at, sum_below-most, sum_below-same, sum_below-one, sum_below-none}
+use Rattle.lt_lists.proofs.Searches.{any_below_none}
+use Rattle.lt_spec.specs.Script.{IsScript, load_of, IsRequest}
+use Rattle.lt_spec.specs.declared.limits.TheConstants.{MAX_CLIENTS, MAX_CLIENTS_OF_NODE, MAX_COMMANDS}
+use Rattle.lt_spec.specs.NodeMove.{home, NodeState, command_if, commands_of, node_waits, IsWhole, HasTargetsAt, desk_within, set_within, leaves_ask}
+use Rattle.lt_spec.specs.Script as of_script
+use Rattle.lt_spec.specs.World.{Logged, world_after, IsRun}
+use Rattle.lt_model.specs.Homes.{IsAskOf, IsRowAtHome, Homes}
+use Rattle.lt_model.specs.Invariant.{ClientsKept, WorldInvariant}
+use Rattle.lt_model.proofs.HomesMove.{homes_in_runs}
+use Rattle.lt_law_invariant.proofs.Counting.{weight_at, by_key, few_keys, length_sum, filtered_weight}
+use Rattle.lt_law_invariant.proofs.SoundStates.{kept_in_runs}
+use Rattle.lt_law_invariant.specs.InvariantLaws.{NodesStayWithin, AsksArePlaced}
+use Rattle.lt_law_invariant.proofs.RowsKept.{made_in_runs}
 
 abbrev asks_by : List Ask → ℕ → ℕ
 asks_by asks c = weight_at (λ (ask : Ask). ask.client) (λ (ask : Ask). 1) asks c
@@ -136,3 +145,132 @@ few_pending script q s c n is_script clients own within below at_home free =
                 omega (arith, here, there, none)
           ]
     ]
+
+-- A node holds no more locks of a set than a script has commands.
+
+suc_one : (m : ℕ) → suc m ≡ 1 + m
+suc_one m = omega arith
+
+-- the commands of all clients are the script's at most
+all_commands : (n : ℕ) (requests : List (ℕ × Command)) → sum_below n (λ c. length (filter_map (command_if c) requests)) ≤ length requests
+all_commands n [] =
+    let none = sum_below-none n (λ c. length (filter_map (command_if c) [])) (λ k h. refl) in
+    omega (arith, none)
+all_commands n ((client, command) ∷ rest) =
+    let here : ℕ → ℕ = λ k. if k == client then 1 else 0 in
+    let same = sum_below-same n (λ c. length (filter_map (command_if c) ((client, command) ∷ rest))) (λ c. here c + length (filter_map (command_if c) rest)) (λ k h. at k) in
+    let added = sum_below-add n here (λ c. length (filter_map (command_if c) rest)) in
+    omega (arith, same, added, sum_below-one n client 1, all_commands n rest)
+  where
+    counted : (same : Bool) (k : ℕ) → (client == k) ≡ same → (k == client) ≡ same
+        → length (filter_map (command_if k) ((client, command) ∷ rest)) ≡ (if k == client then 1 else 0) + length (filter_map (command_if k) rest)
+    counted true k e f =
+        let one : ◌≡◌ {A = ℕ} (if k == client then 1 else 0) 1 = ap (λ (b : Bool). if b then 1 else 0) f in
+        rw (e, one) (suc_one _)
+    counted false k e f =
+        let none : ◌≡◌ {A = ℕ} (if k == client then 1 else 0) 0 = ap (λ (b : Bool). if b then 1 else 0) f in
+        rw (e, none) omega arith
+
+    at : (k : ℕ) → length (filter_map (command_if k) ((client, command) ∷ rest)) ≡ (if k == client then 1 else 0) + length (filter_map (command_if k) rest)
+    at k = elim (cases_eq k client) [
+      | inl e ↦ counted true k (eq-eqb client k (sym e)) (eq-eqb k client e)
+      | inr d ↦ counted false k (ne_eqb client k (λ e. d (sym e))) (ne_eqb k client d)
+    ]
+
+pub few_locks : (script : ScriptData) (q s : ℕ) (n : NodeState) → IsScript script → ClientsKept script n
+    → ((c : ℕ) → n.made c ≤ length (commands_of script c)) → All (IsRowAtHome script q) (n.set s).held
+    → s < length script.sets → locks_in (n.set s).held ≤ MAX_COMMANDS
+few_locks script q s n is_script clients made rows within =
+    let held = (n.set s).held in
+    let count = length script.clients in
+    let counted = by_key count (λ (row : Row). row.client) (λ (row : Row). row.count) held below in
+    let most = sum_below-most count (weight_at (λ (row : Row). row.client) (λ (row : Row). row.count) held) (λ c. length (commands_of script c)) (λ c h. of_client c) in
+    omega (arith, counted, most, all_commands count script.commands, is_script.few_commands)
+  where
+    below : (row : Row) → Contains (n.set s).held row → row.client < length script.clients
+    below row on =
+        (All-contains (IsRowAtHome script q) (n.set s).held row rows on).client
+
+    of_client : (c : ℕ) → weight_at (λ (row : Row). row.client) (λ (row : Row). row.count) (n.set s).held c ≤ length (commands_of script c)
+    of_client c =
+        let own = filtered_weight (is_of c) (λ (row : Row). row.count) (n.set s).held in
+        let one = sum_below-at (length script.sets) s (λ t. locks_of (n.set t).held c) within in
+        omega (arith, own, one, clients.counts c, made c)
+
+-- What the invariant says of a node is within the limits of scripts.
+
+targets : (script : ScriptData) (client : ℕ) (request : Command) → of_script.HasTargets script.sets script.clients client request
+    → HasTargetsAt script client request
+targets script client (command.Lock set mode) h = h
+targets script client (command.Try set mode) h = h
+targets script client (command.Unlock set mode) h = h
+targets script client (command.Change set gives_up mode) h = h
+targets script client (command.DropAll other set) h = h
+
+-- a script names what is of it
+pub whole : (script : ScriptData) → IsScript script → IsWhole script
+whole script is_script = record {
+  some_node = is_script.some_node;
+  homes = is_script.homes;
+  commands = All-weaker (IsRequest script.sets script.clients) (λ (request : ℕ × Command). HasTargetsAt script request.0 request.1)
+      (λ request h. targets script request.0 request.1 h.1) script.commands is_script.requests;
+}
+
+-- none of the numbers below n fails
+none_fails : (n : ℕ) (test : ℕ → Bool) → ((k : ℕ) → k < n → test k ≡ true) → not (any_below n (λ k. not (test k))) ≡ true
+none_fails zero test h = refl
+none_fails (suc n) test h = rw (h n (omega arith), is_not (any_below n (λ k. not (test k))) (none_fails n test (λ k below. h k (omega (arith, below))))) refl
+  where
+    is_not : (found : Bool) → not found ≡ true → found ≡ false
+    is_not true e = sym e
+    is_not false e = refl
+
+desk_is_within : (script : ScriptData) (clock : ℕ) (t : SetState) (desk : Option Desk) → SoundDesk (numbers_of script) false false clock t desk
+    → desk_within clock desk ≡ true
+desk_is_within script clock t None h = refl
+desk_is_within script clock t (Some desk) h =
+    let (parked, epoch, number, entries) = h in
+    and_from _ _ (le-leb _ _ epoch) (le-leb _ _ number)
+
+-- the world after the whole run
+kept_after : (script : ScriptData) (run : List Logged) → IsScript script → IsRun script run → WorldInvariant script (world_after script run)
+kept_after script run is_script is_run =
+    subst (λ (moves : List Logged). WorldInvariant script (world_after script moves)) (take_all (length run) run (omega arith))
+    (kept_in_runs script run (whole script is_script) is_run (length run))
+
+homes_after : (script : ScriptData) (run : List Logged) → IsScript script → IsRun script run → Homes script (world_after script run)
+homes_after script run is_script is_run =
+    subst (λ (moves : List Logged). Homes script (world_after script moves)) (take_all (length run) run (omega arith))
+    (homes_in_runs script run (whole script is_script) is_run (length run))
+
+pub nodes_within : NodesStayWithin
+nodes_within script run is_script is_run q below =
+    let w = world_after script run in
+    let n = w.node q in
+    let kept = kept_after script run is_script is_run in
+    let homes = homes_after script run is_script is_run in
+    let made = made_in_runs script run is_run q in
+    none_fails (length script.sets) (λ s. set_within n.clock (n.set s))
+    (λ s within.
+    let sound = (kept.sets s within).states q below in
+    and_from _ _ (le-leb _ _ (few_locks script q s n is_script (kept.clients q below) made (homes.states q s).rows within))
+    (and_from _ _ (le-leb _ _ (few_here script q (n.set s) is_script sound.here sound.apart))
+    (desk_is_within script n.clock (n.set s) (n.set s).desk sound.desk)))
+
+pub asks_placed : AsksArePlaced
+asks_placed script run is_script is_run client declared runnable =
+    let w = world_after script run in
+    let q = home script client in
+    let n = w.node q in
+    let below = is_script.homes client declared in
+    let kept = kept_after script run is_script is_run in
+    let homes = homes_after script run is_script is_run in
+    let free : node_waits script n client ≡ false = is_not (node_waits script n client) (and_parts _ _ runnable).0 in
+    none_fails (length script.sets) (λ s. leaves_ask (n.set s))
+    (λ s within. lt-ltb _ _
+    (few_pending script q s client n is_script (kept.clients q below) (homes.states q s).pending within declared refl
+    (any_below_none (length script.sets) (λ t. waits (n.set t) client) free s within)))
+  where
+    is_not : (found : Bool) → not found ≡ true → found ≡ false
+    is_not true e = sym e
+    is_not false e = refl

@@ -1,33 +1,100 @@
--- At rest the first waiter of a set conflicts with a lock of another client.
-use Rattle.std.proofs.Common.{◌≡◌, ℕ, ◌+◌, inl, inr, List, ◌∷◌, length, Option, Some, None, Bool, true, false, refl, sym, ap, subst, arith, ◌∙◌}
-use Rattle.std.specs.Prelude.{◌||◌, ◌&&◌, ◌==◌, not, if◌then◌else◌, Contains, IsTrue, nat_lt, slice_index}
-use Rattle.std.proofs.lemmas.Bool.{eqb-true, and_parts}
+-- At rest no letter is on its way, and what counts of a node is what it holds.
+use Rattle.std.proofs.Common.{◌≡◌, ℕ, ◌<◌, inl, inr, List, [], ◌∷◌, length, Option, Bool, true, false, refl, sym, ap, arith, ◌∙◌, ◌+◌, Some, None, subst, not, if◌then◌else◌, Contains, IsTrue, ◌||◌, ◌&&◌, ◌==◌, nat_lt, slice_index, ◌⊎◌, IsFalse, ne_eqb, lt-ltb, eqb-true}
+use Rattle.std.proofs.lemmas.Bool.{and_parts, and_from, false≢true}
 use Rattle.std.proofs.lemmas.List.Elements.{All-contains, Contains-append_right}
 use Rattle.lt_modes.specs.declared.mode.Mode.{Mode}
 use Rattle.lt_modes.specs.declared.ask.Ask.{Ask}
-use Rattle.lt_modes.specs.Modes.{Modes, conflicts, has, no_modes, union, bars, with_mode}
-use Rattle.lt_modes.specs.State.{SetState, Desk, CopyBody}
-use Rattle.lt_modes.specs.Held.{other_modes}
-use Rattle.lt_modes.specs.Records.{own_owed, others}
+use Rattle.lt_modes.specs.Modes.{conflicts, has, held_modes, Modes, no_modes, union, bars, with_mode, other_modes, has_none}
+use Rattle.lt_modes.specs.Script.{ScriptData}
+use Rattle.lt_modes.specs.State.{Desk, Tell, Body, TellBody, CopyBody, TokenBody, Letter, ParkedTell, modes_of_asks, record_of, SetState, own_owed, others, FreezeBody, entry_of}
+use Rattle.lt_modes.proofs.ModeAlgebra.{union_bars_both, bars_by_table, none_in_none, conflicts-sym, each_barred, every_mode-at}
 use Rattle.lt_modes.specs.Serving.{queue_of, queue_of_desk, is_free, is_local, is_copy, is_served, may_draw, is_clear_at_home, next_service, next_draw, next_at, next_from, move_at, draw_from}
-use Rattle.lt_spec.specs.Facts.{state_at}
-use Rattle.lt_model.specs.Moments.{Between}
-use Rattle.lt_model.specs.OnWay.{account_of}
-use Rattle.lt_spec.specs.Desks.{DeskIs}
-use Rattle.lt_law_accounts.specs.Account.{Bars}
-use Rattle.lt_model.specs.Paths.{HasWay}
 use Rattle.lt_modes.specs.Fits.{parked_asks, asks_here, numbers_of}
 use Rattle.lt_modes.specs.Sound.{SoundRow, SoundHere}
-use Rattle.lt_model.specs.Invariant.{DeskKept}
-use Rattle.lt_modes.proofs.ModeAlgebra.{union_bars_both, bars_by_table}
-use Rattle.lt_law_accounts.proofs.AccountFacts.{waiting_is_copy}
+use Rattle.lt_modes.specs.Freezing.{frozen_by}
+use Rattle.lt_lists.specs.Below.{any_below}
+use Rattle.lt_lists.proofs.Searches.{any_below_none}
+use Rattle.lt_lists.proofs.Members.{nothing_in}
+use Rattle.lt_spec.specs.World.{World, has_mail, is_some_letter, is_runnable, is_at_rest}
+use Rattle.lt_spec.specs.Facts.{state_at, Comes, DeskIs}
+use Rattle.lt_law_accounts.specs.Account.{Account, AccountKept, Bars, IsBelow, counted, own_of, owed_and_waiting}
+use Rattle.lt_law_accounts.proofs.AccountFacts.{asks_bar-which, waiting_is_copy, below_by_bars, held_below_record}
 use Rattle.lt_law_accounts.proofs.AccountPlay.{others-which}
+use Rattle.lt_law_accounts.proofs.Rows.{held-which, other-which, held-at}
+use Rattle.lt_law_accounts.proofs.NewsLemmas.{frozen_at_rest}
+use Rattle.lt_model.specs.OnWay.{Between, is_at, tells_of, account_of, freezes_to, news_of}
+use Rattle.lt_model.specs.Invariant.{Paths, IsParkedFor, SetKept, HasWay, DeskKept}
+use Rattle.lt_model.proofs.StandingBegins.{tells_are_on_way, copies_are_on_way, freezes_are_on_way}
 use Rattle.lt_model.proofs.AccountRules.{rules_count}
-use Rattle.lt_model.proofs.Gathered.{copies_are_on_way}
-use Rattle.lt_law_accounts.proofs.Rows.{held-which, other-which}
-use Rattle.lt_modes.proofs.EachMode.{none_in_none}
-use Rattle.lt_law_invariant.proofs.QuietRest.{no_letters, counts_held}
-use Rattle.lt_law_invariant.specs.RestLaws.{IsBarred, FirstWaiterConflicts}
+use Rattle.lt_model.proofs.PathsMove.{desk_somewhere}
+use Rattle.lt_law_invariant.specs.InvariantLaws.{IsBarred, FirstWaiterConflicts, HoldersAreFrozen}
+
+-- nothing is on its way
+pub no_letters : (script : ScriptData) (w : World) (s q : ℕ) (body : Body) → Paths script w s → IsTrue (is_at_rest script w) → Comes script w s q body → ⊥
+no_letters script w s q body paths rest (p, letter, below, on, says) =
+    let on_path = paths.letters p q letter below on in
+    let none =
+    not_true (any_below script.nodes (λ a. any_below script.nodes (has_mail script w a)))
+    (and_parts (not (any_below (length script.clients) (is_runnable script w))) _ rest).1 in
+    let row = any_below_none script.nodes (λ a. any_below script.nodes (has_mail script w a)) none p below in
+    let here = any_below_none script.nodes (has_mail script w p) row q on_path.to in
+    let there : has_mail script w p q ≡ true =
+    and_from _ _ (lt-ltb p script.nodes below)
+    (and_from _ _ (lt-ltb q script.nodes on_path.to) (and_from _ _ (ap not (ne_eqb p q (λ e. on_path.other (sym e)))) (some (w.mail p q) on.among))) in
+    false≢true (sym here ∙ there)
+  where
+    not_true : (t : Bool) → not t ≡ true → t ≡ false
+    not_true true e = cc
+    not_true false e = refl
+
+    some : (letters : List Letter) → Contains letters letter → is_some_letter letters ≡ true
+    some [] c = absurd (omega (arith, c.1))
+    some (first ∷ rest) c = refl
+
+-- so nothing is told
+pub no_tells : (script : ScriptData) (w : World) (s x : ℕ) (tell : Tell) → SetKept script Between w s → IsTrue (is_at_rest script w)
+    → Contains (tells_of script w s x) tell → ⊥
+no_tells script w s x tell h rest c =
+    let on = (tells_are_on_way script w s x tell).0 c in
+    elim on.3 [
+      | inl comes ↦ no_letters script w s on.1 (TellBody tell) h.paths rest comes
+      | inr parked ↦
+          let comes = All-contains (IsParkedFor script w s on.1) (state_at w s on.1).parked (ParkedTell tell) (h.parked on.1 on.2) parked in
+          no_letters script w s on.1 (TokenBody comes.0) h.paths rest comes.1
+    ]
+
+-- what counts of a node is what it holds
+pub counts_held : (script : ScriptData) (w : World) (s x : ℕ) (place : Option ℕ) (desk : Desk) → SetKept script Between w s → IsTrue (is_at_rest script w)
+    → x < script.nodes → DeskIs script w s place desk
+    → IsBelow (counted (account_of script Between w s place desk x)) (held_modes (state_at w s x).held)
+counts_held script w s x place desk h rest below there mode bar = by_here (is_at place x) refl bar
+  where
+    a : Account
+    a = account_of script Between w s place desk x
+
+    kept : AccountKept a
+    kept = (h.known place desk there).accounts x below
+
+    no_copies : (ask : Ask) → Contains a.copies ask → ⊥
+    no_copies ask c = no_letters script w s x (CopyBody ask) h.paths rest ((copies_are_on_way script w s x ask).0 c)
+
+    not_owed : (m : Mode) → IsTrue (has m (owed_and_waiting a)) → ⊥
+    not_owed m found = let copy = waiting_is_copy a kept.owed m found in no_copies copy.0 copy.1
+
+    by_here : (here : Bool) → is_at place x ≡ here → Bars (if here then own_of a else record_of a.entry) mode → Bars (held_modes (state_at w s x).held) mode
+    by_here true e b = elim ((union_bars_both conflicts (held_modes a.held) (owed_and_waiting a) mode).0 b) [
+      | inl own ↦ own
+      | inr owed ↦ absurd (not_owed owed.0 owed.2)
+    ]
+    by_here false e b = elim (kept.cover e).exact [
+      | inl exact ↦ elim ((union_bars_both conflicts a.charge (modes_of_asks a.copies) mode).0 (exact mode b)) [
+        | inl charge ↦ below_by_bars a.charge (held_modes a.held) (sym (kept.charge e)) mode charge
+        | inr copy ↦ let found = asks_bar-which a.copies mode copy in absurd (no_copies found.0 found.1)
+      ]
+      | inr told ↦ absurd (no_tells script w s x told.0 h rest told.1.0)
+    ]
+
+-- At rest the first waiter of a set conflicts with a lock of another client.
 
 bars_union-none : (modes : Modes) (mode : Mode) → Bars (union modes no_modes) mode → Bars modes mode
 bars_union-none modes mode bar = elim ((union_bars_both conflicts modes no_modes mode).0 bar) [
@@ -154,3 +221,41 @@ first_waiter_conflicts script w s ask h rest (q, others_wait, under, queue) = by
             let me = eqb-true ask.node q own.0 in
             own_row me (bars_from (union (other_modes t.held ask.client) (own_owed q t desk)) ask.mode
             (not_false (has ask.mode (bars (union (other_modes t.held ask.client) (own_owed q t desk)))) (second_false (ask.node == q) _ own.0 own.1)))
+
+-- At rest each node that holds a lock keeps frozen what the queue freezes.
+
+has_some : (modes : Modes) (mode : Mode) → has mode modes ≡ true → has_none modes ≡ false
+has_some modes mode e = by_test (has_none modes) refl
+  where
+    by_test : (none : Bool) → has_none modes ≡ none → has_none modes ≡ false
+    by_test false f = f
+    by_test true f = let gone = every_mode-at (λ m. not (has m modes)) mode f in absurd (false≢true (sym (ap not e) ∙ gone))
+
+pub holders_are_frozen : HoldersAreFrozen
+holders_are_frozen script w s x row h under rest held = at_desk found.0 found.1 found.2
+  where
+    found : (place : Option ℕ) × (desk : Desk) × DeskIs script w s place desk
+    found = desk_somewhere script w s h.paths
+
+    at_desk : (place : Option ℕ) (desk : Desk) → DeskIs script w s place desk
+        → (t : ℕ) × (desk : Desk) × DeskIs script w s (Some t) desk × ((state_at w s x).frozen ≡ frozen_by desk.queue)
+    at_desk None desk there = absurd (no_letters script w s there.0 (TokenBody desk) h.paths rest there.2)
+    at_desk (Some t) desk there = (
+      t,
+      desk,
+      there,
+      frozen_at_rest (news_of script Between w s (Some t) desk x) (kept.news x under) refl
+          (nothing_in (freezes_to script w s x) (λ y c. no_letters script w s x (FreezeBody y.number y.modes) h.paths rest
+          ((freezes_are_on_way script w s x y).0 c))) (by_here (x == t) refl),
+    )
+      where
+        kept : DeskKept script Between w s (Some t) desk
+        kept = h.known (Some t) desk there
+
+        by_here : (here : Bool) → (x == t) ≡ here → ((x == t) ≡ true) ⊎ IsFalse (has_none (record_of (entry_of desk x)))
+        by_here true e = inl e
+        by_here false e =
+            let other = each_barred row.mode in
+            let bar = held_below_record (account_of script Between w s (Some t) desk x) (kept.accounts x under) e other.0
+            (row.mode, conflicts-sym other.0 row.mode ∙ other.1, held-at (state_at w s x).held row held) in
+            inr (has_some (record_of (entry_of desk x)) bar.0 bar.2)

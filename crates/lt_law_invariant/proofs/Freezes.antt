@@ -1,39 +1,135 @@
--- Freezing keeps the ledgers of the set.
-use Rattle.std.proofs.Common.{◌≡◌, ◌≢◌, ℕ, ◌<◌, ◌≤◌, inl, inr, List, [], ◌∷◌, length, Option, Some, None, Bool, true, false, refl, sym, ap, subst, arith, ◌∙◌}
-use Rattle.std.specs.Prelude.{◌==◌, ◌⊎◌, ◌||◌, not, if◌then◌else◌, Contains, IsTrue, slice_index_or}
+-- A freeze that is taken keeps the ledgers.
+use Rattle.std.proofs.Common.{◌≡◌, ℕ, ◌<◌, inl, inr, Option, Bool, true, false, refl, sym, ap, subst, ◌∙◌, zero, suc, ◌+◌, List, [], ◌∷◌, length, arith, ◌≢◌, ◌≤◌, Some, None, ◌==◌, if◌then◌else◌, Contains, nat_lt, slice_index_or, ◌⊎◌, ◌||◌, not, IsTrue, filter_map, eq-eqb, ne_eqb}
 use Rattle.std.specs.List.{AllByRecursion}
-use Rattle.std.proofs.lemmas.Bool.{cases_eq, eq-eqb, ne_eqb, and_parts, false≢true}
+use Rattle.std.proofs.lemmas.Bool.{cases_eq, and_parts, false≢true}
 use Rattle.std.proofs.lemmas.List.Elements.{recursion_from_All, Contains-get_or}
-use Rattle.lt_modes.specs.declared.stamp.Stamp.{Stamp}
 use Rattle.lt_modes.specs.Modes.{Modes}
 use Rattle.lt_modes.specs.Script.{ScriptData}
-use Rattle.lt_modes.specs.State.{SetState, Desk, Entry, Body, FreezeBody, first_entry}
-use Rattle.lt_modes.specs.Made.{Made, Post, post_of}
-use Rattle.lt_modes.specs.Records.{entry_of}
-use Rattle.lt_modes.specs.Freezing.{frozen_by, is_target, targets, number_after, freeze_at}
+use Rattle.lt_modes.specs.State.{SetState, Desk, FreezeBody, Made, silent, entry_of, Entry, Body, first_entry, Post, post_of}
+use Rattle.lt_modes.specs.SetMove.{take_freeze}
+use Rattle.lt_modes.specs.Freezing.{places_from, cons_if, frozen_by, is_target, targets, number_after, freeze_at}
+use Rattle.lt_modes.specs.declared.stamp.Stamp.{Stamp}
+use Rattle.lt_lists.proofs.Members.{contains_first, contains_later, contains_cases, contains_map, contains_mapped}
+use Rattle.lt_lists.proofs.AllLemmas.{all_map, all_any}
 use Rattle.lt_spec.specs.World.{World}
 use Rattle.lt_spec.specs.Facts.{state_at}
-use Rattle.lt_model.specs.Moments.{Acting, Frozen}
-use Rattle.lt_model.specs.OnWay.{tell_in, copy_in, freeze_in, tells_of, copies_to, freezes_to, account_of, news_of}
+use Rattle.lt_law_accounts.specs.News.{NewsKept, Notice, taking, News}
+use Rattle.lt_law_accounts.specs.AccountSteps.{IsLoss, IsGain, freezing}
+use Rattle.lt_law_accounts.proofs.NewsLemmas.{takes_kept, keeps_kept, sends_kept, spares_kept}
+use Rattle.lt_law_accounts.proofs.AccountPlay.{same_kept, some_frozen}
 use Rattle.lt_law_accounts.specs.Account.{Account}
-use Rattle.lt_law_accounts.specs.AccountSteps.{IsGain, freezing}
 use Rattle.lt_law_accounts.specs.AccountPlay.{AllKept}
-use Rattle.lt_law_accounts.specs.News.{News, NewsKept, Notice}
-use Rattle.lt_model.specs.NewsRules.{news_with, number_by, frozen_desk}
+use Rattle.lt_model.specs.OnWay.{Acting, is_at, tell_parked, freezes_to, account_of, news_of, Frozen, tell_in, copy_in, freeze_in, tells_of, copies_to}
 use Rattle.lt_model.specs.Invariant.{DeskKept}
+use Rattle.lt_model.proofs.NewsRules.{freezes_are_taken, freezing_is_steps}
+use Rattle.lt_model.specs.NewsRules.{news_with, number_by, frozen_desk}
 use Rattle.lt_model.proofs.AccountRules.{freezes_are_steps}
-use Rattle.lt_model.proofs.NewsRules.{freezing_is_steps}
-use Rattle.lt_law_accounts.proofs.NewsLemmas.{keeps_kept, sends_kept, spares_kept}
-use Rattle.lt_model.proofs.Gathered.{freezes_are_on_way}
-use Rattle.lt_lists.proofs.Members.{contains_map, contains_mapped}
-use Rattle.lt_lists.proofs.AllLemmas.{all_map, all_any}
-use Rattle.lt_law_invariant.specs.OneEffect.{after_effect, IsDeskAt}
+use Rattle.lt_model.proofs.StandingBegins.{freezes_are_on_way}
 use Rattle.lt_model.specs.AccountRules.{account_with}
-use Rattle.lt_law_accounts.proofs.AllKept.{some_frozen}
-use Rattle.lt_law_invariant.proofs.AfterEffect.{SaysNone, says_none, copies_stay, freezes_stay, state_here, state_there, clock_stays, comes_or_sent, comes_still, comes_sent}
-use Rattle.lt_law_invariant.proofs.Seen.{all_kept, kept_by, account_as, own_stays}
-use Rattle.lt_law_invariant.proofs.Quiet.{tells_stay}
-use Rattle.lt_law_invariant.proofs.TargetPlaces.{places-which, places-at}
+use Rattle.lt_law_invariant.specs.InvariantLaws.{after_effect, IsDeskAt}
+use Rattle.lt_law_invariant.proofs.AfterEffect.{state_here, state_there, SaysNone, says_none, copies_stay, freezes_stay, clock_stays, comes_or_sent, comes_still, comes_sent}
+use Rattle.lt_law_invariant.proofs.Seen.{SameHeard, SameOwn, all_kept, kept_by, news_as, news_seen, own_then, own_stays, frozen_as, frozen_then, QuietMade, quiet_heard, account_as, tells_stay}
+use Rattle.lt_law_invariant.proofs.InHand.{InHand, freeze_in_hand}
+
+-- it is kept where its number is greater
+pub take_freeze_keeps : (script : ScriptData) (w base : World) (s q number : ℕ) (modes : Modes) (place : Option ℕ) (desk : Desk) → q < script.nodes
+    → InHand script w base s q (FreezeBody number modes) → DeskKept script (Acting q) w s place desk
+    → DeskKept script (Acting q) (after_effect base q s (silent (take_freeze number modes (state_at base s q)))) s place desk
+take_freeze_keeps script w base s q number modes place desk below hand h =
+    kept_by script (Acting q) later s place desk
+    (same_kept script.nodes (account_of script (Acting q) w s place desk) (account_of script (Acting q) later s place desk) (all_kept script (Acting q) w s place desk h)
+    (λ x under. account_is x (own_then (state_at w s x) (state_at base s x) (state_at later s x) (hand.own x) (own_stays base q s m x same))))
+    (λ x under. elim (cases_eq x q) [
+      | inl e ↦ subst (λ (y : ℕ). NewsKept (news_of script (Acting q) later s place desk y)) (sym e) own_news
+      | inr d ↦ subst NewsKept (sym (news_seen script (Acting q) w later s place desk x ((heard x).freezes ∙ hand.freezes x (λ e. absurd (d e)))
+          (frozen_then (state_at w s x) (state_at base s x) (state_at later s x) (hand.frozen x) (frozen_as (state_at base s x) (state_at later s x) (state_there base q s m x d))))) (h.news x under)
+    ])
+  where
+    t : SetState
+    t = state_at base s q
+
+    m : Made
+    m = silent (take_freeze number modes t)
+
+    later : World
+    later = after_effect base q s m
+
+    fields : (newer : Bool)
+        → SameOwn t (if newer then record t { frozen = modes; number = number } else t) × ((if newer then record t { frozen = modes; number = number } else t).parked ≡ t.parked)
+    fields true = (record { held = refl; charge = refl; pending = refl }, refl)
+    fields false = (record { held = refl; charge = refl; pending = refl }, refl)
+
+    same : SameOwn t m.state
+    same = (fields (nat_lt t.number number)).0
+
+    quiet : QuietMade t m
+    quiet = record { posts = tt; parked = λ x. ap (filter_map (tell_parked x)) (fields (nat_lt t.number number)).1 }
+
+    heard : (x : ℕ) → SameHeard script base later s x
+    heard x = quiet_heard script base q s m x quiet
+
+    account_is : (x : ℕ) → SameOwn (state_at w s x) (state_at later s x)
+        → account_of script (Acting q) later s place desk x ≡ account_of script (Acting q) w s place desk x
+    account_is x own = λ i. record {
+      clock = ((heard x).clock ∙ hand.clocks x) i;
+      held = own.held i;
+      charge = own.charge i;
+      pending = own.pending i;
+      entry = entry_of desk x;
+      tells = ((heard x).tells ∙ hand.tells x refl) i;
+      copies = ((heard x).copies ∙ hand.copies x (λ e. refl)) i;
+      here = is_at place x;
+      moving = x == q;
+    }
+
+    notice : Notice
+    notice = record { number = number; modes = modes }
+
+    taken : Contains (freezes_to script w s q) notice × IsLoss notice (freezes_to script w s q) (freezes_to script base s q)
+    taken = freeze_in_hand script w base s q notice hand
+
+    own_news : NewsKept (news_of script (Acting q) later s place desk q)
+    own_news =
+        subst NewsKept (sym (
+        ap (λ (u : SetState). news_with u (freezes_to script later s q) (entry_of desk q) desk (is_at place q) (is_at place q)) (state_here base q s m)
+        ∙ ap (λ l. news_with m.state l (entry_of desk q) desk (is_at place q) (is_at place q)) (heard q).freezes
+        ∙ freezes_are_taken number modes t (freezes_to script w s q) (freezes_to script base s q) (entry_of desk q) desk (is_at place q) (is_at place q)
+        ∙ ap (taking notice (freezes_to script base s q)) (news_as (freezes_to script w s q) (entry_of desk q) desk (is_at place q) (is_at place q) (state_at w s q) t (hand.frozen q))))
+        (takes_kept (news_of script (Acting q) w s place desk q) notice (freezes_to script base s q) (h.news q below) (record { came = taken.0; left = taken.1 }))
+
+-- The places of a list whose items pass a test.
+
+pub places-which : {X : Type 0} (test : ℕ → X → Bool) (first : ℕ) (xs : List X) (d : X) (y : ℕ) → Contains (places_from test first xs) y
+    → (i : ℕ) × (y ≡ first + i) × (i < length xs) × (test y (slice_index_or xs i d) ≡ true)
+places-which test first [] d y h = absurd (omega (arith, h.1))
+places-which {X = X} test first (x ∷ xs) d y h = by_test (test first x) refl h (λ later. places-which test (first + 1) xs d y later)
+  where
+    by_test : (here : Bool) → test first x ≡ here → Contains (cons_if here first (places_from test (first + 1) xs)) y
+        → (Contains (places_from test (first + 1) xs) y → (i : ℕ) × (y ≡ first + 1 + i) × (i < length xs) × (test y (slice_index_or xs i d) ≡ true))
+        → (i : ℕ) × (y ≡ first + i) × (i < length (x ∷ xs)) × (test y (slice_index_or (x ∷ xs) i d) ≡ true)
+    by_test true e found again = elim (contains_cases first y (places_from test (first + 1) xs) found) [
+      | inl same ↦ (0, omega (arith, same), omega arith, ap (λ (k : ℕ). test k x) (sym same) ∙ e)
+      | inr later ↦ let more = again later in (suc more.0, omega (arith, more.1), omega (arith, more.2), more.3)
+    ]
+    by_test false e found again = let more = again found in (suc more.0, omega (arith, more.1), omega (arith, more.2), more.3)
+
+pub places-at : {X : Type 0} (test : ℕ → X → Bool) (first : ℕ) (xs : List X) (d : X) (i : ℕ) → i < length xs
+    → test (first + i) (slice_index_or xs i d) ≡ true
+    → Contains (places_from test first xs) (first + i)
+places-at test first [] d i within e = absurd (omega (arith, within))
+places-at test first (x ∷ xs) d zero within e =
+    let here : test first x ≡ true = ap (λ (k : ℕ). test k x) (omega arith) ∙ e in
+    subst (λ (b : Bool). Contains (cons_if b first (places_from test (first + 1) xs)) (first + 0)) (sym here) (contains_first first (first + 0) (places_from test (first + 1) xs) (omega arith))
+places-at test first (x ∷ xs) d (suc i) within e =
+    let later = places-at test (first + 1) xs d i (omega (arith, within)) (ap (λ (k : ℕ). test k (slice_index_or xs i d)) (omega arith) ∙ e) in
+    by_test (test first x) (subst (Contains (places_from test (first + 1) xs)) (omega arith) later)
+  where
+    by_test : (here : Bool) → Contains (places_from test (first + 1) xs) (first + suc i)
+        → Contains (cons_if here first (places_from test (first + 1) xs)) (first + suc i)
+    by_test true later = contains_later first (first + suc i) (places_from test (first + 1) xs) later
+    by_test false later = later
+
+-- Freezing keeps the ledgers of the set.
 
 number_after-later : (told : List ℕ) (number : ℕ) → number ≤ number_after told number
 number_after-later [] number = omega arith

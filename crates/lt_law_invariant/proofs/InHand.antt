@@ -1,26 +1,23 @@
 -- A letter is taken, and its link learnt: what is left of what is on its way.
-use Rattle.std.proofs.Common.{◌≡◌, ℕ, ◌<◌, inl, inr, List, [], ◌∷◌, Option, None, Bool, true, false, refl, sym, ap, subst, arith, ◌∙◌}
-use Rattle.std.specs.Prelude.{◌==◌, ◌⊎◌, ◌&&◌, if◌then◌else◌, Contains, nat_lt, drop}
-use Rattle.std.specs.List.{filter_map, cons_option}
-use Rattle.std.proofs.lemmas.Bool.{cases_eq, eq-eqb, ne_eqb, and_from, and_left, and_right}
+use Rattle.std.proofs.Common.{◌≡◌, ℕ, ◌<◌, inl, inr, List, [], ◌∷◌, Option, None, Bool, true, false, refl, sym, ap, subst, arith, ◌∙◌, ◌==◌, ◌⊎◌, ◌&&◌, if◌then◌else◌, Contains, nat_lt, drop, filter_map, eq-eqb, ne_eqb}
+use Rattle.std.specs.List.{cons_option}
+use Rattle.std.proofs.lemmas.Bool.{cases_eq, and_from, and_left, and_right}
 use Rattle.lt_modes.specs.declared.parts.Link.{Link}
 use Rattle.lt_modes.specs.Script.{ScriptData}
-use Rattle.lt_modes.specs.State.{SetState, Tell, Body, Letter, TellBody, CopyBody, FreezeBody, Parked, ParkedTell}
-use Rattle.lt_modes.specs.Made.{Made, silent}
-use Rattle.lt_modes.specs.Routing.{learn}
+use Rattle.lt_modes.specs.State.{SetState, Tell, Body, Letter, TellBody, CopyBody, FreezeBody, Parked, ParkedTell, Made, silent}
+use Rattle.lt_modes.specs.SetMove.{learn}
 use Rattle.lt_modes.specs.declared.moves.Step.TheVariants.{Take}
 use Rattle.lt_spec.specs.World.{World, put_mail, opened}
-use Rattle.lt_spec.specs.Facts.{state_at}
+use Rattle.lt_spec.specs.Facts.{state_at, Comes}
 use Rattle.lt_model.specs.OnWay.{in_set, tell_in, tell_parked, copy_in, freeze_in, tells_of, copies_to, freezes_to}
-use Rattle.lt_spec.specs.Desks.{Comes}
 use Rattle.lt_model.proofs.Letters.{before_take}
 use Rattle.lt_lists.proofs.Members.{contains_cases}
 use Rattle.lt_modes.specs.declared.ask.Ask.{Ask}
 use Rattle.lt_lists.proofs.Gathering.{gather_same}
 use Rattle.lt_law_accounts.specs.AccountSteps.{IsLoss}
 use Rattle.lt_law_accounts.specs.News.{Notice}
-use Rattle.lt_model.proofs.Gathered.{tells_alike, tells_are_on_way, copies_are_on_way, freezes_are_on_way}
-use Rattle.lt_law_invariant.specs.OneEffect.{after_effect}
+use Rattle.lt_model.proofs.StandingBegins.{tells_alike, tells_are_on_way, copies_are_on_way, freezes_are_on_way}
+use Rattle.lt_law_invariant.specs.InvariantLaws.{after_effect}
 use Rattle.lt_law_invariant.proofs.AfterEffect.{read_stays, says_none, part_stays, clock_stays, comes_still, comes_or_sent}
 use Rattle.lt_law_invariant.proofs.Seen.{SameOwn, SameFrozen, SameHeard, own_stays, frozen_stays}
 

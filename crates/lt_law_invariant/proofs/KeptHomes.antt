@@ -1,44 +1,120 @@
--- In a world that is kept rows, asks and letters are at home; and so it is after an enabled move.
-use Rattle.std.proofs.Common.{◌≡◌, ℕ, ◌<◌, ◌≤◌, inl, inr, List, [], ◌∷◌, length, Bool, true, false, refl, sym, ap, subst, arith, ◌∙◌}
-use Rattle.std.specs.Prelude.{◌==◌, nat_lt, if◌then◌else◌, Contains, IsTrue, slice_index, slice_index_or}
+-- A move of a node reads and changes the sets of the script alone.
+use Rattle.std.proofs.Common.{◌≡◌, ℕ, ◌+◌, ◌<◌, List, [], ◌∷◌, ◌++◌, length, Option, Some, None, Bool, true, false, refl, ap, subst, ◌≤◌, inl, inr, sym, arith, ◌∙◌, ◌==◌, if◌then◌else◌, nat_lt, Contains, IsTrue, slice_index, slice_index_or, lt-ltb, ltb-true, eqb-true, eq-eqb}
 use Rattle.std.specs.List.{AllByRecursion}
-use Rattle.std.proofs.lemmas.Bool.{cases_eq, and_parts, ltb-true, eqb-true, eq-eqb}
+use Rattle.std.proofs.lemmas.Bool.{cases_eq, and_parts}
 use Rattle.std.proofs.lemmas.List.{length-map}
 use Rattle.std.proofs.lemmas.List.Elements.{All-contains, All-nil, All-weaker}
 use Rattle.std.proofs.lemmas.List.Sums.{get_or-le-sum_by}
+use Rattle.lt_modes.specs.declared.command.Command.{Command}
+use Rattle.lt_modes.specs.declared.command.Command.TheVariants.{Lock, Unlock, Try, Change, DropAll}
+use Rattle.lt_modes.specs.declared.stamp.Stamp.{Stamp}
+use Rattle.lt_modes.specs.Script.{ScriptData, ClientData}
+use Rattle.lt_modes.specs.State.{SetState, Letter, first_state, Made, Body, AskBody, TellBody, CopyBody, TokenBody, FreezeBody, Parked, ParkedAsk, ParkedTell, Post, same_ask}
+use Rattle.lt_modes.specs.Serving.{waits, queue_of}
+use Rattle.lt_modes.specs.SetMove.{finish, lock, try, unlock, change, drop, take}
 use Rattle.lt_modes.specs.declared.ask.Ask.{Ask}
 use Rattle.lt_modes.specs.declared.parts.Row.{Row}
 use Rattle.lt_modes.specs.declared.moves.Step.{Step}
 use Rattle.lt_modes.specs.declared.moves.Step.TheVariants.{Act, Take}
-use Rattle.lt_modes.specs.Script.{ScriptData, ClientData}
-use Rattle.lt_modes.specs.State.{SetState, Body, AskBody, TellBody, CopyBody, TokenBody, FreezeBody, Letter, Parked, ParkedAsk, ParkedTell, first_state}
-use Rattle.lt_modes.specs.Made.{Post}
-use Rattle.lt_modes.specs.Queue.{same_ask}
-use Rattle.lt_modes.specs.Serving.{queue_of}
 use Rattle.lt_modes.specs.Sound.{SoundRow, SoundPending, SoundParked}
-use Rattle.lt_model.specs.Homes.{IsRowAtHome, IsAskAtHome, IsAskOf, IsParkedAtHome, IsBodyAtHome, IsStateAtHome, IsLetterAtHome}
-use Rattle.lt_spec.specs.WholeScripts.{IsWhole}
-use Rattle.lt_lists.specs.Below.{one_if}
-use Rattle.lt_spec.specs.NodeMove.{NodeState, NodeMade, next_command, node_act, node_take}
-use Rattle.lt_spec.specs.World.{World, is_enabled, is_some_letter, opened, take_front, node_move, after}
-use Rattle.lt_spec.specs.Facts.{state_at, times_parked, places_in_state, places_in_body, place_count}
 use Rattle.lt_modes.specs.Fits.{numbers_of}
-use Rattle.lt_model.specs.Moments.{Between}
-use Rattle.lt_spec.specs.Desks.{OnWay}
-use Rattle.lt_model.specs.Invariant.{BodyKept, SetKept, WorldInvariant}
-use Rattle.lt_law_accounts.proofs.Asks.{times_in-some, same_ask-itself}
-use Rattle.lt_model.proofs.HomesSound.{home_among}
-use Rattle.lt_model.proofs.HomesMove.{IsMoveAtHome, drop_count, act_home, letter_home, maker}
-use Rattle.lt_model.proofs.Letters.{all_sent, before_take, mail_weight-at}
-use Rattle.lt_model.proofs.PathsMove.{has_mail_parts}
+use Rattle.lt_lists.proofs.Searches.{any_below_same}
+use Rattle.lt_lists.specs.Below.{one_if}
 use Rattle.lt_lists.proofs.Puts.{put-same, put-other}
 use Rattle.lt_lists.proofs.AllLemmas.{all_both, all_weaker}
-use Rattle.lt_model.proofs.StandingParts.{places_weight}
-use Rattle.lt_model.proofs.StandingInRuns.{stands_once}
 use Rattle.lt_lists.proofs.Sums.{sum_below-at}
 use Rattle.lt_lists.proofs.Members.{all_of}
-use Rattle.lt_model.proofs.KeptSets.{kept_stands}
-use Rattle.lt_law_invariant.proofs.ScriptSets.{MadeAlike, clipped, act_alike, take_alike}
+use Rattle.lt_spec.specs.NodeMove.{related, IsWhole, HasTargetsAt, NodeState, NodeMade, node_waits, next_command, act_stamp, take_stamp, at_clock, one_made, touched, each_touched, drop_all, obey, node_act, node_take}
+use Rattle.lt_spec.specs.World.{World, is_enabled, is_some_letter, opened, take_front, node_move, after}
+use Rattle.lt_spec.specs.Facts.{state_at, times_parked, places_in_state, places_in_body, place_count, OnWay}
+use Rattle.lt_law_accounts.proofs.Asks.{times_in-some, same_ask-itself}
+use Rattle.lt_model.proofs.HomesMove.{related_below, next_targets, IsMoveAtHome, drop_count, act_home, letter_home, maker}
+use Rattle.lt_model.specs.Homes.{IsRowAtHome, IsAskAtHome, IsAskOf, IsParkedAtHome, IsBodyAtHome, IsStateAtHome, IsLetterAtHome}
+use Rattle.lt_model.specs.OnWay.{Between}
+use Rattle.lt_model.specs.Invariant.{BodyKept, SetKept, WorldInvariant}
+use Rattle.lt_model.proofs.HomesSound.{home_among}
+use Rattle.lt_model.proofs.Letters.{all_sent, before_take, mail_weight-at}
+use Rattle.lt_model.proofs.PathsMove.{has_mail_parts, kept_stands}
+use Rattle.lt_model.proofs.SentInMove.{places_weight}
+use Rattle.lt_model.proofs.Runs.{stands_once}
+
+-- the nodes keep the same for each set of the script
+abbrev pub AreAlike : ScriptData → NodeState → NodeState → Type 0
+AreAlike script n m = (s : ℕ) → s < length script.sets → n.set s ≡ m.set s
+
+-- what two nodes made is the same for each set of the script, with the same letters
+pub record MadeAlike (script : ScriptData) (a b : NodeMade) : Type 0 where
+  pub node : AreAlike script a.node b.node
+  pub posts : a.posts ≡ b.posts
+
+-- the node with nothing in the sets that the script doesn't have
+abbrev pub clipped : ScriptData → NodeState → NodeState
+clipped script n = record n { set = λ s. if nat_lt s (length script.sets) then n.set s else first_state 0 1 }
+
+pub clipped_alike : (script : ScriptData) (n : NodeState) → AreAlike script (clipped script n) n
+clipped_alike script n s below = ap (λ (b : Bool). if b then n.set s else first_state 0 1) (lt-ltb s (length script.sets) below)
+
+touched_alike : (script : ScriptData) (n m : NodeState) (set : ℕ) (rule : ℕ → SetState → Made) → set < length script.sets → AreAlike script n m
+    → MadeAlike script (touched n set (rule set (n.set set))) (touched m set (rule set (m.set set)))
+touched_alike script n m set rule in_sets alike = record {
+  node = λ s below. by_test s below (s == set);
+  posts = ap (λ (t : SetState). (rule set t).posts) (alike set in_sets);
+}
+  where
+    by_test : (s : ℕ) → s < length script.sets → (own : Bool)
+        → (if own then (rule set (n.set set)).state else n.set s) ≡ (if own then (rule set (m.set set)).state else m.set s)
+    by_test s below true = ap (λ (t : SetState). (rule set t).state) (alike set in_sets)
+    by_test s below false = alike s below
+
+each_alike : (script : ScriptData) (rule : ℕ → SetState → Made) (sets : List ℕ) → AllByRecursion (λ set. set < length script.sets) sets
+    → (n m : NodeState) → AreAlike script n m → MadeAlike script (each_touched rule sets n) (each_touched rule sets m)
+each_alike script rule [] in_sets n m alike = record { node = alike; posts = refl }
+each_alike script rule (set ∷ rest) in_sets n m alike =
+    let first = touched_alike script n m set rule in_sets.0 alike in
+    let later = each_alike script rule rest in_sets.1 (touched n set (rule set (n.set set))).node (touched m set (rule set (m.set set))).node first.node in
+    record { node = later.node; posts = λ i. first.posts i ++ later.posts i }
+
+obey_alike : (script : ScriptData) (stamp : Stamp) (client : ℕ) (command : Command) (n m : NodeState) → HasTargetsAt script client command → AreAlike script n m
+    → MadeAlike script (obey script stamp client (Some command) n) (obey script stamp client (Some command) m)
+obey_alike script stamp client (Lock s mode) n m targets alike = touched_alike script n m s (λ k t. lock k stamp client mode t) targets alike
+obey_alike script stamp client (Try s mode) n m targets alike = touched_alike script n m s (λ k t. try k stamp client mode t) targets alike
+obey_alike script stamp client (Unlock s mode) n m targets alike = touched_alike script n m s (λ k t. unlock k stamp client mode t) targets alike
+obey_alike script stamp client (Change s gives_up mode) n m targets alike = touched_alike script n m s (λ k t. change k stamp client gives_up mode t) targets alike
+obey_alike script stamp client (DropAll other s) n m targets alike =
+    subst (λ (b : Bool). MadeAlike script (drop_all (node_waits script n other) stamp client other s (related script s) n)
+    (drop_all b stamp client other s (related script s) m))
+    (any_below_same (length script.sets) (λ k. waits (n.set k) other) (λ k. waits (m.set k) other) (λ k below. ap (λ (t : SetState). waits t other) (alike k below)))
+    (by_waits (node_waits script n other))
+  where
+    by_waits : (waiting : Bool)
+        → MadeAlike script (drop_all waiting stamp client other s (related script s) n) (drop_all waiting stamp client other s (related script s) m)
+    by_waits true =
+        let made = each_alike script (λ k. finish k stamp) (related script s) (related_below script s) n m alike in record { node = made.node; posts = made.posts }
+    by_waits false =
+        let made = each_alike script (λ k. drop k stamp other) (related script s) (related_below script s) n m alike in record { node = made.node; posts = made.posts }
+
+-- so it is in a client's move
+pub act_alike : (script : ScriptData) (q client : ℕ) (n : NodeState) → IsWhole script
+    → MadeAlike script (node_act script q client (clipped script n)) (node_act script q client n)
+act_alike script q client n whole = by_command (next_command script n client) refl
+  where
+    begins : NodeState → NodeState
+    begins m = one_made client (at_clock (n.clock + 1) m)
+
+    by_command : (command : Option Command) → next_command script n client ≡ command
+        → MadeAlike script (obey script (act_stamp q n) client command (begins (clipped script n))) (obey script (act_stamp q n) client command (begins n))
+    by_command None e = record { node = clipped_alike script n; posts = refl }
+    by_command (Some command) e =
+        obey_alike script (act_stamp q n) client command (begins (clipped script n)) (begins n) (next_targets script n client command whole e) (clipped_alike script n)
+
+-- and in the take of a letter of a set of the script
+pub take_alike : (script : ScriptData) (q : ℕ) (letter : Letter) (n : NodeState) → letter.set < length script.sets
+    → MadeAlike script (node_take q letter (clipped script n)) (node_take q letter n)
+take_alike script q letter n in_sets =
+    let stamp = take_stamp q n letter in
+    touched_alike script (at_clock stamp.clock (clipped script n)) (at_clock stamp.clock n) letter.set (λ k t. take stamp letter t) in_sets (clipped_alike script n)
+
+-- In a world that is kept rows, asks and letters are at home; and so it is after an enabled move.
 
 -- at each node and in each letter of the script, for its sets, what there is is at home
 pub record HomesWithin (script : ScriptData) (w : World) : Type 0 where

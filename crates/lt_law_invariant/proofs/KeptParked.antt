@@ -1,29 +1,24 @@
 -- What is parked at a node is held up, or the token is on its way there; and so it is after an enabled move.
-use Rattle.std.proofs.Common.{◌≡◌, ℕ, ◌<◌, inl, inr, List, [], ◌∷◌, Option, Some, None, Bool, true, false, refl, sym, ap, subst, arith, ◌∙◌}
-use Rattle.std.specs.Prelude.{◌⊎◌, ◌&&◌, ◌==◌, if◌then◌else◌, Contains, is_some, All, IsTrue, drop, slice_index}
-use Rattle.std.proofs.lemmas.Bool.{cases_eq, eq-eqb, ne_eqb, and_from, and_left, and_right}
+use Rattle.std.proofs.Common.{◌≡◌, ℕ, ◌<◌, inl, inr, List, [], ◌∷◌, Option, Some, None, Bool, true, false, refl, sym, ap, subst, arith, ◌∙◌, ◌⊎◌, ◌&&◌, ◌==◌, if◌then◌else◌, Contains, is_some, All, IsTrue, drop, slice_index, eq-eqb, ne_eqb}
+use Rattle.std.proofs.lemmas.Bool.{cases_eq, and_from, and_left, and_right}
 use Rattle.std.proofs.lemmas.List.Elements.{All-weaker, All-nil}
 use Rattle.lt_modes.specs.declared.moves.Step.{Step}
 use Rattle.lt_modes.specs.declared.moves.Step.TheVariants.{Act, Take}
 use Rattle.lt_modes.specs.Script.{ScriptData}
 use Rattle.lt_modes.specs.State.{SetState, Desk, Body, TokenBody, Letter, Parked, ParkedAsk, ParkedTell}
-use Rattle.lt_modes.specs.Routing.{learn}
-use Rattle.lt_modes.specs.Taking.{arrive, take_body}
+use Rattle.lt_modes.specs.SetMove.{learn, arrive, take_body}
 use Rattle.lt_modes.specs.Sound.{SoundDesk}
 use Rattle.lt_modes.specs.Fits.{numbers_of}
-use Rattle.lt_spec.specs.NodeMove.{NodeState, take_stamp}
+use Rattle.lt_spec.specs.NodeMove.{NodeState, take_stamp, IsWhole}
 use Rattle.lt_spec.specs.World.{World, is_enabled, put_mail, node_move, opened, take_front, after}
-use Rattle.lt_spec.specs.Facts.{state_at}
-use Rattle.lt_model.specs.Moments.{Between}
-use Rattle.lt_spec.specs.Desks.{Comes, DeskIs}
-use Rattle.lt_model.specs.Paths.{Paths, DeskOnPath, BodyOnPath}
-use Rattle.lt_spec.specs.WholeScripts.{IsWhole}
-use Rattle.lt_model.specs.Invariant.{IsParkedFor, SetKept}
+use Rattle.lt_spec.specs.Facts.{state_at, Comes, DeskIs}
+use Rattle.lt_model.specs.OnWay.{Between}
+use Rattle.lt_model.specs.Invariant.{Paths, DeskOnPath, BodyOnPath, IsParkedFor, SetKept}
 use Rattle.lt_model.proofs.Letters.{still_on_way}
 use Rattle.lt_lists.proofs.Members.{contains_cases}
 use Rattle.lt_lists.proofs.Puts.{put-same}
-use Rattle.lt_model.proofs.TokenComes.{desk_somewhere, token_comes}
-use Rattle.lt_law_invariant.specs.HeldUp.{IsHeldUp, HeldUp}
+use Rattle.lt_model.proofs.PathsMove.{desk_somewhere, token_comes}
+use Rattle.lt_law_invariant.specs.InvariantLaws.{IsHeldUp, HeldUp}
 use Rattle.lt_law_invariant.proofs.HeldUps.{none_held}
 use Rattle.lt_law_invariant.proofs.HeldUpMoves.{other_state, moves_hold_up, taken_held}
 use Rattle.lt_law_invariant.proofs.OneDesk.{one_desk}

@@ -1,41 +1,28 @@
 -- The ledgers of a set wherever its desk is, through the effects of a move of node q.
-use Rattle.std.proofs.Common.{◌≡◌, ℕ, ◌+◌, ◌<◌, inl, inr, [], ◌∷◌, ◌++◌, length, Option, Some, None, Bool, true, false, refl, sym, ap, subst, arith, ◌∙◌}
-use Rattle.std.specs.Prelude.{if◌then◌else◌, Contains, remove}
-use Rattle.std.proofs.lemmas.Bool.{eq-eqb, ne_eqb}
-use Rattle.std.proofs.lemmas.List.{length-set}
+use Rattle.std.proofs.Common.{◌≡◌, ℕ, ◌+◌, ◌<◌, inl, inr, [], ◌∷◌, ◌++◌, length, Option, Some, None, Bool, true, false, refl, sym, ap, subst, arith, ◌∙◌, if◌then◌else◌, Contains, remove, eq-eqb, ne_eqb, length-set}
 use Rattle.std.proofs.lemmas.List.Elements.{Contains-get_or}
 use Rattle.lt_modes.specs.declared.mode.Mode.{Mode}
 use Rattle.lt_modes.specs.declared.stamp.Stamp.{Stamp}
 use Rattle.lt_modes.specs.declared.ask.Ask.{Ask}
-use Rattle.lt_modes.specs.Modes.{bars, same_modes}
+use Rattle.lt_modes.specs.Modes.{bars, same_modes, held_modes, take_lock}
 use Rattle.lt_modes.specs.Script.{ScriptData}
-use Rattle.lt_modes.specs.State.{SetState, Desk, TokenBody, Parked, ParkedAsk, ParkedTell}
-use Rattle.lt_modes.specs.Made.{Made, Post, silent}
-use Rattle.lt_modes.specs.Held.{held_modes, take_lock}
-use Rattle.lt_modes.specs.Queue.{no_ask}
-use Rattle.lt_modes.specs.Records.{entry_of}
-use Rattle.lt_modes.specs.Granting.{can_grant}
-use Rattle.lt_modes.specs.Serving.{ask_at, queue_of, next_service, next_at, owed_at, owing, put_queue, serve_one, serve_local, serve_copy}
-use Rattle.lt_modes.specs.Freezing.{frozen_by, freeze, freeze_at}
-use Rattle.lt_modes.specs.HandingOver.{leaving, hand_over_to}
-use Rattle.lt_modes.specs.Routing.{Way, Parks, Goes, dealt, sent_on, route}
-use Rattle.lt_modes.specs.Telling.{tell_of, make_tell}
-use Rattle.lt_modes.specs.SetMove.{given, asked, dropped}
+use Rattle.lt_modes.specs.State.{SetState, Desk, TokenBody, Parked, ParkedAsk, ParkedTell, Made, Post, silent, no_ask, entry_of}
+use Rattle.lt_modes.specs.Freezing.{can_grant, frozen_by, freeze, freeze_at}
+use Rattle.lt_modes.specs.Serving.{ask_at, queue_of, next_service, next_at, owed_at, owing, put_queue, serve_one, serve_local, serve_copy, leaving, hand_over_to}
+use Rattle.lt_modes.specs.SetMove.{Way, Parks, Goes, dealt, sent_on, route, tell_of, make_tell, given, asked, dropped}
 use Rattle.lt_spec.specs.World.{World}
-use Rattle.lt_spec.specs.Facts.{state_at}
-use Rattle.lt_model.specs.Moments.{Moment, Between, Acting, Frozen}
-use Rattle.lt_model.specs.OnWay.{copies_to}
-use Rattle.lt_spec.specs.Desks.{DeskIs}
+use Rattle.lt_spec.specs.Facts.{state_at, DeskIs}
+use Rattle.lt_model.specs.OnWay.{Moment, Between, Acting, Frozen, copies_to}
 use Rattle.lt_model.specs.NewsRules.{frozen_desk}
 use Rattle.lt_model.specs.Invariant.{DeskKept}
 use Rattle.lt_model.proofs.AccountRules.{serves_by_rule}
 use Rattle.lt_model.proofs.PathsQuiet.{length-map_from}
 use Rattle.lt_model.proofs.PathsRoutes.{reversed_desk}
 use Rattle.lt_model.proofs.Effects.{route_ways, next_service-within}
-use Rattle.lt_law_invariant.specs.OneEffect.{after_effect, copied, IsWaiting}
+use Rattle.lt_law_invariant.specs.InvariantLaws.{after_effect, copied, IsWaiting}
 use Rattle.lt_law_invariant.proofs.AfterEffect.{state_here, part_stays, comes_still, comes_sent}
 use Rattle.lt_law_invariant.proofs.CopyService.{copy_service_keeps}
-use Rattle.lt_law_invariant.proofs.HandOver.{hand_over_keeps}
+use Rattle.lt_law_invariant.proofs.TakeToken.{hand_over_keeps}
 use Rattle.lt_law_invariant.proofs.Freezes.{freeze_keeps}
 use Rattle.lt_law_invariant.proofs.OwnSteps.{HasDesk, grant_keeps, unlock_keeps, drop_keeps, route_ask_keeps, asked_keeps, local_service_keeps, stays_keeps, desk_with}
 use Rattle.lt_law_invariant.proofs.Tells.{tell_keeps, no_tell_keeps}

@@ -1,35 +1,25 @@
 -- The effects of a move keep the ledgers, as facts of the move.
-use Rattle.std.proofs.Common.{◌≡◌, ℕ, ◌+◌, ◌<◌, List, [], ◌∷◌, ◌++◌, length, Option, Some, None, Bool, true, false, refl, sym, ap, subst, arith, ◌∙◌}
-use Rattle.std.specs.Prelude.{◌==◌, ◌&&◌, not, if◌then◌else◌, Contains}
-use Rattle.std.proofs.lemmas.List.{append-nil}
+use Rattle.std.proofs.Common.{◌≡◌, ℕ, ◌+◌, ◌<◌, List, [], ◌∷◌, ◌++◌, length, Option, Some, None, Bool, true, false, refl, sym, ap, subst, arith, ◌∙◌, ◌==◌, ◌&&◌, not, if◌then◌else◌, Contains, append-nil}
 use Rattle.std.proofs.lemmas.List.Elements.{Contains-get_or}
 use Rattle.lt_modes.specs.declared.mode.Mode.{Mode}
 use Rattle.lt_modes.specs.declared.stamp.Stamp.{Stamp}
 use Rattle.lt_modes.specs.declared.ask.Ask.{Ask}
 use Rattle.lt_modes.specs.declared.parts.Hoped.{Hoped}
-use Rattle.lt_modes.specs.Modes.{Modes, bars, same_modes, excludes_itself, with_mode}
+use Rattle.lt_modes.specs.Modes.{Modes, bars, same_modes, excludes_itself, with_mode, held_modes, take_lock}
 use Rattle.lt_modes.specs.Script.{ScriptData}
-use Rattle.lt_modes.specs.State.{SetState, Desk, Parked, ParkedAsk, ParkedTell}
-use Rattle.lt_modes.specs.Made.{Made, Post, silent}
-use Rattle.lt_modes.specs.Held.{held_modes, take_lock}
-use Rattle.lt_modes.specs.Queue.{no_ask}
-use Rattle.lt_modes.specs.Granting.{can_grant}
-use Rattle.lt_modes.specs.Serving.{ask_at, queue_of, queue_of_desk, next_service, next_draw, draw_from, move_at, may_draw, serve_one, serve_local, serve_copy}
-use Rattle.lt_modes.specs.Freezing.{freeze}
-use Rattle.lt_modes.specs.HandingOver.{hand_over_to}
-use Rattle.lt_modes.specs.Routing.{Way, Parks, Goes, reversed, sent_on, route}
-use Rattle.lt_modes.specs.Telling.{make_tell}
-use Rattle.lt_modes.specs.SetMove.{given, asked, ask_of, dropped}
+use Rattle.lt_modes.specs.State.{SetState, Desk, Parked, ParkedAsk, ParkedTell, Made, Post, silent, no_ask}
+use Rattle.lt_modes.specs.Freezing.{can_grant, freeze}
+use Rattle.lt_modes.specs.Serving.{ask_at, queue_of, queue_of_desk, next_service, next_draw, draw_from, move_at, may_draw, serve_one, serve_local, serve_copy, hand_over_to}
+use Rattle.lt_modes.specs.SetMove.{Way, Parks, Goes, reversed, sent_on, route, make_tell, given, asked, ask_of, dropped}
 use Rattle.lt_spec.specs.World.{World}
 use Rattle.lt_spec.specs.Facts.{state_at}
-use Rattle.lt_model.specs.Moments.{Acting}
-use Rattle.lt_model.specs.OnWay.{copies_to}
+use Rattle.lt_model.specs.OnWay.{Acting, copies_to}
 use Rattle.lt_law_accounts.proofs.Asks.{times_in-some}
 use Rattle.lt_model.proofs.Effects.{both, Fact, HoldsOf, EndEffects, ActEffects, ByEffects, route_ways, acts_by_effects}
 use Rattle.lt_model.proofs.StandingEffects.{standing_ends, standing_acts}
-use Rattle.lt_model.proofs.StandingParts.{Stands, stands}
+use Rattle.lt_model.proofs.SentInMove.{Stands, stands}
 use Rattle.lt_model.proofs.StandingBegins.{elsewhere, unanswered, only_here}
-use Rattle.lt_law_invariant.specs.OneEffect.{after_effect, IsWaiting}
+use Rattle.lt_law_invariant.specs.InvariantLaws.{after_effect, IsWaiting}
 use Rattle.lt_law_invariant.proofs.AfterEffect.{clock_stays}
 use Rattle.lt_law_invariant.proofs.Ledgers.{Ledger, FrozenHere, Ended, granted, unlocked, all_dropped, waited, serves, freezes, stays, leaves, tells, tells_not}
 use Rattle.lt_law_invariant.proofs.MidMove.{made_of, world_of, leads, at_now, Scene, queue_waits, no_copy, Mid, Begun}

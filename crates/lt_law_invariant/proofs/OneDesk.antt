@@ -1,19 +1,17 @@
 -- What paths say of the desk of a set: its entries, and that there is one of it.
-use Rattle.std.proofs.Common.{◌≡◌, ℕ, ◌<◌, inl, inr, length, Option, Some, None, false, refl, sym, ap, subst, arith, ◌∙◌}
-use Rattle.std.specs.Prelude.{Contains, is_some, sum_by, slice_index, slice_index_or}
-use Rattle.std.proofs.lemmas.Bool.{cases_eq, ne_eqb}
+use Rattle.std.proofs.Common.{◌≡◌, ℕ, ◌<◌, inl, inr, length, Option, Some, None, false, refl, sym, ap, subst, arith, ◌∙◌, Contains, is_some, sum_by, slice_index, slice_index_or, ne_eqb}
+use Rattle.std.proofs.lemmas.Bool.{cases_eq}
 use Rattle.lt_modes.specs.Script.{ScriptData}
 use Rattle.lt_modes.specs.State.{Desk, TokenBody, Letter}
 use Rattle.lt_lists.specs.Below.{one_if, sum_below}
 use Rattle.lt_spec.specs.World.{World}
-use Rattle.lt_spec.specs.Facts.{state_at, tokens_in}
-use Rattle.lt_model.specs.Moments.{is_at}
-use Rattle.lt_spec.specs.Desks.{OnWay, DeskIs, Comes}
-use Rattle.lt_model.specs.Paths.{Paths, DeskOnPath, HasWay, BodyOnPath}
+use Rattle.lt_spec.specs.Facts.{state_at, tokens_in, OnWay, DeskIs, Comes}
+use Rattle.lt_model.specs.OnWay.{is_at}
+use Rattle.lt_model.specs.Invariant.{Paths, DeskOnPath, HasWay, BodyOnPath}
 use Rattle.lt_model.specs.PathEffects.{token_weight}
 use Rattle.lt_lists.proofs.Sums.{sum_below-at, sum_below-two, two_places}
 use Rattle.lt_model.proofs.Letters.{mail_weight-at}
-use Rattle.lt_model.proofs.TokenComes.{desk_somewhere}
+use Rattle.lt_model.proofs.PathsMove.{desk_somewhere}
 use Rattle.lt_model.proofs.PathsRoutes.{link_named}
 use Rattle.lt_model.proofs.PathsWorld.{weighs_tokens}
 use Rattle.std.proofs.lemmas.List.Sums.{get_or-le-sum_by}

@@ -1,40 +1,30 @@
 -- Effects of a node on its own account keep the ledgers: grants, unlocks, drops, asks, and answers at the desk.
-use Rattle.std.proofs.Common.{◌≡◌, ℕ, ◌<◌, [], ◌∷◌, ◌++◌, length, Option, Some, None, Bool, true, false, refl, sym, ap, subst, ◌∙◌}
-use Rattle.std.specs.Prelude.{◌==◌, ◌&&◌, not, if◌then◌else◌, Contains, IsFalse, is_some, remove}
-use Rattle.std.specs.List.{filter_map}
-use Rattle.std.proofs.lemmas.Bool.{eq-eqb, ne_eqb}
-use Rattle.std.proofs.lemmas.List.{append-nil}
+use Rattle.std.proofs.Common.{◌≡◌, ℕ, ◌<◌, [], ◌∷◌, ◌++◌, length, Option, Some, None, Bool, true, false, refl, sym, ap, subst, ◌∙◌, ◌==◌, ◌&&◌, not, if◌then◌else◌, Contains, IsFalse, is_some, remove, filter_map, eq-eqb, ne_eqb, append-nil}
 use Rattle.std.proofs.lemmas.List.Elements.{filter_map-append}
 use Rattle.lt_modes.specs.declared.mode.Mode.{Mode}
 use Rattle.lt_modes.specs.declared.stamp.Stamp.{Stamp}
 use Rattle.lt_modes.specs.declared.ask.Ask.{Ask}
 use Rattle.lt_modes.specs.declared.parts.Hoped.{Hoped}
-use Rattle.lt_modes.specs.Modes.{Modes, excludes_itself, has, bars}
+use Rattle.lt_modes.specs.Modes.{Modes, excludes_itself, has, bars, held_modes, take_lock}
 use Rattle.lt_modes.specs.Script.{ScriptData}
-use Rattle.lt_modes.specs.State.{SetState, Desk, Parked, ParkedAsk, ParkedTell}
-use Rattle.lt_modes.specs.Made.{Made, silent}
-use Rattle.lt_modes.specs.Held.{held_modes, take_lock}
-use Rattle.lt_modes.specs.Records.{entry_of, others}
-use Rattle.lt_modes.specs.Granting.{can_grant}
+use Rattle.lt_modes.specs.State.{SetState, Desk, Parked, ParkedAsk, ParkedTell, Made, silent, entry_of, others}
+use Rattle.lt_modes.specs.Freezing.{can_grant}
 use Rattle.lt_modes.specs.Serving.{ask_at, queue_of, serve_local}
-use Rattle.lt_modes.specs.Routing.{Way, Parks, Goes, dealt, reversed, sent_on, route}
-use Rattle.lt_modes.specs.SetMove.{given, asked, dropped}
+use Rattle.lt_modes.specs.SetMove.{Way, Parks, Goes, dealt, reversed, sent_on, route, given, asked, dropped}
 use Rattle.lt_spec.specs.World.{World}
 use Rattle.lt_spec.specs.Facts.{state_at}
-use Rattle.lt_model.specs.Moments.{Between, Acting, Frozen, is_at}
-use Rattle.lt_model.specs.OnWay.{tell_parked, tells_of, copies_to, account_of, news_of}
+use Rattle.lt_model.specs.OnWay.{Between, Acting, Frozen, is_at, tell_parked, tells_of, copies_to, account_of, news_of}
 use Rattle.lt_law_accounts.specs.AccountSteps.{MayGrant, MayAnswer}
 use Rattle.lt_law_accounts.specs.AccountPlay.{AllKept, Wait, Grant, Unlock, Drop, Answer, Rest, others_counted}
 use Rattle.lt_model.specs.AccountRules.{own_account, IsLocallyFree, account_with}
 use Rattle.lt_law_accounts.specs.News.{NewsKept}
 use Rattle.lt_model.specs.Invariant.{DeskKept}
 use Rattle.lt_model.proofs.AccountRules.{rules_count}
-use Rattle.lt_model.proofs.CommandRules.{grants_by_rule}
+use Rattle.lt_model.proofs.NewsRules.{grants_by_rule}
 use Rattle.lt_model.proofs.Effects.{route_ways}
-use Rattle.lt_law_invariant.specs.OneEffect.{after_effect}
-use Rattle.lt_law_accounts.proofs.AllKept.{one_changes}
-use Rattle.lt_law_invariant.proofs.Seen.{SameOwn, SameFrozen, all_kept, kept_by, account_as, news_change, frozen_stays}
-use Rattle.lt_law_invariant.proofs.Quiet.{QuietMade, quiet_heard, own_happens, accounts_stay, news_stay}
+use Rattle.lt_law_invariant.specs.InvariantLaws.{after_effect}
+use Rattle.lt_law_accounts.proofs.AccountPlay.{one_changes}
+use Rattle.lt_law_invariant.proofs.Seen.{SameOwn, SameFrozen, all_kept, kept_by, account_as, news_change, frozen_stays, QuietMade, quiet_heard, own_happens, accounts_stay, news_stay}
 
 -- the desk is at node q, which keeps this of it, or the desk is elsewhere
 abbrev pub HasDesk : Option ℕ → Desk → ℕ → Option Desk → Type 0

@@ -1,6 +1,5 @@
 -- An ask that leaves a queue by being served conflicts with no ask that stands before it.
-use Rattle.std.proofs.Common.{◌≡◌, ◌≢◌, ℕ, zero, suc, ◌+◌, ◌<◌, inl, inr, List, [], ◌∷◌, ◌++◌, length, Option, Some, None, Bool, true, false, refl, sym, ap, subst, arith, take, ◌∙◌}
-use Rattle.std.specs.Prelude.{◌⊎◌, ◌||◌, not, if◌then◌else◌, All, Contains, IsTrue, IsFalse, slice_index_or}
+use Rattle.std.proofs.Common.{◌≡◌, ◌≢◌, ℕ, zero, suc, ◌+◌, ◌<◌, inl, inr, List, [], ◌∷◌, ◌++◌, length, Option, Some, None, Bool, true, false, refl, sym, ap, subst, arith, take, ◌∙◌, ◌⊎◌, ◌||◌, not, if◌then◌else◌, All, Contains, IsTrue, IsFalse, slice_index_or}
 use Rattle.std.specs.List.{AllByRecursion}
 use Rattle.std.proofs.lemmas.Bool.{and_parts}
 use Rattle.std.proofs.lemmas.List.Elements.{All-nil, All-cons}
@@ -14,25 +13,18 @@ use Rattle.lt_modes.specs.declared.moves.Step.{Step}
 use Rattle.lt_modes.specs.declared.moves.Step.TheVariants.{Act, Take}
 use Rattle.lt_modes.specs.Modes.{Modes, conflicts, has, no_modes, union, bars, with_mode}
 use Rattle.lt_modes.specs.Script.{ScriptData}
-use Rattle.lt_modes.specs.State.{SetState, Desk, Letter}
-use Rattle.lt_modes.specs.Made.{Made}
-use Rattle.lt_modes.specs.Queue.{no_ask}
-use Rattle.lt_modes.specs.Records.{others}
+use Rattle.lt_modes.specs.State.{SetState, Desk, Letter, Made, no_ask, others}
 use Rattle.lt_modes.specs.Serving.{queue_of, queue_of_desk, is_free, is_local, is_copy, is_served, next_from, next_at, next_service, serve_one, serve_up_to, serve_step}
-use Rattle.lt_modes.specs.SetMove.{dropped, lock, try, unlock, change, drop, take as take_letter}
-use Rattle.lt_modes.specs.Taking.{arrive}
-use Rattle.lt_modes.specs.Telling.{finish}
+use Rattle.lt_modes.specs.SetMove.{dropped, lock, try, unlock, change, drop, take as take_letter, arrive, finish}
 use Rattle.lt_modes.proofs.ModeAlgebra.{bars_by_table}
 use Rattle.lt_lists.specs.Below.{put}
 use Rattle.lt_lists.proofs.Puts.{put-same, put-other}
 use Rattle.lt_lists.proofs.Members.{contains_cases}
-use Rattle.lt_law_accounts.proofs.ModeMembers.{has-kept, has-added, has-right}
-use Rattle.lt_spec.specs.Families.{related}
-use Rattle.lt_spec.specs.NodeMove.{NodeState, node_waits, next_command, act_stamp, take_stamp, at_clock, one_made, touched, each_touched, drop_all, obey}
+use Rattle.lt_law_accounts.proofs.AccountFacts.{has-kept, has-added, has-right}
+use Rattle.lt_spec.specs.NodeMove.{related, NodeState, node_waits, next_command, act_stamp, take_stamp, at_clock, one_made, touched, each_touched, drop_all, obey}
 use Rattle.lt_spec.specs.World.{World, front_stamp, move_stamp, opened, take_front, node_move, after, world_after}
-use Rattle.lt_spec.specs.Touches.{sets_of_step, sets_of_command, sets_of_front}
+use Rattle.lt_spec.specs.Promised.{sets_of_step, sets_of_command, sets_of_front, services_up_to, services_then, lines_of_services, made_by_command, made_by_front, before_end, IsInTurn, ServesInTurn, LinesOfServices, ServedInTurn}
 use Rattle.lt_model.proofs.NodeEffects.{IsOnce, once_or_aside}
-use Rattle.lt_spec.specs.Services.{services_up_to, services_then, lines_of_services, made_by_command, made_by_front, before_end, IsInTurn, ServesInTurn, LinesOfServices, ServedInTurn}
 
 not_false : (t : Bool) → not t ≡ true → t ≡ false
 not_false true e = cc

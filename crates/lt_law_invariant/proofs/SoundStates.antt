@@ -1,41 +1,48 @@
 -- What a node keeps is sound, where the parts of the invariant hold.
-use Rattle.std.proofs.Common.{◌≡◌, ◌≢◌, ℕ, ◌<◌, ◌≤◌, List, length, Option, Some, None, Bool, false, refl, sym, ap, subst, arith, ◌∙◌}
-use Rattle.std.specs.Prelude.{◌⊎◌, if◌then◌else◌, Contains, AllPairs, IsTrue, IfSome, count_by, slice_index_or}
-use Rattle.std.proofs.lemmas.Bool.{ne_eqb}
+use Rattle.std.proofs.Common.{◌≡◌, ◌≢◌, ℕ, ◌<◌, ◌≤◌, List, length, Option, Some, None, Bool, false, refl, sym, ap, subst, arith, ◌∙◌, inl, inr, zero, suc, [], ◌∷◌, take, ◌⊎◌, if◌then◌else◌, Contains, AllPairs, IsTrue, IfSome, count_by, slice_index_or, ne_eqb}
+use Rattle.std.proofs.lemmas.Bool.{cases_eq}
 use Rattle.std.proofs.lemmas.List.Elements.{All-contains}
 use Rattle.std.proofs.lemmas.List.Quantifiers.{position-Some}
 use Rattle.lt_modes.specs.declared.mode.Mode.{Mode}
 use Rattle.lt_modes.specs.declared.ask.Ask.{Ask}
 use Rattle.lt_modes.specs.declared.parts.Row.{Row}
 use Rattle.lt_modes.specs.Script.{ScriptData}
-use Rattle.lt_modes.specs.State.{SetState, Desk}
-use Rattle.lt_modes.specs.Held.{is_row_of, no_row, row_place, count_at, count_of}
-use Rattle.lt_modes.specs.Queue.{times_in}
+use Rattle.lt_modes.specs.State.{SetState, Desk, times_in, Letter}
+use Rattle.lt_modes.specs.Modes.{is_row_of, no_row, row_place, count_at, count_of}
 use Rattle.lt_modes.specs.Fits.{is_at_home, asks_here, numbers_of}
 use Rattle.lt_modes.specs.Sound.{HoldsGivenUp, SoundPending, SoundHere, SoundDesk, SoundSet}
-use Rattle.lt_model.specs.Homes.{HasSoundHomes, IsSoundOwn}
-use Rattle.lt_spec.specs.WholeScripts.{IsWhole}
-use Rattle.lt_spec.specs.World.{World}
-use Rattle.lt_spec.specs.Facts.{state_at, places_in_state, place_count}
-use Rattle.lt_model.specs.Moments.{is_at}
-use Rattle.lt_spec.specs.Desks.{DeskIs}
-use Rattle.lt_model.specs.Timed.{Timed}
 use Rattle.lt_lists.proofs.Sums.{sum_below-at, none_found, sum_by-zero}
+use Rattle.lt_lists.proofs.Members.{all_of, nothing_in}
+use Rattle.lt_lists.specs.Below.{put}
+use Rattle.lt_lists.proofs.Puts.{put-same, put-other}
+use Rattle.lt_spec.specs.NodeMove.{IsWhole}
+use Rattle.lt_spec.specs.World.{World, node_move, after, Logged, start, after_run, world_after, IsRunFrom}
+use Rattle.lt_spec.specs.Facts.{state_at, places_in_state, place_count, DeskIs}
 use Rattle.lt_law_accounts.proofs.Asks.{times_in-some}
-use Rattle.lt_model.proofs.TokenComes.{desk_somewhere}
-use Rattle.lt_law_invariant.specs.LedgerLaws.{LedgersKept}
-use Rattle.lt_law_invariant.proofs.OneDesk.{named_firm, entries_on}
-use Rattle.lt_lists.proofs.Members.{all_of}
 use Rattle.lt_law_accounts.proofs.RowTotals.{row_count, total}
+use Rattle.lt_model.specs.Homes.{HasSoundHomes, IsSoundOwn}
+use Rattle.lt_model.specs.OnWay.{is_at}
+use Rattle.lt_model.specs.Invariant.{Timed, Paths, AsksStand, WorldInvariant}
+use Rattle.lt_model.proofs.PathsMove.{desk_somewhere, kept_stands, kept_timed, move_kept}
+use Rattle.lt_model.proofs.HomesSound.{sound_state}
+use Rattle.lt_model.proofs.NodeEffects.{after_node}
+use Rattle.lt_model.proofs.TimedMove.{timed_kept}
+use Rattle.lt_model.proofs.ClocksGrow.{served_kept, clocks_in_runs}
+use Rattle.lt_model.proofs.StandingMove.{standing_kept}
+use Rattle.lt_model.proofs.StartKept.{start_kept}
+use Rattle.lt_law_invariant.specs.InvariantLaws.{LedgersKept, KeptStays, KeptInRuns, LocksNeverConflict, LettersFitInRuns, FirstWaiterInRuns, LedInRuns, FrozenInRuns}
+use Rattle.lt_law_invariant.proofs.OneDesk.{named_firm, entries_on}
 use Rattle.lt_law_invariant.proofs.ClientCounts.{SomeEach}
 use Rattle.lt_law_invariant.proofs.ClientEffects.{is_asks, GivenBy}
 use Rattle.lt_law_invariant.proofs.ClientMoves.{SoundClients}
-use Rattle.lt_law_invariant.proofs.AsksApart.{OwnAsks, apart_by, one_each, here_times, standing_apart, standing_known}
-use Rattle.lt_law_invariant.proofs.KeptHomes.{HomesWithin}
-use Rattle.lt_law_invariant.proofs.KeptParked.{HeldOrComes, none_parked}
-use Rattle.lt_model.specs.Paths.{Paths}
-use Rattle.lt_model.specs.Standing.{AsksStand}
-use Rattle.lt_model.proofs.HomesSound.{sound_state}
+use Rattle.lt_law_invariant.proofs.FittingLetters.{OwnAsks, apart_by, one_each, here_times, standing_apart, standing_known, letters_fit}
+use Rattle.lt_law_invariant.proofs.KeptHomes.{HomesWithin, kept_homes, homes_within_kept}
+use Rattle.lt_law_invariant.proofs.KeptParked.{HeldOrComes, none_parked, held_or_comes_kept, parked_for}
+use Rattle.lt_law_invariant.proofs.HeldUpMoves.{moves_keep_ledgers, locks_agree}
+use Rattle.lt_law_invariant.proofs.ClientsKept.{sound_clients, clients_kept}
+use Rattle.lt_law_invariant.proofs.RowsKept.{rows_stay_apart}
+use Rattle.lt_law_invariant.proofs.FirstWaiter.{first_waiter_conflicts, holders_are_frozen}
+use Rattle.lt_law_invariant.proofs.MidMove.{asks_are_led}
 
 -- what is held is counted in its first row
 counted_first : (rows : List Row) (client : ℕ) (mode : Mode) → SomeEach rows → 1 ≤ total rows client mode → 1 ≤ count_of rows client mode
@@ -133,3 +140,97 @@ sound_set script w s x whole g below under differ = record {
         elsewhere : (place : Option ℕ) (desk : Desk) → DeskIs script w s place desk → is_at place x ≡ false
         elsewhere None desk h = refl
         elsewhere (Some p) desk h = ne_eqb x p (λ same. no_desk desk (sym e ∙ ap (λ (y : ℕ). (state_at w s y).desk) same ∙ h.1))
+
+-- Each enabled move of any world that has the invariant keeps it.
+
+-- each enabled move keeps the invariant
+pub kept_stays : KeptStays
+kept_stays script w q step whole h enabled = record {
+  clients = λ x below. (clients x below).kept;
+  letters = λ a b ha hb. all_of (λ (letter : Letter). letter.set < length script.sets) (later.mail a b) (λ letter there. (homes.letters a b letter ha hb there).set);
+  none_to_itself = λ x below. nothing_in (later.mail x x) (λ letter there.
+      ((paths letter.set (homes.letters x x letter below below there).set).letters x x letter below (record { among = there; set = refl })).other refl);
+  sets = λ s under. record {
+    paths = paths s under;
+    letters = λ a b letter ha hb on. (timed s under).letters a b letter ha on;
+    states = λ x below. sound_set script later s x whole (facts s x under below) under below (rows_stay_apart script w q step whole h enabled x s below under);
+    places = (stood s under).places;
+    parked = λ x below. parked_for script later s x (paths s under) below (held s x under below);
+    known = known s under;
+    served = λ t desk idle there. served_kept script w s (λ x d at. (h.sets s under).served x d refl at) q step enabled t desk there;
+  };
+}
+  where
+    later : World
+    later = after script w q step
+
+    paths : (s : ℕ) → s < length script.sets → Paths script later s
+    paths s under = move_kept script w s whole.some_node (h.sets s under).paths q step enabled
+
+    stood : (s : ℕ) → s < length script.sets → AsksStand script later s
+    stood s under = standing_kept script w s whole.some_node (h.sets s under).paths (kept_stands script w s (h.sets s under)) q step enabled
+
+    timed : (s : ℕ) → s < length script.sets → Timed script later s
+    timed s under = timed_kept script w s (kept_timed script w s (h.sets s under)) q step enabled
+
+    known : (s : ℕ) → s < length script.sets → LedgersKept script later s
+    known s under = moves_keep_ledgers script w s q step whole (h.sets s under) enabled
+
+    homes : HomesWithin script later
+    homes = homes_within_kept script w q step whole (kept_homes script w h) enabled
+
+    held : (s x : ℕ) → s < length script.sets → x < script.nodes → HeldOrComes script later s x
+    held s x under below = held_or_comes_kept script w s q step x whole (h.sets s under) below enabled
+
+    clients : (x : ℕ) → x < script.nodes → SoundClients script (later.node x)
+    clients x below = subst (SoundClients script) (sym (after_node script w q step x)) (elim (cases_eq x q) [
+      | inl e ↦ subst (SoundClients script) (sym (ap (put w.node q (node_move script w q step).node) e ∙ put-same w.node q (node_move script w q step).node))
+          (clients_kept script w whole h q step enabled)
+      | inr d ↦ subst (SoundClients script) (sym (put-other w.node q (node_move script w q step).node x d)) (sound_clients script w x h below)
+    ])
+
+    facts : (s x : ℕ) → s < length script.sets → x < script.nodes → SetFacts script later s x
+    facts s x under below = record {
+      paths = paths s under;
+      stood = stood s under;
+      timed = timed s under;
+      known = known s under;
+      homes = homes;
+      held = held s x under below;
+      clients = clients;
+    }
+
+-- The invariant in every run, and what follows from it there.
+
+run_kept : (script : ScriptData) (run : List Logged) (w : World) → IsWhole script → WorldInvariant script w → IsRunFrom script w run → (k : ℕ)
+    → WorldInvariant script (after_run script w (take k run))
+run_kept script run w whole h is_run zero = h
+run_kept script [] w whole h is_run (suc k) = h
+run_kept script (entry ∷ rest) w whole h is_run (suc k) =
+    let q = entry.made.stamp.node in
+    run_kept script rest (after script w q entry.made.step) whole (kept_stays script w q entry.made.step whole h is_run.0.enabled) is_run.1 k
+
+pub kept_in_runs : KeptInRuns
+kept_in_runs script run whole is_run k = run_kept script run (start script) whole (start_kept script whole.some_node) is_run k
+
+pub locks_never_conflict : LocksNeverConflict
+locks_never_conflict script run whole is_run k s below = locks_agree script (world_after script (take k run)) s ((kept_in_runs script run whole is_run k).sets s below)
+
+pub letters_fit_in_runs : LettersFitInRuns
+letters_fit_in_runs script run whole is_run k p q letter few hp hq there =
+    let clocks = clocks_in_runs script run is_run k in
+    let sent = (clocks.0 p q letter there).1 in
+    letters_fit script (world_after script (take k run)) p q letter whole (kept_in_runs script run whole is_run k) hp hq there
+    (omega (arith, few, sent, clocks.1 p)) (omega (arith, few, clocks.1 q))
+
+pub first_waiter_in_runs : FirstWaiterInRuns
+first_waiter_in_runs script run whole is_run k s ask below rest first =
+    first_waiter_conflicts script (world_after script (take k run)) s ask ((kept_in_runs script run whole is_run k).sets s below) rest first
+
+pub led_in_runs : LedInRuns
+led_in_runs script run whole is_run k s x ask below under rest waits =
+    asks_are_led script (world_after script (take k run)) s x ask ((kept_in_runs script run whole is_run k).sets s below) under rest waits
+
+pub frozen_in_runs : FrozenInRuns
+frozen_in_runs script run whole is_run k s x row below under rest held =
+    holders_are_frozen script (world_after script (take k run)) s x row ((kept_in_runs script run whole is_run k).sets s below) under rest held

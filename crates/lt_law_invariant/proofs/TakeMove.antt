@@ -1,44 +1,138 @@
--- The take of a letter keeps the ledgers of its set.
-use Rattle.std.proofs.Common.{◌≡◌, ℕ, ◌+◌, ◌<◌, ◌≤◌, List, [], ◌∷◌, Option, Some, None, Bool, true, false, refl, sym, ap, subst, arith, ◌∙◌}
-use Rattle.std.specs.Prelude.{if◌then◌else◌, Contains, is_some, nat_lt}
+-- Where a move begins: the ledgers of a set as its node has set its clock.
+use Rattle.std.proofs.Common.{◌≡◌, ℕ, ◌<◌, Option, Some, None, refl, sym, ap, subst, arith, ◌∙◌, ◌+◌, [], ◌≤◌, List, ◌∷◌, Bool, true, false, Contains, if◌then◌else◌, is_some, nat_lt, eq-eqb}
 use Rattle.std.specs.List.{AllByRecursion}
-use Rattle.std.proofs.lemmas.Bool.{eq-eqb}
-use Rattle.lt_modes.specs.declared.stamp.Stamp.{Stamp}
 use Rattle.lt_modes.specs.declared.ask.Ask.{Ask}
-use Rattle.lt_modes.specs.declared.parts.Link.{Link}
-use Rattle.lt_modes.specs.declared.moves.Step.TheVariants.{Take}
+use Rattle.lt_modes.specs.Modes.{bars, held_modes}
 use Rattle.lt_modes.specs.Script.{ScriptData}
-use Rattle.lt_modes.specs.State.{SetState, Desk, Body, AskBody, TellBody, CopyBody, TokenBody, FreezeBody, Letter, Tell, ParkedAsk, ParkedTell}
-use Rattle.lt_modes.specs.Made.{Made}
-use Rattle.lt_modes.specs.Routing.{learn}
-use Rattle.lt_modes.specs.Taking.{arrive, take_body}
-use Rattle.lt_modes.specs.SetMove.{take}
+use Rattle.lt_modes.specs.State.{SetState, Desk, Body, AskBody, TellBody, CopyBody, TokenBody, FreezeBody, Letter, Tell, ParkedAsk, ParkedTell, Made}
+use Rattle.lt_modes.specs.declared.stamp.Stamp.{Stamp}
+use Rattle.lt_modes.specs.declared.moves.Step.TheVariants.{Act, Take}
+use Rattle.lt_modes.specs.declared.parts.Link.{Link}
+use Rattle.lt_modes.specs.SetMove.{learn, arrive, take_body, take}
 use Rattle.lt_lists.specs.Below.{put, one_if}
-use Rattle.lt_spec.specs.NodeMove.{NodeState, NodeMade, take_stamp, node_take}
-use Rattle.lt_spec.specs.World.{World, opened, after_made, sent}
-use Rattle.lt_spec.specs.Facts.{state_at, tokens_in, places_in_body}
-use Rattle.lt_model.specs.Moments.{Acting}
-use Rattle.lt_spec.specs.Desks.{OnWay}
-use Rattle.lt_model.specs.AccountRules.{IsParkedOf}
-use Rattle.lt_model.specs.Paths.{Paths, LetterOnPath, BodyOnPath}
-use Rattle.lt_model.specs.Standing.{AsksStand}
-use Rattle.lt_model.specs.MomentLaws.{begun}
-use Rattle.lt_model.proofs.PathsRoutes.{link_named}
 use Rattle.lt_lists.proofs.Puts.{put-same}
+use Rattle.lt_spec.specs.World.{World, after, opened, after_made, sent}
+use Rattle.lt_spec.specs.Facts.{state_at, DeskIs, tokens_in, places_in_body, OnWay}
+use Rattle.lt_spec.specs.NodeMove.{NodeState, NodeMade, next_command, act_stamp, at_clock, one_made, node_act, take_stamp, node_take}
+use Rattle.lt_spec.specs.Promised.{sets_of_command}
 use Rattle.lt_law_accounts.proofs.Asks.{same_ask-itself}
+use Rattle.lt_model.specs.OnWay.{Acting}
+use Rattle.lt_model.specs.Invariant.{Paths, DeskKept, AsksStand, LetterOnPath, BodyOnPath}
+use Rattle.lt_model.specs.Laws.{begun}
+use Rattle.lt_model.proofs.ExactTry.{same_set}
+use Rattle.lt_model.proofs.BeginsMove.{ledger_goes, begun_state, begun_goes}
+use Rattle.lt_model.proofs.NodeEffects.{obey-stamped, both_of_set, IsOnce, obey_by_effects}
+use Rattle.lt_model.proofs.SentInMove.{Stands, stands, places_weight}
+use Rattle.lt_model.proofs.StandingBegins.{elsewhere, unanswered, stands_before, none_in_hand, stands_of_set, stands_arrived, LetterTaken, letter_taken}
 use Rattle.lt_model.proofs.Effects.{both, HoldsOf, EndEffects, take_by_effects}
-use Rattle.lt_model.proofs.BeginsMove.{begun_state}
-use Rattle.lt_model.proofs.StandingParts.{places_weight, stands}
-use Rattle.lt_model.proofs.StandingBegins.{stands_arrived, LetterTaken, letter_taken, elsewhere, unanswered}
-use Rattle.lt_law_invariant.specs.LedgerLaws.{LedgersKept}
-use Rattle.lt_law_invariant.proofs.InHand.{InHand, in_hand}
+use Rattle.lt_model.specs.AccountRules.{IsParkedOf}
+use Rattle.lt_model.proofs.PathsRoutes.{link_named}
+use Rattle.lt_law_invariant.specs.InvariantLaws.{LedgersKept}
+use Rattle.lt_law_invariant.proofs.OwnSteps.{HasDesk}
 use Rattle.lt_law_invariant.proofs.Ledgers.{Ledger, Ended}
-use Rattle.lt_law_invariant.proofs.MidMove.{world_of, leads, at_now, Scene, no_copy}
-use Rattle.lt_law_invariant.proofs.MoveEffects.{route_firm, midway, ended_fact, frozen_fact, ledger_ends}
+use Rattle.lt_law_invariant.proofs.OtherSets.{begun_clock, clocks_as, states_as, ended_same, ledger_of_set, begins_of_set, ended_of_set}
+use Rattle.lt_law_invariant.proofs.OneDesk.{desk_seen, entries_on, named_firm}
+use Rattle.lt_law_invariant.proofs.MidMove.{world_of, Scene, Begun, leads, at_now, no_copy}
+use Rattle.lt_law_invariant.proofs.MoveEffects.{begins, ended_fact, ledger_moves, route_firm, midway, frozen_fact, ledger_ends}
+use Rattle.lt_law_invariant.proofs.InHand.{InHand, in_hand}
 use Rattle.lt_law_invariant.proofs.Arrive.{IsFair, body_done}
-use Rattle.lt_law_invariant.proofs.SeenWorld.{begun_clock, clocks_as, states_as, ended_same}
-use Rattle.lt_law_invariant.proofs.OneDesk.{named_firm}
-use Rattle.lt_law_invariant.proofs.Beginning.{Beginning, beginning}
+
+-- what the ledgers are at the beginning of a move of q
+pub record Beginning (script : ScriptData) (w base : World) (s q : ℕ) : Type 0 where
+  pub ledger : Ledger script (Acting q) base s q (state_at base s q).desk
+  pub charge : (state_at base s q).desk ≡ None → bars (held_modes (state_at base s q).held) ≡ bars (state_at base s q).charge
+  pub asks : (own : Ask) → Contains (state_at base s q).pending own → own.stamp.clock < (base.node q).clock
+  pub kept : (place : Option ℕ) (desk : Desk) → DeskIs script w s place desk → DeskKept script (Acting q) base s place desk
+
+pub beginning : (script : ScriptData) (w : World) (s q clock : ℕ) → Paths script w s → LedgersKept script w s → q < script.nodes
+    → (w.node q).clock < clock → Beginning script w (begun w q clock) s q
+beginning script w s q clock paths known below later = record {
+  ledger = record {
+    place = found.0;
+    desk = found.1;
+    there = begun_desk found.0 found.1 found.2;
+    has = subst (λ (t : SetState). HasDesk found.0 found.1 q t.desk) (sym same) found.3;
+    entries = entries_on script w s paths found.0 found.1 found.2;
+    kept = kept found.0 found.1 found.2;
+  };
+  charge = subst (λ (t : SetState). t.desk ≡ None → bars (held_modes t.held) ≡ bars t.charge) (sym same)
+      (λ away. (((known found.0 found.1 found.2).accounts q below).charge (subst (HasDesk found.0 found.1 q) away found.3)));
+  asks = λ own c.
+      let made = ((known found.0 found.1 found.2).accounts q below).clocks.asks own (subst (λ (t : SetState). Contains t.pending own) same c) in
+      omega (arith, made, later, begun_clock w q clock);
+  kept = kept;
+}
+  where
+    found : (place : Option ℕ) × (desk : Desk) × DeskIs script w s place desk × HasDesk place desk q (state_at w s q).desk
+    found = desk_seen script w s q paths below
+
+    same : state_at (begun w q clock) s q ≡ state_at w s q
+    same = begun_state w q clock s q
+
+    kept : (place : Option ℕ) (desk : Desk) → DeskIs script w s place desk → DeskKept script (Acting q) (begun w q clock) s place desk
+    kept place desk there = ledger_goes script (Acting q) w (begun w q clock) s place desk (same_set script w (begun w q clock) s (begun_state w q clock s) (λ a b. refl) refl)
+        (λ x. begun_goes w q clock x later) (known place desk there)
+
+    begun_desk : (place : Option ℕ) (desk : Desk) → DeskIs script w s place desk → DeskIs script (begun w q clock) s place desk
+    begun_desk (Some t) desk h = (h.0, ap (λ (u : SetState). u.desk) (begun_state w q clock s t) ∙ h.1)
+    begun_desk None desk (t, under, (p, letter, from, on, says)) = (t, under, (p, letter, from, record { among = on.among; set = on.set }, says))
+
+-- The move of a command keeps the ledgers of a set that it touches.
+
+-- the move of a command that touches the set
+pub act_ended : (script : ScriptData) (w : World) (s q client : ℕ) → 0 < script.nodes → Paths script w s → AsksStand script w s
+    → LedgersKept script w s → q < script.nodes
+    → IsOnce s (sets_of_command script (next_command script (w.node q) client))
+    → Ended script (after script w q (Act client)) s
+act_ended script w s q client some paths stood known below once =
+    ended_same script (world_of base q s (made.node.set s) made.posts) (after script w q (Act client)) s
+    (clocks_as w base q s (n.clock + 1) made.node (made.node.set s) made.posts refl (obey-stamped script stamp client (next_command script n client) (one_made client (at_clock (n.clock + 1) n))).clock)
+    (states_as w base q s (n.clock + 1) made.node (made.node.set s) made.posts refl refl) refl ended.1
+  where
+    n : NodeState
+    n = w.node q
+
+    stamp : Stamp
+    stamp = act_stamp q n
+
+    base : World
+    base = begun w q (n.clock + 1)
+
+    made : NodeMade
+    made = node_act script q client n
+
+    begin : Beginning script w base s q
+    begin = beginning script w s q (n.clock + 1) paths known below (omega arith)
+
+    scene : Scene script w base s q
+    scene = record { node = below; there = λ x d. begun_state w q (n.clock + 1) s x; stood = stood }
+
+    same : state_at base s q ≡ n.set s
+    same = begun_state w q (n.clock + 1) s q
+
+    first : Begun script base s q (n.set s) []
+    first = record {
+      mid = record {
+        ledger = ledger_of_set script (Acting q) base q s (n.set s) [] (n.set s).desk same tt (subst (λ (t : SetState). Ledger script (Acting q) base s q t.desk) same begin.ledger);
+        firm = named_firm script w s q some paths below;
+      };
+      charge = subst (λ (t : SetState). t.desk ≡ None → bars (held_modes t.held) ≡ bars t.charge) same begin.charge;
+      asks = subst (λ (t : SetState). (own : Ask) → Contains t.pending own → own.stamp.clock < (base.node q).clock) same begin.asks;
+    }
+
+    standing : Stands s q n.clock (elsewhere script w s q w.mail) (unanswered script w s q) (n.set s) []
+    standing = none_in_hand s q n.clock (elsewhere script w s q w.mail) (unanswered script w s q) (λ a. 0) (n.set s) [] (λ a. refl) (stands_before script w s q w.mail (λ a. 0) stood below (λ a. omega arith))
+
+    ended : both (stands s q stamp.clock (elsewhere script w s q base.mail) (unanswered script w s q)) (ended_fact script base s q) (made.node.set s) made.posts
+    ended = obey_by_effects script s client stamp
+        (both (stands s q n.clock (elsewhere script w s q base.mail) (unanswered script w s q)) (begins script base s q))
+        (both (stands s q stamp.clock (elsewhere script w s q base.mail) (unanswered script w s q)) (ended_fact script base s q))
+        (both_of_set s _ _ (stands_of_set s q n.clock (elsewhere script w s q w.mail) (unanswered script w s q)) (begins_of_set script base s q))
+        (both_of_set s _ _ (stands_of_set s q stamp.clock (elsewhere script w s q w.mail) (unanswered script w s q)) (ended_of_set script base s q))
+        (ledger_moves script w base s n.clock stamp scene (sym (begun_clock w q (n.clock + 1))) refl)
+        (next_command script n client) (one_made client (at_clock (n.clock + 1) n)) once (standing, first)
+
+-- The take of a letter keeps the ledgers of its set.
 
 -- what a node learns is named
 learnt_firm : (nodes : ℕ) (link : Link) (t : SetState) → link.node < nodes → t.firm.node < nodes → (learn link t).firm.node < nodes

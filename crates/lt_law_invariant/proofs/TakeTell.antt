@@ -1,33 +1,97 @@
--- A tell that is taken keeps the ledgers: applied at the desk, or parked or sent on.
-use Rattle.std.proofs.Common.{◌≡◌, ℕ, ◌<◌, inl, inr, length, Option, Some, None, Bool, true, false, refl, sym, ap, subst, ◌∙◌}
-use Rattle.std.specs.Prelude.{◌==◌, if◌then◌else◌, Contains}
-use Rattle.std.proofs.lemmas.Bool.{eq-eqb, ne_eqb}
-use Rattle.lt_modes.specs.declared.stamp.Stamp.{Stamp}
+-- A letter in hand that accounts and news don't read, and a copy that is taken, keep the ledgers.
+use Rattle.std.proofs.Common.{◌≡◌, ℕ, ◌<◌, Option, None, refl, sym, subst, ◌∙◌, inl, inr, length, Some, Bool, true, false, ap, ◌==◌, if◌then◌else◌, Contains, is_some, eq-eqb, ne_eqb}
+use Rattle.lt_modes.specs.declared.ask.Ask.{Ask}
+use Rattle.lt_modes.specs.Modes.{with_mode}
 use Rattle.lt_modes.specs.Script.{ScriptData}
-use Rattle.lt_modes.specs.State.{SetState, Desk, Entry, Tell, TellBody, ParkedTell}
-use Rattle.lt_modes.specs.Made.{Made, silent}
-use Rattle.lt_modes.specs.Records.{entry_of}
-use Rattle.lt_modes.specs.Tells.{told, tell_applied}
-use Rattle.lt_modes.specs.Routing.{route}
+use Rattle.lt_modes.specs.State.{SetState, Desk, Body, CopyBody, Made, without, entry_of, Entry, Tell, TellBody, ParkedTell, silent}
+use Rattle.lt_modes.specs.Serving.{answered, told, tell_applied}
+use Rattle.lt_modes.specs.SetMove.{take_copy, route}
+use Rattle.lt_modes.specs.declared.stamp.Stamp.{Stamp}
 use Rattle.lt_spec.specs.World.{World}
 use Rattle.lt_spec.specs.Facts.{state_at}
-use Rattle.lt_model.specs.Moments.{Acting, is_at}
-use Rattle.lt_model.specs.OnWay.{tells_of, copies_to, account_of}
-use Rattle.lt_law_accounts.specs.Account.{Account}
-use Rattle.lt_law_accounts.specs.AccountPlay.{Apply, Reorder}
+use Rattle.lt_law_accounts.specs.AccountPlay.{Deliver, Apply, Reorder}
 use Rattle.lt_law_accounts.specs.News.{NewsKept}
-use Rattle.lt_law_accounts.specs.AccountSteps.{IsGain, IsLoss, applying, reordering}
+use Rattle.lt_law_accounts.specs.AccountSteps.{IsLoss, delivering, IsGain, applying, reordering}
+use Rattle.lt_law_accounts.proofs.AccountPlay.{same_kept, one_changes}
+use Rattle.lt_law_accounts.specs.Account.{Account}
+use Rattle.lt_model.specs.OnWay.{Acting, is_at, tell_in, copy_in, freeze_in, tells_of, copies_to, account_of}
 use Rattle.lt_model.specs.Invariant.{DeskKept}
+use Rattle.lt_model.specs.AccountRules.{account_with}
 use Rattle.lt_model.proofs.AccountRules.{tells_are_applied}
-use Rattle.lt_model.proofs.Gathered.{tell_if-other}
-use Rattle.lt_law_accounts.proofs.AllKept.{one_changes}
-use Rattle.lt_law_invariant.specs.OneEffect.{after_effect}
-use Rattle.lt_law_invariant.proofs.AfterEffect.{clock_stays, copies_stay, freezes_stay}
-use Rattle.lt_law_invariant.proofs.Seen.{SameHeard, SameOwn, SameFrozen, all_kept, kept_by, account_seen, news_seen, news_change, own_then, own_stays, frozen_then, frozen_stays, heard_then}
-use Rattle.lt_law_invariant.proofs.Quiet.{quiet_heard}
-use Rattle.lt_law_invariant.proofs.OwnSteps.{route_same}
+use Rattle.lt_model.proofs.StandingBegins.{tell_if-other}
+use Rattle.lt_law_invariant.specs.InvariantLaws.{after_effect}
+use Rattle.lt_law_invariant.proofs.AfterEffect.{state_here, state_there, clock_stays, copies_stay, freezes_stay}
+use Rattle.lt_law_invariant.proofs.Seen.{SameHeard, all_kept, kept_by, account_seen, account_heard, news_seen, own_as, own_then, frozen_then, frozen_stays, heard_then, quiet_heard, SameOwn, SameFrozen, news_change, own_stays}
+use Rattle.lt_law_invariant.proofs.OwnSteps.{HasDesk, here_is, route_same}
+use Rattle.lt_law_invariant.proofs.InHand.{InHand, hand_heard, copy_in_hand, tell_in_hand}
 use Rattle.lt_law_invariant.proofs.Tells.{TellRouted, tell_routed, tells_gain, routed_heard}
-use Rattle.lt_law_invariant.proofs.InHand.{InHand, hand_heard, tell_in_hand}
+
+-- a letter that neither accounts nor news read is out of the way
+pub nothing_in_hand : (script : ScriptData) (w base : World) (s q : ℕ) (body : Body) (place : Option ℕ) (desk : Desk) → InHand script w base s q body
+    → ((x : ℕ) → tell_in x body ≡ None) → copy_in body ≡ None → freeze_in body ≡ None
+    → DeskKept script (Acting q) w s place desk → DeskKept script (Acting q) base s place desk
+nothing_in_hand script w base s q body place desk hand no_tell no_copy no_freeze h =
+    kept_by script (Acting q) base s place desk
+    (same_kept script.nodes (account_of script (Acting q) w s place desk) (account_of script (Acting q) base s place desk) (all_kept script (Acting q) w s place desk h)
+    (λ x under. account_seen script (Acting q) (Acting q) w base s place place desk desk x (record { heard = heard x; own = hand.own x }) refl refl refl))
+    (λ x under. subst NewsKept (sym (news_seen script (Acting q) w base s place desk x (heard x).freezes (hand.frozen x))) (h.news x under))
+  where
+    heard : (x : ℕ) → SameHeard script w base s x
+    heard x = hand_heard script w base s q x body hand (no_tell x) (λ e. no_copy) (λ e. no_freeze)
+
+-- a copy answers its ask
+pub take_copy_keeps : (script : ScriptData) (w base : World) (s q : ℕ) (ask : Ask) (place : Option ℕ) (desk : Desk) → q < script.nodes
+    → InHand script w base s q (CopyBody ask) → HasDesk place desk q (state_at base s q).desk → (Contains (copies_to script base s q) ask → ⊥)
+    → DeskKept script (Acting q) w s place desk
+    → DeskKept script (Acting q) (after_effect base q s (take_copy s ask (state_at base s q))) s place desk
+take_copy_keeps script w base s q ask place desk below hand has_desk alone h =
+    kept_by script (Acting q) later s place desk
+    (one_changes script.nodes (account_of script (Acting q) w s place desk) (account_of script (Acting q) later s place desk) q (Deliver ask (copies_to script base s q))
+    (all_kept script (Acting q) w s place desk h) below
+    (record { moves = eq-eqb q q refl; came = taken.0; left = taken.1; once = alone })
+    (λ x under d. account_seen script (Acting q) (Acting q) w later s place place desk desk x (record {
+      heard = heard_then script w base later s x (hand_heard script w base s q x (CopyBody ask) hand refl (λ e. absurd (d e)) (λ e. refl)) (heard x);
+      own = own_then (state_at w s x) (state_at base s x) (state_at later s x) (hand.own x) (own_as (state_at base s x) (state_at later s x) (state_there base q s m x d));
+    }) refl refl refl)
+    own)
+    (λ x under. subst NewsKept (sym (news_seen script (Acting q) w later s place desk x ((heard x).freezes ∙ hand.freezes x (λ e. refl))
+    (frozen_then (state_at w s x) (state_at base s x) (state_at later s x) (hand.frozen x) (frozen_stays base q s m x (record { number = refl; frozen = refl }))))) (h.news x under))
+  where
+    t : SetState
+    t = state_at base s q
+
+    m : Made
+    m = take_copy s ask t
+
+    later : World
+    later = after_effect base q s m
+
+    heard : (x : ℕ) → SameHeard script base later s x
+    heard x = quiet_heard script base q s m x (record { posts = tt; parked = λ y. refl })
+
+    here : is_some t.desk ≡ is_at place q
+    here = sym (here_is place desk q t.desk has_desk)
+
+    taken : Contains (copies_to script w s q) ask × IsLoss ask (copies_to script w s q) (copies_to script base s q)
+    taken = copy_in_hand script w base s q ask hand
+
+    own : account_of script (Acting q) later s place desk q ≡ delivering ask (copies_to script base s q) (account_of script (Acting q) w s place desk q)
+    own =
+        account_heard script (Acting q) base later s place desk q (heard q)
+        ∙ (λ i. account_with (hand.clocks q i) (is_at place q) (q == q) (entry_of desk q) (state_here base q s m i) (hand.tells q refl i) (copies_to script base s q))
+        ∙ (λ i. record {
+          clock = (w.node q).clock;
+          held = answered ((hand.own q).held i) ask;
+          charge = if here i then (hand.own q).charge i else with_mode ((hand.own q).charge i) ask.mode;
+          pending = without ((hand.own q).pending i) ask.stamp;
+          entry = entry_of desk q;
+          tells = tells_of script w s q;
+          copies = copies_to script base s q;
+          here = is_at place q;
+          moving = q == q;
+        })
+
+-- A tell that is taken keeps the ledgers: applied at the desk, or parked or sent on.
 
 -- a tell is applied at the desk
 pub apply_keeps : (script : ScriptData) (w base : World) (s q : ℕ) (tell : Tell) (desk : Desk) → q < script.nodes

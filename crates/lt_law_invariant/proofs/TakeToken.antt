@@ -1,37 +1,98 @@
--- The token comes, and the parked letters are dealt with: the ledgers stay kept.
-use Rattle.std.proofs.Common.{◌≡◌, ◌≢◌, ℕ, ◌<◌, inl, inr, List, [], ◌∷◌, ◌++◌, length, Option, Some, None, Bool, true, false, refl, sym, ap, subst, arith, ◌∙◌}
-use Rattle.std.specs.Prelude.{◌==◌, ◌⊎◌, if◌then◌else◌, Contains, fold}
-use Rattle.std.specs.List.{AllByRecursion, filter_map, cons_option}
-use Rattle.std.proofs.lemmas.Bool.{cases_eq, eq-eqb, ne_eqb}
-use Rattle.std.proofs.lemmas.List.{append-nil}
+-- Handing over keeps the ledgers of the set.
+use Rattle.std.proofs.Common.{◌≡◌, ◌≢◌, ℕ, ◌+◌, ◌<◌, inl, inr, length, Some, None, Bool, false, refl, sym, ap, subst, ◌∙◌, List, [], ◌∷◌, ◌++◌, Option, true, arith, ◌⊎◌, ◌==◌, if◌then◌else◌, Contains, fold, eq-eqb, ne_eqb, filter_map, append-nil}
+use Rattle.std.proofs.lemmas.Bool.{cases_eq}
+use Rattle.std.specs.List.{AllByRecursion, cons_option}
 use Rattle.std.proofs.lemmas.List.Elements.{Contains-append_left, Contains-append_right, Contains-append_cases}
+use Rattle.lt_modes.specs.State.{SetState, Desk, Made, entry_of, record_of, Entry, Tell, TellBody, Parked, ParkedAsk, ParkedTell, silent}
+use Rattle.lt_modes.specs.Serving.{settled, leaving, hand_over_to, told, is_newer}
 use Rattle.lt_modes.specs.Script.{ScriptData}
-use Rattle.lt_modes.specs.State.{SetState, Desk, Entry, Tell, TellBody, Parked, ParkedAsk, ParkedTell}
-use Rattle.lt_modes.specs.Made.{Made, silent}
-use Rattle.lt_modes.specs.Records.{entry_of, record_of}
-use Rattle.lt_modes.specs.Tells.{told, is_newer}
 use Rattle.lt_modes.specs.Freezing.{frozen_by}
-use Rattle.lt_modes.specs.Routing.{dealt}
-use Rattle.lt_modes.specs.Taking.{take_token}
+use Rattle.lt_modes.specs.SetMove.{dealt, take_token}
+use Rattle.lt_lists.proofs.Members.{filter_map-which, filter_map-at, contains_first, contains_later, contains_cases}
 use Rattle.lt_spec.specs.World.{World}
 use Rattle.lt_spec.specs.Facts.{state_at}
-use Rattle.lt_model.specs.Moments.{Acting}
-use Rattle.lt_model.specs.OnWay.{tell_if, tell_parked, tells_of, copies_to, account_of, news_of}
 use Rattle.lt_law_accounts.specs.Account.{Account}
-use Rattle.lt_law_accounts.specs.AccountSteps.{IsLoss, reordering}
-use Rattle.lt_law_accounts.specs.AccountPlay.{AllKept, Arrive, Apply}
-use Rattle.lt_model.specs.AccountRules.{IsParkedOf, told_by_parked}
-use Rattle.lt_law_accounts.specs.News.{News, NewsKept}
-use Rattle.lt_law_accounts.specs.NewsSteps.{beginning, changing, arriving as arriving_news}
+use Rattle.lt_law_accounts.specs.AccountSteps.{settling, IsLoss, reordering}
+use Rattle.lt_law_accounts.specs.AccountPlay.{Settle, AllKept, Arrive, Apply}
+use Rattle.lt_law_accounts.specs.News.{News, NewsKept, news_leaving as leaving_news, beginning, changing, arriving as arriving_news}
+use Rattle.lt_law_accounts.proofs.AccountPlay.{one_changes, same_kept, all_reordered}
+use Rattle.lt_law_accounts.proofs.NewsLemmas.{leaves_kept, begins_kept, changes_kept, news_arrive}
+use Rattle.lt_model.specs.OnWay.{Between, Frozen, tells_of, copies_to, freezes_to, account_of, news_of, Acting, tell_if, tell_parked}
+use Rattle.lt_model.specs.AccountRules.{account_with, IsParkedOf, told_by_parked}
+use Rattle.lt_model.specs.NewsRules.{news_with}
+use Rattle.lt_model.proofs.AccountRules.{handing_over_settles, tokens_arrive}
+use Rattle.lt_model.proofs.NewsRules.{desks_come_and_go}
 use Rattle.lt_model.specs.Invariant.{DeskKept}
-use Rattle.lt_model.proofs.AccountRules.{tokens_arrive}
-use Rattle.lt_law_accounts.proofs.NewsLemmas.{begins_kept, changes_kept, news_arrive}
-use Rattle.lt_model.proofs.Gathered.{tells_are_on_way, tell_item, tell_if-at, tell_if-other}
-use Rattle.lt_lists.proofs.Members.{filter_map-which, filter_map-at, contains_first, contains_later, contains_cases}
-use Rattle.lt_law_accounts.proofs.AllKept.{same_kept, one_changes, all_reordered}
-use Rattle.lt_law_invariant.specs.OneEffect.{after_effect}
+use Rattle.lt_model.proofs.StandingBegins.{tells_are_on_way, tell_item, tell_if-at, tell_if-other}
+use Rattle.lt_law_invariant.specs.InvariantLaws.{after_effect, HandOverKeeps}
 use Rattle.lt_law_invariant.proofs.AfterEffect.{state_here, state_there, clock_stays, copies_stay, freezes_stay, comes_or_sent, comes_still}
-use Rattle.lt_law_invariant.proofs.Seen.{all_kept, kept_by, own_stays, news_seen, frozen_stays}
+use Rattle.lt_law_invariant.proofs.Seen.{SameHeard, all_kept, kept_by, account_heard, account_seen, news_seen, frozen_as, QuietMade, quiet_heard, quiet_seen, own_stays, frozen_stays}
+
+pub hand_over_keeps : HandOverKeeps
+hand_over_keeps script w s v stamp desk at now knows h =
+    kept_by script Between later s None left
+    (one_changes script.nodes accounts (account_of script Between later s None left) q (Settle stamp)
+    (all_kept script (Frozen q) w s (Some q) desk h) at.node
+    (record { moves = eq-eqb q q refl; here = eq-eqb q q refl; now = now })
+    (λ x under d. account_seen script Between (Frozen q) w later s None (Some q) left desk x (quiet_seen script w q s m x d quiet)
+    (handing_over_settles.others_stay x stamp t desk d) (sym (ne_eqb x q d)) (sym (ne_eqb x q d)))
+    own)
+    (λ x under. news_kept x under (cases_eq x q))
+  where
+    q : ℕ
+    q = stamp.node
+
+    t : SetState
+    t = state_at w s q
+
+    m : Made
+    m = hand_over_to s stamp t v (Some desk)
+
+    later : World
+    later = after_effect w q s m
+
+    left : Desk
+    left = leaving stamp t desk
+
+    accounts : ℕ → Account
+    accounts x = account_of script (Frozen q) w s (Some q) desk x
+
+    news : ℕ → News
+    news x = news_of script (Frozen q) w s (Some q) desk x
+
+    within : q < length desk.entries
+    within = subst (λ (n : ℕ). q < n) (sym at.entries) at.node
+
+    quiet : QuietMade t m
+    quiet = record { posts = ((λ x. refl, refl, refl), tt); parked = λ x. refl }
+
+    heard : (x : ℕ) → SameHeard script w later s x
+    heard x = quiet_heard script w q s m x quiet
+
+    own : account_of script Between later s None left q ≡ settling stamp (accounts q)
+    own =
+        account_heard script Between w later s None left q (heard q)
+        ∙ ap (λ (u : SetState). account_with (w.node q).clock false false (entry_of left q) u (tells_of script w s q) (copies_to script w s q)) (state_here w q s m)
+        ∙ handing_over_settles.settles (w.node q).clock v (desk.epoch + 1) stamp t desk (tells_of script w s q) (copies_to script w s q) within
+
+    own_news : news_of script Between later s None left q ≡ leaving_news (record_of (settled stamp t (entry_of desk q))) (news q)
+    own_news =
+        (λ i. news_with (state_here w q s m i) ((heard q).freezes i) (entry_of left q) left false false)
+        ∙ desks_come_and_go.leaves v (desk.epoch + 1) stamp t desk (freezes_to script w s q) within
+        ∙ ap (λ (b : Bool). leaving_news (record_of (settled stamp t (entry_of desk q))) (record (news q) { here = b })) (sym (eq-eqb q q refl))
+
+    other_news : (x : ℕ) → x ≢ q → news_of script Between later s None left x ≡ news x
+    other_news x d =
+        news_seen script Between w later s None left x (heard x).freezes (frozen_as (state_at w s x) (state_at later s x) (state_there w q s m x d))
+        ∙ λ i. news_with (state_at w s x) (freezes_to script w s x) (handing_over_settles.others_stay x stamp t desk d i) desk (sym (ne_eqb x q d) i) false
+
+    news_kept : (x : ℕ) → x < script.nodes → (x ≡ q) ⊎ (x ≢ q) → NewsKept (news_of script Between later s None left x)
+    news_kept x below (inl e) = subst (λ (y : ℕ). NewsKept (news_of script Between later s None left y)) (sym e)
+        (subst NewsKept (sym own_news) (leaves_kept (news q) (record_of (settled stamp t (entry_of desk q))) (h.news q at.node)
+        (record { here = eq-eqb q q refl; frozen = refl; knows = knows })))
+    news_kept x below (inr d) = subst NewsKept (sym (other_news x d)) (h.news x below)
+
+-- The token comes, and the parked letters are dealt with: the ledgers stay kept.
 
 -- the tells of these parked letters are applied in order
 applied : (n : ℕ) (items : List Parked) (accounts : ℕ → Account) (tells : ℕ → List Tell) → AllByRecursion (IsParkedOf n) items → AllKept n accounts

@@ -1,37 +1,28 @@
 -- A tell that is parked or sent on, and a tell that is made.
-use Rattle.std.proofs.Common.{◌≡◌, ◌≢◌, ℕ, ◌<◌, inl, inr, [], ◌∷◌, ◌++◌, Option, None, Bool, true, false, refl, sym, ap, subst, arith, ◌∙◌}
-use Rattle.std.specs.Prelude.{◌==◌, ◌⊎◌, if◌then◌else◌, Contains}
-use Rattle.std.specs.List.{AllByRecursion, filter_map, cons_option}
-use Rattle.std.proofs.lemmas.Bool.{cases_eq, eq-eqb, ne_eqb}
-use Rattle.std.proofs.lemmas.List.{append-nil}
+use Rattle.std.proofs.Common.{◌≡◌, ◌≢◌, ℕ, ◌<◌, inl, inr, [], ◌∷◌, ◌++◌, Option, None, Bool, true, false, refl, sym, ap, subst, arith, ◌∙◌, ◌==◌, ◌⊎◌, if◌then◌else◌, Contains, filter_map, eq-eqb, ne_eqb, append-nil}
+use Rattle.std.specs.List.{AllByRecursion, cons_option}
+use Rattle.std.proofs.lemmas.Bool.{cases_eq}
 use Rattle.std.proofs.lemmas.List.Elements.{filter_map-append, Contains-push, Contains-push_cases, Contains-append_left}
 use Rattle.lt_modes.specs.declared.stamp.Stamp.{Stamp}
-use Rattle.lt_modes.specs.Modes.{bars, same_modes}
+use Rattle.lt_modes.specs.Modes.{bars, same_modes, held_modes}
 use Rattle.lt_modes.specs.Script.{ScriptData}
-use Rattle.lt_modes.specs.State.{SetState, Desk, Tell, Body, TellBody, Parked, ParkedTell}
-use Rattle.lt_modes.specs.Made.{Made, Post}
-use Rattle.lt_modes.specs.Held.{held_modes}
-use Rattle.lt_modes.specs.Records.{entry_of}
-use Rattle.lt_modes.specs.Routing.{Parks, Goes, sent_on, route, route_by}
-use Rattle.lt_modes.specs.Telling.{tell_of, make_tell}
+use Rattle.lt_modes.specs.State.{SetState, Desk, Tell, Body, TellBody, Parked, ParkedTell, Made, Post, entry_of}
+use Rattle.lt_modes.specs.SetMove.{Parks, Goes, sent_on, route, route_by, tell_of, make_tell}
 use Rattle.lt_spec.specs.World.{World}
-use Rattle.lt_spec.specs.Facts.{state_at}
-use Rattle.lt_model.specs.Moments.{Between, Acting, is_at, is_moving}
-use Rattle.lt_model.specs.OnWay.{tell_in, tell_parked, copy_in, freeze_in, tells_of, copies_to, account_of, news_of}
-use Rattle.lt_spec.specs.Desks.{Comes}
+use Rattle.lt_spec.specs.Facts.{state_at, Comes}
+use Rattle.lt_model.specs.OnWay.{Between, Acting, is_at, is_moving, tell_in, tell_parked, copy_in, freeze_in, tells_of, copies_to, account_of, news_of}
 use Rattle.lt_law_accounts.specs.AccountSteps.{IsGain}
 use Rattle.lt_law_accounts.specs.AccountPlay.{AllKept, Say, Rest}
 use Rattle.lt_law_accounts.specs.News.{NewsKept}
 use Rattle.lt_model.specs.Invariant.{DeskKept}
 use Rattle.lt_modes.proofs.ModeAlgebra.{same_modes-true}
-use Rattle.lt_model.proofs.Gathered.{tells_are_on_way, tell_if-other}
+use Rattle.lt_model.proofs.StandingBegins.{tells_are_on_way, tell_if-other}
 use Rattle.lt_lists.proofs.Members.{contains_cases}
 use Rattle.lt_model.specs.AccountRules.{account_with}
-use Rattle.lt_law_accounts.proofs.AllKept.{one_changes}
-use Rattle.lt_law_invariant.specs.OneEffect.{after_effect}
+use Rattle.lt_law_accounts.proofs.AccountPlay.{one_changes}
+use Rattle.lt_law_invariant.specs.InvariantLaws.{after_effect}
 use Rattle.lt_law_invariant.proofs.AfterEffect.{SaysNone, says_none, state_here, state_there, clock_stays, copies_stay, freezes_stay, comes_or_sent, comes_still, comes_sent}
-use Rattle.lt_law_invariant.proofs.Seen.{SameHeard, SameOwn, all_kept, kept_by, account_seen, account_as, news_seen, own_as, frozen_stays}
-use Rattle.lt_law_invariant.proofs.Quiet.{tells_stay}
+use Rattle.lt_law_invariant.proofs.Seen.{SameHeard, SameOwn, all_kept, kept_by, account_seen, account_as, news_seen, own_as, frozen_stays, tells_stay}
 use Rattle.lt_law_invariant.proofs.OwnSteps.{route_same}
 
 -- the tell was parked or sent to a node of the script, and nothing else was said

@@ -1,10 +1,6 @@
 ghost use Rattle.lt_model.specs.Laws.{OnePlace};
-ghost use Rattle.lt_law_invariant.specs.KeptLaws.{KeptStays, LettersFit};
-ghost use Rattle.lt_law_invariant.specs.RunLaws.{KeptInRuns, LocksNeverConflict, LettersFitInRuns, FirstWaiterInRuns, LedInRuns, FrozenInRuns};
-ghost use Rattle.lt_spec.specs.Services.{LinesOfServices, ServedInTurn};
-ghost use Rattle.lt_law_invariant.specs.LedgerLaws.{CopyServiceKeeps, HandOverKeeps, AllLocksAgree, MovesHoldUp, MovesKeepLedgers};
-ghost use Rattle.lt_law_invariant.specs.RestLaws.{FirstWaiterConflicts, BarredByLines, AsksAreLed, HoldersAreFrozen};
-ghost use Rattle.lt_law_invariant.specs.BoundLaws.{NodesStayWithin, AsksArePlaced};
+ghost use Rattle.lt_law_invariant.specs.InvariantLaws.{KeptStays, LettersFit, KeptInRuns, LocksNeverConflict, LettersFitInRuns, FirstWaiterInRuns, LedInRuns, FrozenInRuns, CopyServiceKeeps, HandOverKeeps, AllLocksAgree, MovesHoldUp, MovesKeepLedgers, FirstWaiterConflicts, BarredByLines, AsksAreLed, HoldersAreFrozen, NodesStayWithin, AsksArePlaced};
+ghost use Rattle.lt_spec.specs.Promised.{LinesOfServices, ServedInTurn};
 
 /// Every enabled move of a world that has the invariant leads to one that has it, and each letter that is on its way
 /// there fits its receiver.

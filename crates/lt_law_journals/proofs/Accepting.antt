@@ -1,25 +1,58 @@
--- The journal of a finished run is accepted, and what is accepted is the journal of a finished run.
-use Rattle.std.proofs.Common.{◌≡◌, ℕ, suc, ◌+◌, ◌==◌, ◌&&◌, cond, Bool, true, List, [], ◌∷◌, ◌++◌, length, map, fold, count_by, Option, Some, None, Ok, Err, refl, sym, ap, ap₂, subst, ◌∙◌, inl, inr, arith, append_assoc, append-nil}
-use Rattle.std.specs.List.{AllByRecursion, flat_map}
-use Rattle.std.proofs.lemmas.Bool.{cases_Bool, eq-eqb, lt-ltb, and_from}
+-- The moves of a run can be counted in a line, and so all its lines can be written and read back.
+use Rattle.std.proofs.Common.{◌≡◌, ℕ, ◌^◌, ◌<◌, List, [], ◌∷◌, ◌++◌, length, map, None, refl, ap, ◌∙◌, arith, suc, ◌+◌, ◌==◌, cond, Bool, true, fold, Option, Some, Ok, Err, sym, ap₂, subst, inl, inr, append_assoc, append-nil, eq-eqb}
+use Rattle.std.specs.List.{AllByRecursion}
+use Rattle.std.proofs.lemmas.Bool.{cases_Bool, and_from}
 use Rattle.std.proofs.lemmas.List.{map-append}
-use Rattle.std.proofs.lemmas.List.Sums.{fold-append, sum_by-append, sum_by-cons}
+use Rattle.std.proofs.lemmas.List.Sums.{fold-append}
 use Rattle.std.proofs.lemmas.Slice.Eq.{bytes_eq-Decides}
 use Rattle.lt_modes.specs.Script.{ScriptData}
-use Rattle.lt_spec.specs.Log.{Logged}
-use Rattle.lt_spec.specs.World.{IsRun, World, start, world_after, is_enabled, is_at_rest, move_stamp, logged, is_of_node, IsMove, IsRunFrom}
-use Rattle.lt_model.proofs.Runs.{after_run-push}
+use Rattle.lt_spec.specs.World.{Logged, IsRun, World, start, world_after, is_enabled, is_at_rest, move_stamp, logged, IsMove, IsRunFrom}
 use Rattle.lt_spec.specs.Script.{IsScript}
+use Rattle.lt_text.specs.Text.{lines, cut_at}
 use Rattle.lt_journal.specs.declared.line.Line.{Line}
-use Rattle.lt_journal.specs.declared.line.Line.TheVariants.{Move as MoveLine, Event as EventLine}
 use Rattle.lt_journal.specs.LineFits.{FitsLine}
-use Rattle.lt_journal.specs.RunLines.{first_lines, event_lines, entry_lines, moves_lines, closing_lines, run_lines}
-use Rattle.lt_journal.proofs.Named.{named, few_nodes}
-use Rattle.lt_journal.proofs.Written.{line_back}
-use Rattle.lt_law_journals.specs.Checking.{first_reader, Place, Reader, written, closing_at_rest, first_place, moved, is_next, by_move, by_due, place_after, read_on, reader_after, led_to, verdict, verdict_at, checked}
-use Rattle.lt_law_journals.specs.Journals.{IsFinished, journal_lines, lines_so_far, BeginsWith}
-use Rattle.lt_law_journals.proofs.Fitting.{all_fit, fit_left, fit_right, journal_written}
+use Rattle.lt_journal.specs.RunLines.{run_lines, line_words, lines_text, first_lines, event_lines, entry_lines, moves_lines, closing_lines}
+use Rattle.lt_journal.proofs.Fitting.{lines_fit}
+use Rattle.lt_journal.proofs.Written.{named, few_nodes, plain_line, line_back}
+use Rattle.lt_journal.proofs.Plain.{lines_line}
+use Rattle.lt_journal.specs.declared.line.Line.TheVariants.{Move as MoveLine}
+use Rattle.lt_model.proofs.Runs.{after_run-push}
+use Rattle.lt_law_ends.proofs.Short.{runs_are_short}
+use Rattle.lt_law_journals.proofs.Short.{fits_in_runs}
+use Rattle.lt_law_journals.specs.Checking.{written, journal_lines, first_reader, Place, Reader, closing_at_rest, first_place, moved, is_next, by_move, by_due, place_after, read_on, reader_after, led_to, verdict, verdict_at, checked, IsFinished, lines_so_far, BeginsWith}
 use Rattle.lt_law_journals.proofs.Places.{not_at_rest, first_begins, begins_after}
+
+few_in_all : (script : ScriptData) (run : List Logged) → IsScript script → IsRun script run → length run < 2 ^ 32
+few_in_all script run is_script is_run = omega (arith, runs_are_short script run is_script is_run)
+
+-- the lines of the run fit, and those that follow it at rest
+pub all_fit : (script : ScriptData) (run : List Logged) → IsScript script → IsRun script run
+    → AllByRecursion (FitsLine script) (run_lines script run None)
+all_fit script run is_script is_run =
+    lines_fit script run None (fits_in_runs script run None is_script is_run (few_in_all script run is_script is_run) tt)
+
+pub fit_left : {X : Type 0} (P : X → Type 0) (xs ys : List X) → AllByRecursion P (xs ++ ys) → AllByRecursion P xs
+fit_left P [] ys all = tt
+fit_left P (x ∷ xs) ys all = (all.0, fit_left P xs ys all.1)
+
+pub fit_right : {X : Type 0} (P : X → Type 0) (xs ys : List X) → AllByRecursion P (xs ++ ys) → AllByRecursion P ys
+fit_right P [] ys all = all
+fit_right P (x ∷ xs) ys all = fit_right P xs ys all.1
+
+-- the lines of what is written are the lines as they are written
+written_lines : (script : ScriptData) (xs : List Line) → IsScript script → AllByRecursion (FitsLine script) xs → lines (lines_text script xs) ≡ map (written script) xs
+unfolding lines cut_at
+written_lines script [] is_script fits = refl
+written_lines script (x ∷ xs) is_script fits =
+    lines_line (line_words script x) (lines_text script xs) (plain_line script x (named script is_script) (few_nodes script is_script) fits.0)
+    ∙ ap (λ (ls : List (List ℕ)). written script x ∷ ls) (written_lines script xs is_script fits.1)
+
+pub journal_written : (script : ScriptData) (run : List Logged) → IsScript script → IsRun script run
+    → journal_lines script run ≡ map (written script) (run_lines script run None)
+journal_written script run is_script is_run =
+    written_lines script (run_lines script run None) is_script (all_fit script run is_script is_run)
+
+-- The journal of a finished run is accepted, and what is accepted is the journal of a finished run.
 
 abbrev pub at_place : Place → ℕ → Reader
 at_place place good = record { place = Some place; good = good }

@@ -1,14 +1,11 @@
 -- What is answered to an input, exactly.
-use Rattle.std.proofs.Common.{◌≡◌, ℕ, ◌+◌, List, drop, Result, Ok, Err, refl, sym, ap, ap₂, ◌∙◌}
-use Rattle.std.specs.Prelude.{◌↔◌}
+use Rattle.std.proofs.Common.{◌≡◌, ℕ, ◌+◌, List, drop, Result, Ok, Err, refl, sym, ap, ap₂, ◌∙◌, ◌↔◌}
 use Rattle.lt_modes.specs.Script.{ScriptData}
-use Rattle.lt_spec.specs.Log.{Logged}
+use Rattle.lt_spec.specs.World.{Logged}
 use Rattle.lt_spec.specs.Script.{IsScript}
 use Rattle.lt_text.specs.Text.{lines}
 use Rattle.lt_journal.specs.Split.{input_parts}
-use Rattle.lt_law_journals.specs.Checking.{checked}
-use Rattle.lt_law_journals.specs.Input.{counted_from, checked_input, IsFirstBadIn}
-use Rattle.lt_law_journals.specs.Journals.{IsFinished, journal_lines}
+use Rattle.lt_law_journals.specs.Checking.{checked, counted_from, checked_input, IsFirstBadIn, IsFinished, journal_lines}
 use Rattle.lt_law_journals.proofs.Accepting.{means, accepts}
 use Rattle.lt_law_journals.proofs.Firsts.{first_bad, refused}
 use Rattle.lt_law_journals.proofs.Inputs.{journal_part, lines_counted}

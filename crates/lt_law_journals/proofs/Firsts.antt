@@ -1,25 +1,20 @@
 -- The first bad line, and what may follow the lines before it.
-use Rattle.std.proofs.Common.{◌≡◌, ℕ, zero, suc, ◌+◌, ◌<◌, ◌≤◌, cond, Bool, true, List, [], ◌∷◌, ◌++◌, length, map, take, drop, fold, Option, Some, None, Result, Ok, Err, refl, sym, ap, ◌∙◌, inl, inr, arith, bytes_eq, append_assoc, append-nil}
-use Rattle.std.specs.List.{flat_map}
-use Rattle.std.specs.Prelude.{◌↔◌}
+use Rattle.std.proofs.Common.{◌≡◌, ℕ, zero, suc, ◌+◌, ◌<◌, ◌≤◌, cond, Bool, true, List, [], ◌∷◌, ◌++◌, length, map, take, drop, fold, Option, Some, None, Result, Ok, Err, refl, sym, ap, ◌∙◌, inl, inr, arith, bytes_eq, append_assoc, append-nil, ◌↔◌, take-append-drop}
 use Rattle.std.proofs.lemmas.Bool.{cases_Bool, cases_order}
-use Rattle.std.proofs.lemmas.List.{map-append, take-append-drop}
+use Rattle.std.proofs.lemmas.List.{map-append}
 use Rattle.std.proofs.lemmas.List.Concat.{flat_map-append}
 use Rattle.std.proofs.lemmas.List.Sums.{fold-append}
 use Rattle.lt_modes.specs.Script.{ScriptData}
-use Rattle.lt_spec.specs.Log.{Logged}
-use Rattle.lt_spec.specs.World.{World, start, world_after, after_run, is_at_rest, logged, IsRun, IsRunFrom}
+use Rattle.lt_spec.specs.World.{Logged, World, start, world_after, after_run, is_at_rest, logged, IsRunFrom}
 use Rattle.lt_spec.specs.World as world
 use Rattle.lt_spec.specs.Script.{IsScript}
 use Rattle.lt_journal.specs.declared.line.Line.{Line}
 use Rattle.lt_journal.specs.Grammar.{read_line}
 use Rattle.lt_journal.specs.RunLines.{first_lines, entry_lines, moves_lines, closing_lines, run_lines}
-use Rattle.lt_law_journals.specs.Checking.{Place, Reader, written, closing_at_rest, first_place, by_due, place_after, first_reader, read_on, reader_after, led_to, verdict, verdict_at, checked}
-use Rattle.lt_law_journals.specs.Journals.{IsFinished, IsFirstBad, IsContinued, BeginsWith, IsBeginning, BeginsJournal}
-use Rattle.lt_law_journals.proofs.Fitting.{journal_written}
+use Rattle.lt_law_journals.specs.Checking.{Place, Reader, written, closing_at_rest, first_place, by_due, place_after, first_reader, read_on, reader_after, led_to, verdict, verdict_at, checked, IsFinished, IsFirstBad, IsContinued, BeginsWith, IsBeginning, BeginsJournal}
+use Rattle.lt_law_journals.proofs.Accepting.{journal_written, at_place, stays_bad, begins_all, accepted_at, all_lines, means, accepts, begun}
 use Rattle.lt_law_journals.proofs.Places.{not_bad, next_move, not_at_rest, first_begins}
-use Rattle.lt_law_journals.proofs.Accepting.{at_place, stays_bad, begins_all, accepted_at, all_lines, means, accepts, begun}
-use Rattle.lt_law_journals.proofs.FitsInRuns.{whole}
+use Rattle.lt_law_journals.proofs.Short.{whole}
 use Rattle.lt_law_ends.proofs.Reach.{runs_reach_rest}
 
 -- where the first bad line is, of lines that are read from this place on

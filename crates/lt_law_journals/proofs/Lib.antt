@@ -1,14 +1,9 @@
-pub mod Fitting
-pub mod Places
 pub mod Accepting
+pub mod Places
 pub mod Firsts
 pub mod Answers
 pub mod Short
 pub mod Feeds
 pub mod RowAnswers
-pub mod Heard
 pub mod Inputs
-pub mod Cuts
-pub mod FitsInRuns
 pub mod LinesAmong
-pub mod ClosingLines

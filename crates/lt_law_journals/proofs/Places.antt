@@ -1,28 +1,23 @@
 -- What a reader's place says of the lines that it has read.
-use Rattle.std.proofs.Common.{◌≡◌, ℕ, zero, suc, ◌+◌, ◌<◌, ◌≤◌, ◌==◌, ◌&&◌, not, cond, Bool, true, false, nat_lt, List, [], ◌∷◌, ◌++◌, length, map, count_by, Some, None, refl, sym, ap, ap₂, subst, ◌∙◌, inl, inr, arith, bytes_eq, append_assoc, append-nil}
-use Rattle.std.specs.List.{flat_map}
-use Rattle.std.proofs.lemmas.Bool.{cases_Bool, cases_eq, cases_lt, ne_eqb, eqb-true, ltb-true, and_parts, or_left, or_right}
+use Rattle.std.proofs.Common.{◌≡◌, ℕ, zero, suc, ◌<◌, ◌==◌, ◌&&◌, not, cond, Bool, true, false, nat_lt, List, [], ◌∷◌, ◌++◌, length, Some, None, refl, sym, ap, ap₂, subst, ◌∙◌, inl, inr, arith, bytes_eq, append_assoc, append-nil, eqb-true, ltb-true}
+use Rattle.std.proofs.lemmas.Bool.{cases_Bool, cases_lt, and_parts, or_left, or_right}
 use Rattle.std.proofs.lemmas.List.{map-append}
 use Rattle.std.proofs.lemmas.List.Concat.{flat_map-append}
-use Rattle.std.proofs.lemmas.List.Sums.{sum_by-cons, sum_by-append}
 use Rattle.std.proofs.lemmas.Slice.Eq.{bytes_eq-Decides}
 use Rattle.lt_modes.specs.declared.moves.Step.{Step}
 use Rattle.lt_modes.specs.declared.moves.Step.TheVariants.{Act, Take}
 use Rattle.lt_modes.specs.Script.{ScriptData}
 use Rattle.lt_modes.specs.State.{Letter}
-use Rattle.lt_spec.specs.Log.{Logged}
+use Rattle.lt_spec.specs.World.{Logged, World, start, world_after, is_runnable, has_mail, is_some_letter, is_enabled, is_at_rest, front_stamp, move_stamp, logged, IsMove}
 use Rattle.lt_lists.specs.Below.{any_below}
-use Rattle.lt_spec.specs.Families.{home}
-use Rattle.lt_spec.specs.World.{World, start, world_after, is_runnable, has_mail, is_some_letter, is_enabled, is_at_rest, front_stamp, move_stamp, logged, is_of_node, IsMove}
+use Rattle.lt_spec.specs.NodeMove.{home}
 use Rattle.lt_model.proofs.Runs.{IsRunFrom-push}
 use Rattle.lt_journal.specs.declared.line.Line.{Line}
 use Rattle.lt_journal.specs.declared.line.Line.TheVariants.{Version, Move as MoveLine, Event as EventLine, Held, Waiting, Owner, End, Cut, Bad}
 use Rattle.lt_journal.specs.Grammar.{read_line}
-use Rattle.lt_journal.specs.Text.{IsAsWritten}
-use Rattle.lt_journal.specs.RunLines.{first_lines, event_lines, entry_lines, moves_lines}
+use Rattle.lt_journal.specs.RunLines.{IsAsWritten, first_lines, event_lines, entry_lines, moves_lines}
 use Rattle.lt_journal.proofs.Found.{as_written}
-use Rattle.lt_law_journals.specs.Checking.{Place, written, closing_at_rest, first_place, moved, is_next, by_move, by_due, place_after}
-use Rattle.lt_law_journals.specs.Journals.{lines_so_far, BeginsWith}
+use Rattle.lt_law_journals.specs.Checking.{Place, written, closing_at_rest, first_place, moved, is_next, by_move, by_due, place_after, lines_so_far, BeginsWith}
 
 any_below_at : (n k : ℕ) (test : ℕ → Bool) → k < n → test k ≡ true → any_below n test ≡ true
 any_below_at zero k test inside e = absurd (omega (arith, inside))

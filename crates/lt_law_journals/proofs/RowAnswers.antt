@@ -1,11 +1,10 @@
 -- The small journals are answered so.
-use Rattle.std.proofs.Common.{◌≡◌, ℕ, suc, List, [], ◌∷◌, ◌++◌, cond, codes, map, bytes_eq, Some, None, Result, Err, refl, sym, ap, ap₂, ◌∙◌, arith}
-use Rattle.std.specs.Fmt.{decimal}
+use Rattle.std.proofs.Common.{◌≡◌, ℕ, suc, List, [], ◌∷◌, ◌++◌, cond, codes, map, bytes_eq, Some, None, Result, Err, refl, sym, ap, ap₂, ◌∙◌, arith, decimal}
 use Rattle.std.proofs.lemmas.Fmt.{decimal_digit}
 use Rattle.lt_modes.specs.declared.mode.Mode.TheVariants.{Read}
 use Rattle.lt_modes.specs.declared.event.Event.TheVariants.{Grant}
 use Rattle.lt_modes.specs.Modes.{conflicts}
-use Rattle.lt_spec.specs.Log.{Logged}
+use Rattle.lt_spec.specs.World.{Logged}
 use Rattle.lt_text.specs.Text.{cut_at, lines, before_space, later_fields, spaced}
 use Rattle.lt_journal.specs.declared.line.Line.{Line}
 use Rattle.lt_journal.specs.declared.line.Line.TheVariants.{Event as EventLine, Held, Owner, End}

@@ -3,13 +3,11 @@ use Rattle.std.specs.Prelude.{◌≡◌, ◌↔◌, ◌<◌, ℕ, List, None, le
 use Rattle.lt_modes.specs.declared.mode.Mode.{Mode}
 use Rattle.lt_modes.specs.declared.parts.Link.{Link}
 use Rattle.lt_modes.specs.Script.{ScriptData}
-use Rattle.lt_modes.specs.Held.{count_of}
-use Rattle.lt_spec.specs.Families.{home}
-use Rattle.lt_spec.specs.Log.{Logged}
-use Rattle.lt_spec.specs.World.{world_after, IsRun}
+use Rattle.lt_modes.specs.Modes.{count_of}
+use Rattle.lt_spec.specs.NodeMove.{home, IsWhole}
+use Rattle.lt_spec.specs.World.{Logged, world_after, IsRun}
 use Rattle.lt_spec.specs.Facts.{state_at}
-use Rattle.lt_spec.specs.WholeScripts.{IsWhole}
-use Rattle.lt_spec.specs.Waits.{WaitsFor}
+use Rattle.lt_spec.specs.Holdings.{WaitsFor}
 use Rattle.lt_law_lines.specs.LineLaws.{IsLastMove}
 use Rattle.lt_journal.specs.declared.line.Line.TheVariants.{Held, Waiting, Owner}
 use Rattle.lt_journal.specs.RunLines.{closing_lines}

@@ -5,9 +5,8 @@ use Rattle.lt_modes.specs.declared.mode.Mode.TheVariants.{Read}
 use Rattle.lt_modes.specs.declared.moves.Step.TheVariants.{Act}
 use Rattle.lt_modes.specs.declared.event.Event.TheVariants.{Grant}
 use Rattle.lt_modes.specs.Script.{ScriptData}
-use Rattle.lt_spec.specs.Log.{Logged}
-use Rattle.lt_law_journals.specs.Checking.{checked}
-use Rattle.lt_law_journals.specs.Feeding.{new_feed, fed_piece, ended}
+use Rattle.lt_spec.specs.World.{Logged}
+use Rattle.lt_law_journals.specs.Checking.{checked, new_feed, fed_piece, ended}
 
 -- `nodes 1`
 abbrev pub empty_script : ScriptData

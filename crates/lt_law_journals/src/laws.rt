@@ -4,20 +4,14 @@ ghost use Rattle.std.specs.Str.{bytes_eq};
 ghost use Rattle.lt_journal.specs.declared.line.Line.{Line as AnyLine};
 ghost use Rattle.lt_journal.specs.LineFits.{FitsLine, FitsCut};
 ghost use Rattle.lt_modes.specs.Script.{ScriptData};
-ghost use Rattle.lt_spec.specs.Log.{Logged};
+ghost use Rattle.lt_spec.specs.World.{Logged, IsRun};
 ghost use Rattle.lt_text.specs.Text.{lines};
 ghost use Rattle.lt_spec.specs.Script.{IsScript};
-ghost use Rattle.lt_law_journals.specs.Checking.{Place, written, reader_after, checked};
-ghost use Rattle.lt_law_journals.specs.Feeding.{Feed, new_feed, fed_piece, ended};
+ghost use Rattle.lt_law_journals.specs.Checking.{Place, written, reader_after, checked, Feed, new_feed, fed_piece, ended, checked_said, script_in, journal_in, lines_before, counted_from, checked_input, IsFirstBadIn, EndsInLineFeed, EndsLine, HasJournal, IsSettled, IsFinished, BeginsWith, IsBeginning, BeginsJournal, IsFirstBad, IsContinued, journal_lines};
 ghost use Rattle.lt_law_journals.specs.Rows.{EmptyRows, ShortRows};
-ghost use Rattle.lt_law_journals.specs.Said.{checked_said};
-ghost use Rattle.lt_law_journals.specs.Input.{script_in, journal_in, lines_before, counted_from, checked_input, IsFirstBadIn, EndsInLineFeed, EndsLine, HasJournal, IsSettled};
 ghost use Rattle.lt_journal.specs.Grammar.{read_line, journal_of};
 ghost use Rattle.lt_journal.specs.Split.{input_parts};
-ghost use Rattle.lt_law_journals.specs.Journals.{IsFinished, BeginsWith, IsBeginning, BeginsJournal, IsFirstBad, IsContinued, journal_lines};
-ghost use Rattle.lt_spec.specs.World.{IsRun};
-ghost use Rattle.lt_journal.specs.RunLines.{run_lines};
-ghost use Rattle.lt_journal.specs.Text.{text_of};
+ghost use Rattle.lt_journal.specs.RunLines.{run_lines, text_of};
 ghost use Rattle.lt_law_journals.specs.ClosingLaws.{HeldLinesTell, WaitingLinesTell, OwnerLinesTell};
 
 /// The journal of a finished run is accepted, as that of this run.

@@ -1,8 +1,7 @@
 -- The lines of a node's move count what it holds.
-use Rattle.std.proofs.Common.{◌≡◌, ◌≢◌, ℕ, zero, suc, ◌+◌, ◌<◌, ◌≤◌, inl, inr, List, [], ◌∷◌, length, Option, Some, None, Bool, true, false, refl, sym, ap, subst, arith, ◌∙◌}
-use Rattle.std.specs.Prelude.{◌⊎◌, ◌==◌, ◌&&◌, not, if◌then◌else◌, Contains, IsTrue, fold, slice_index_or, slice_get}
+use Rattle.std.proofs.Common.{◌≡◌, ◌≢◌, ℕ, zero, suc, ◌+◌, ◌<◌, ◌≤◌, inl, inr, List, [], ◌∷◌, length, Option, Some, None, Bool, true, false, refl, sym, ap, subst, arith, ◌∙◌, ◌⊎◌, ◌==◌, ◌&&◌, not, if◌then◌else◌, Contains, IsTrue, fold, slice_index_or, slice_get, ne_eqb}
 use Rattle.std.specs.List.{AllByRecursion}
-use Rattle.std.proofs.lemmas.Bool.{cases_eq, ne_eqb}
+use Rattle.std.proofs.lemmas.Bool.{cases_eq}
 use Rattle.std.proofs.lemmas.List.Elements.{All-filter}
 use Rattle.std.proofs.lemmas.List.Sums.{fold-append}
 use Rattle.lt_modes.specs.declared.stamp.Stamp.{Stamp}
@@ -12,24 +11,20 @@ use Rattle.lt_modes.specs.declared.event.Event.{Event}
 use Rattle.lt_modes.specs.declared.moves.Step.{Step}
 use Rattle.lt_modes.specs.declared.moves.Step.TheVariants.{Act, Take}
 use Rattle.lt_modes.specs.Script.{family_of_set, ScriptData, SetData}
-use Rattle.lt_modes.specs.State.{SetState, Letter}
-use Rattle.lt_modes.specs.Held.{is_of}
-use Rattle.lt_modes.specs.Made.{Made}
-use Rattle.lt_modes.specs.Telling.{finish}
-use Rattle.lt_modes.specs.SetMove.{lock, try, unlock, change, drop, dropped, take as take_letter}
+use Rattle.lt_modes.specs.State.{SetState, Letter, Made}
+use Rattle.lt_modes.specs.Modes.{is_of}
+use Rattle.lt_modes.specs.SetMove.{finish, lock, try, unlock, change, drop, dropped, take as take_letter}
 use Rattle.lt_lists.specs.Below.{put}
-use Rattle.lt_spec.specs.Families.{home, family, is_related, related}
+use Rattle.lt_spec.specs.NodeMove.{home, family, is_related, related, IsWhole, HasTargetsAt, NodeState, NodeMade, no_move, node_waits, next_command, act_stamp, take_stamp, at_clock, one_made, node_act, node_take, touched, each_touched, drop_all, obey}
 use Rattle.lt_spec.specs.Holdings.{Holding, holding, is_dropped}
 use Rattle.lt_model.specs.Homes.{Homes, IsStateAtHome, IsRowAtHome, IsBodyAtHome}
-use Rattle.lt_spec.specs.WholeScripts.{IsWhole, HasTargetsAt}
-use Rattle.lt_spec.specs.NodeMove.{NodeState, NodeMade, no_move, node_waits, next_command, act_stamp, take_stamp, at_clock, one_made, node_act, node_take, touched, each_touched, drop_all, obey}
 use Rattle.lt_spec.specs.World.{World, is_enabled, is_some_letter, take_front, node_move}
 use Rattle.lt_lists.proofs.Puts.{put-same, put-other}
 use Rattle.lt_model.proofs.PathsMove.{has_mail_parts}
 use Rattle.lt_model.proofs.HomesMove.{maker, next_targets, related_below}
 use Rattle.lt_model.proofs.NodeEffects.{IsOnce, once_or_aside}
-use Rattle.lt_model.proofs.RuleEffects.{command_rules}
-use Rattle.lt_law_invariant.proofs.TargetPlaces.{places-which, places-at}
+use Rattle.lt_model.proofs.TryEffects.{command_rules}
+use Rattle.lt_law_invariant.proofs.Freezes.{places-which, places-at}
 use Rattle.lt_law_accounts.proofs.RowTotals.{total, total_dropped}
 use Rattle.lt_law_lines.proofs.LineCounts.{count_after}
 use Rattle.lt_law_lines.proofs.LineRules.{LinesFollow, follows, line_acts, finish_lines, take_lines}

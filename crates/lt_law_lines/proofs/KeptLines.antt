@@ -1,30 +1,27 @@
 -- What the lines of each run tell: what is held, that it is lawful, and who waits.
-use Rattle.std.proofs.Common.{◌≡◌, ◌≢◌, ℕ, zero, suc, ◌<◌, ◌≤◌, inl, inr, List, [], ◌∷◌, length, Option, Some, None, Bool, true, false, refl, sym, ap, subst, arith, take, ◌∙◌}
-use Rattle.std.specs.Prelude.{◌⊎◌, ◌==◌, ◌||◌, not, if◌then◌else◌, Contains, slice_index_or, AllPairs}
-use Rattle.std.proofs.lemmas.Bool.{cases_lt, eq-eqb, eqb-true, false≢true, and_parts}
+use Rattle.std.proofs.Common.{◌≡◌, ◌≢◌, ℕ, zero, suc, ◌<◌, ◌≤◌, inl, inr, List, [], ◌∷◌, length, Option, Some, None, Bool, true, false, refl, sym, ap, subst, arith, take, ◌∙◌, ◌⊎◌, ◌==◌, ◌||◌, not, if◌then◌else◌, Contains, slice_index_or, AllPairs, eq-eqb, eqb-true}
+use Rattle.std.proofs.lemmas.Bool.{cases_lt, false≢true, and_parts}
 use Rattle.std.proofs.lemmas.List.Elements.{All-contains}
 use Rattle.std.proofs.lemmas.List.Sums.{sum_by-cons, get_or-le-sum_by}
 use Rattle.lt_modes.specs.declared.mode.Mode.{Mode}
 use Rattle.lt_modes.specs.declared.parts.Row.{Row}
-use Rattle.lt_modes.specs.Modes.{conflicts, same_mode}
-use Rattle.lt_modes.specs.Held.{is_row_of, no_row, row_place, count_at, count_of as count_in}
+use Rattle.lt_modes.specs.Modes.{conflicts, same_mode, is_row_of, no_row, row_place, count_at, count_of as count_in}
 use Rattle.lt_modes.specs.SetMove.{lock}
-use Rattle.lt_spec.specs.Families.{home}
+use Rattle.lt_spec.specs.NodeMove.{home}
 use Rattle.lt_spec.specs.Holdings.{Holding, holding, same_holding, holdings, lines_of, agree, times_held}
 use Rattle.lt_model.specs.Homes.{Homes, IsRowAtHome}
 use Rattle.lt_spec.specs.World.{World, world_after}
-use Rattle.lt_modes.proofs.EachMode.{same_mode-true}
+use Rattle.lt_modes.proofs.ModeAlgebra.{same_mode-true}
 use Rattle.lt_model.proofs.HomesMove.{homes_in_runs}
-use Rattle.lt_law_invariant.proofs.KeptRuns.{locks_never_conflict, kept_in_runs, first_waiter_in_runs}
+use Rattle.lt_law_invariant.proofs.SoundStates.{locks_never_conflict, kept_in_runs, first_waiter_in_runs}
 use Rattle.lt_law_accounts.proofs.RowTotals.{row_count, total}
 use Rattle.lt_law_lines.proofs.LineCounts.{same_holding-itself}
 use Rattle.std.proofs.lemmas.List.Quantifiers.{position-Some}
 use Rattle.lt_lists.proofs.Sums.{none_found, sum_by-zero}
 use Rattle.lt_spec.specs.Facts.{state_at}
-use Rattle.lt_law_invariant.proofs.BarredByLines.{barred_by_lines}
-use Rattle.lt_law_lines.proofs.HeldRuns.{LinesHold, held_in_runs}
-use Rattle.lt_law_lines.proofs.WaitRuns.{WaitsTold, waits_in_runs}
-use Rattle.lt_law_lines.proofs.OpenWaits.{open_wait}
+use Rattle.lt_law_invariant.proofs.RowsApart.{barred_by_lines}
+use Rattle.lt_law_lines.proofs.OwnerRuns.{LinesHold, held_in_runs, WaitsTold, waits_in_runs}
+use Rattle.lt_law_lines.proofs.WaitActs.{open_wait}
 use Rattle.lt_law_lines.specs.LineLaws.{LinesKeptInRuns, LinesTellHeld, HoldingsAreLawful, LinesTellWaits, FirstWaiterByLines}
 
 -- a lock that counts is that of a row

@@ -1,14 +1,10 @@
 pub mod LineCounts
 pub mod LineRules
 pub mod HeldMoves
-pub mod HeldRuns
+pub mod OwnerRuns
 pub mod WaitRules
 pub mod WaitActs
 pub mod WaitMoves
 pub mod WaitSteps
-pub mod WaitRuns
-pub mod OpenWaits
 pub mod KeptLines
-pub mod AlongRuns
 pub mod OwnerRules
-pub mod OwnerRuns

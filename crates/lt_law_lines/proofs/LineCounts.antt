@@ -1,16 +1,14 @@
 -- How many locks of each kind lines count, line by line.
-use Rattle.std.proofs.Common.{◌≡◌, ℕ, ◌+◌, ◌-◌, ◌<◌, List, [], ◌∷◌, ◌++◌, length, Option, Some, None, Bool, true, false, refl, sym, ap, arith, ◌∙◌}
-use Rattle.std.specs.Prelude.{◌==◌, not, if◌then◌else◌, filter, fold, position, remove, sum_by, slice_index_or}
-use Rattle.std.proofs.lemmas.Bool.{eq-eqb, eqb-true, and_parts, and_from, false≢true}
+use Rattle.std.proofs.Common.{◌≡◌, ℕ, ◌+◌, ◌-◌, ◌<◌, List, [], ◌∷◌, ◌++◌, length, Option, Some, None, Bool, true, false, refl, sym, ap, arith, ◌∙◌, ◌==◌, not, if◌then◌else◌, filter, fold, position, remove, sum_by, slice_index_or, eq-eqb, eqb-true}
+use Rattle.std.proofs.lemmas.Bool.{and_parts, and_from, false≢true}
 use Rattle.std.proofs.lemmas.List.Quantifiers.{position-Some}
 use Rattle.std.proofs.lemmas.List.Sums.{sum_by-cons, sum_by_push, sum_by-remove}
 use Rattle.lt_modes.specs.declared.event.Event.{Event}
 use Rattle.lt_modes.specs.declared.event.Event.TheVariants.{Grant, Wait, Try, Unlock, NotHeld, Change, DropAll, Busy, Copy, Freeze, Token}
 use Rattle.lt_modes.specs.Script.{ScriptData}
-use Rattle.lt_modes.proofs.ModeAlgebra.{has-itself}
+use Rattle.lt_modes.proofs.ModeAlgebra.{has-itself, same_mode-true}
 use Rattle.lt_spec.specs.Holdings.{Holding, holding, same_holding, without_holding, without_one, is_dropped, after_line, times_held}
 use Rattle.lt_lists.proofs.Sums.{none_found, sum_by-zero}
-use Rattle.lt_modes.proofs.EachMode.{same_mode-true}
 
 -- a count of one lock after one line more
 abbrev pub count_after : ScriptData → Holding → ℕ → Event → ℕ

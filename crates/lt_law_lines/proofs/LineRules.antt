@@ -1,7 +1,6 @@
 -- The lines of a rule tell what it changed in the rows.
-use Rattle.std.proofs.Common.{◌≡◌, ◌≢◌, ℕ, ◌+◌, ◌-◌, ◌<◌, ◌≤◌, inl, inr, List, [], ◌∷◌, ◌++◌, length, map, Option, Some, None, Bool, true, false, refl, sym, ap, ◌∙◌}
-use Rattle.std.specs.Prelude.{◌⊎◌, ◌==◌, ◌&&◌, not, nat_lt, if◌then◌else◌, All, fold, slice_index_or}
-use Rattle.std.proofs.lemmas.Bool.{eq-eqb, ne_eqb, eqb-true, and_left, and_right}
+use Rattle.std.proofs.Common.{◌≡◌, ◌≢◌, ℕ, ◌+◌, ◌-◌, ◌<◌, ◌≤◌, inl, inr, List, [], ◌∷◌, ◌++◌, length, map, Option, Some, None, Bool, true, false, refl, sym, ap, ◌∙◌, ◌⊎◌, ◌==◌, ◌&&◌, not, nat_lt, if◌then◌else◌, All, fold, slice_index_or, eq-eqb, ne_eqb, eqb-true}
+use Rattle.std.proofs.lemmas.Bool.{and_left, and_right}
 use Rattle.std.proofs.lemmas.List.Elements.{All-contains, Contains-get_or}
 use Rattle.std.proofs.lemmas.List.Sums.{fold-append}
 use Rattle.lt_modes.specs.declared.mode.Mode.{Mode}
@@ -11,24 +10,17 @@ use Rattle.lt_modes.specs.declared.parts.Row.{Row}
 use Rattle.lt_modes.specs.declared.parts.Hoped.{Hoped}
 use Rattle.lt_modes.specs.declared.event.Event.{Event}
 use Rattle.lt_modes.specs.declared.event.Event.TheVariants.{Grant, Change, Freeze}
-use Rattle.lt_modes.specs.Modes.{Modes, same_mode, excludes_itself}
+use Rattle.lt_modes.specs.Modes.{Modes, same_mode, excludes_itself, no_row, add_lock, take_lock, held_modes}
 use Rattle.lt_modes.specs.Script.{ScriptData}
-use Rattle.lt_modes.specs.State.{SetState, Desk, Body, AskBody, TellBody, CopyBody, TokenBody, FreezeBody, Letter, Parked, ParkedAsk, ParkedTell}
-use Rattle.lt_modes.specs.Held.{no_row, add_lock, take_lock, held_modes}
-use Rattle.lt_modes.specs.Made.{Made, silent, then_do}
-use Rattle.lt_modes.specs.Queue.{no_ask}
-use Rattle.lt_modes.specs.Serving.{ask_at, queue_of, give_up, answered, answer_by, answer_event, serve_local, serve_copy}
+use Rattle.lt_modes.specs.State.{SetState, Desk, Body, AskBody, TellBody, CopyBody, TokenBody, FreezeBody, Letter, Parked, ParkedAsk, ParkedTell, Made, silent, then_do, no_ask}
+use Rattle.lt_modes.specs.Serving.{ask_at, queue_of, give_up, answered, answer_by, answer_event, serve_local, serve_copy, hand_over_to}
 use Rattle.lt_modes.specs.Freezing.{freeze_at, frozen_by, targets}
-use Rattle.lt_modes.specs.HandingOver.{hand_over_to}
-use Rattle.lt_modes.specs.Routing.{Way, Parks, Goes, reversed, sent_on, route, learn}
-use Rattle.lt_modes.specs.Telling.{tell_of, make_tell, finish}
-use Rattle.lt_modes.specs.Taking.{take_body}
-use Rattle.lt_modes.specs.SetMove.{ask_of, take}
-use Rattle.lt_spec.specs.Families.{home}
+use Rattle.lt_modes.specs.SetMove.{Way, Parks, Goes, reversed, sent_on, route, learn, tell_of, make_tell, finish, take_body, ask_of, take}
+use Rattle.lt_spec.specs.NodeMove.{home}
 use Rattle.lt_spec.specs.Holdings.{Holding, holding, same_holding}
 use Rattle.lt_model.specs.Homes.{IsRowAtHome, IsAskAtHome, IsStateAtHome, IsBodyAtHome}
 use Rattle.lt_model.proofs.Effects.{route_ways}
-use Rattle.lt_model.proofs.RuleEffects.{Between, EndRules, ActRules, finish_rule, take_rule}
+use Rattle.lt_model.proofs.TryEffects.{Between, EndRules, ActRules, finish_rule, take_rule}
 use Rattle.lt_model.proofs.HomesEffects.{home_ends, home_acts, arrives_home}
 use Rattle.lt_model.proofs.HomesRows.{at_home}
 use Rattle.lt_law_accounts.proofs.RowTotals.{total, is_key, total_added, total_taken}

@@ -1,8 +1,7 @@
 -- The `token` lines of a move are those of the letters that carry the token.
-use Rattle.std.proofs.Common.{◌≡◌, ◌≢◌, ℕ, ◌+◌, inl, inr, List, [], ◌∷◌, ◌++◌, map, Option, Some, None, Bool, true, false, refl, ap, arith, ◌∙◌}
-use Rattle.std.specs.Prelude.{◌⊎◌, ◌==◌, if◌then◌else◌, Contains, fold}
-use Rattle.std.specs.List.{filter_map, cons_option}
-use Rattle.std.proofs.lemmas.Bool.{cases_eq, eq-eqb, ne_eqb}
+use Rattle.std.proofs.Common.{◌≡◌, ◌≢◌, ℕ, ◌+◌, inl, inr, List, [], ◌∷◌, ◌++◌, map, Option, Some, None, Bool, true, false, refl, ap, arith, ◌∙◌, ◌⊎◌, ◌==◌, if◌then◌else◌, Contains, fold, filter_map, eq-eqb, ne_eqb}
+use Rattle.std.specs.List.{cons_option}
+use Rattle.std.proofs.lemmas.Bool.{cases_eq}
 use Rattle.std.proofs.lemmas.List.Elements.{filter_map-append, Contains-append_left, Contains-append_right}
 use Rattle.std.proofs.lemmas.List.Sums.{fold-append}
 use Rattle.lt_modes.specs.declared.mode.Mode.{Mode}
@@ -11,21 +10,15 @@ use Rattle.lt_modes.specs.declared.ask.Ask.{Ask}
 use Rattle.lt_modes.specs.declared.parts.Link.{Link}
 use Rattle.lt_modes.specs.declared.event.Event.{Event}
 use Rattle.lt_modes.specs.declared.event.Event.TheVariants.{Freeze, Wait}
-use Rattle.lt_modes.specs.Modes.{Modes}
-use Rattle.lt_modes.specs.State.{SetState, Desk, Body, AskBody, TellBody, CopyBody, TokenBody, FreezeBody, Letter, Parked, ParkedAsk, ParkedTell}
-use Rattle.lt_modes.specs.Held.{held_modes}
-use Rattle.lt_modes.specs.Made.{Made, Post, post_of}
-use Rattle.lt_modes.specs.Serving.{ask_at, answer_by, answer_event, serve_local, serve_copy}
+use Rattle.lt_modes.specs.Modes.{Modes, held_modes}
+use Rattle.lt_modes.specs.State.{SetState, Desk, Body, AskBody, TellBody, CopyBody, TokenBody, FreezeBody, Letter, Parked, ParkedAsk, ParkedTell, Made, Post, post_of}
+use Rattle.lt_modes.specs.Serving.{ask_at, answer_by, answer_event, serve_local, serve_copy, hand_over_to, without_desk, leaving}
 use Rattle.lt_modes.specs.Freezing.{freeze_at, frozen_by, targets, number_after}
-use Rattle.lt_modes.specs.HandingOver.{hand_over_to, without_desk, leaving}
-use Rattle.lt_modes.specs.Routing.{Way, Parks, Goes, body_of, sent_on, route, learn}
-use Rattle.lt_modes.specs.Telling.{tell_of, finish}
-use Rattle.lt_modes.specs.Taking.{take_body}
-use Rattle.lt_modes.specs.SetMove.{ask_of, take}
+use Rattle.lt_modes.specs.SetMove.{Way, Parks, Goes, body_of, sent_on, route, learn, tell_of, finish, take_body, ask_of, take}
 use Rattle.lt_spec.specs.Holdings.{owner_after}
 use Rattle.lt_spec.specs.World.{token_by, token_to}
 use Rattle.lt_model.proofs.Effects.{route_ways}
-use Rattle.lt_model.proofs.RuleEffects.{Between, EndRules, ActRules, finish_rule, take_rule}
+use Rattle.lt_model.proofs.TryEffects.{Between, EndRules, ActRules, finish_rule, take_rule}
 use Rattle.lt_law_lines.proofs.LineRules.{route_says}
 
 -- no line and no letter is of a token move of the set

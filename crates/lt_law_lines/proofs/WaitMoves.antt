@@ -1,14 +1,12 @@
 -- The lines of a node's move tell who waits at the node.
-use Rattle.std.proofs.Common.{◌≡◌, ◌≢◌, ℕ, ◌<◌, inl, inr, List, [], ◌∷◌, ◌++◌, Option, Some, None, refl, sym, ap, subst, ◌∙◌}
-use Rattle.std.specs.Prelude.{◌⊎◌, Contains, fold}
+use Rattle.std.proofs.Common.{◌≡◌, ◌≢◌, ℕ, ◌<◌, inl, inr, List, [], ◌∷◌, ◌++◌, Option, Some, None, refl, sym, ap, subst, ◌∙◌, ◌⊎◌, Contains, fold}
 use Rattle.std.specs.List.{AllByRecursion}
 use Rattle.std.proofs.lemmas.Bool.{cases_eq}
 use Rattle.std.proofs.lemmas.List.Sums.{fold-append}
 use Rattle.lt_modes.specs.declared.mode.Mode.{Mode}
 use Rattle.lt_modes.specs.declared.ask.Ask.{Ask}
 use Rattle.lt_modes.specs.declared.event.Event.{Event}
-use Rattle.lt_modes.specs.State.{SetState}
-use Rattle.lt_modes.specs.Made.{Made}
+use Rattle.lt_modes.specs.State.{SetState, Made}
 use Rattle.lt_lists.specs.Below.{put}
 use Rattle.lt_lists.proofs.Puts.{put-same, put-other}
 use Rattle.lt_spec.specs.Holdings.{Holding, holding, wanted_after}

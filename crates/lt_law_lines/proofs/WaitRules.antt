@@ -1,7 +1,6 @@
 -- The lines of a rule tell whose asks were answered.
-use Rattle.std.proofs.Common.{◌≡◌, ◌≢◌, ℕ, zero, suc, ◌<◌, ◌≤◌, inl, inr, List, [], ◌∷◌, ◌++◌, length, map, Option, Some, None, Bool, true, false, refl, sym, ap, subst, arith, ◌∙◌}
-use Rattle.std.specs.Prelude.{◌⊎◌, ◌==◌, if◌then◌else◌, AllPairs, Contains, count_by, fold, slice_index_or}
-use Rattle.std.proofs.lemmas.Bool.{cases_eq, cases_order, eq-eqb, ne_eqb, eqb-true}
+use Rattle.std.proofs.Common.{◌≡◌, ◌≢◌, ℕ, zero, suc, ◌<◌, ◌≤◌, inl, inr, List, [], ◌∷◌, ◌++◌, length, map, Option, Some, None, Bool, true, false, refl, sym, ap, subst, arith, ◌∙◌, ◌⊎◌, ◌==◌, if◌then◌else◌, AllPairs, Contains, count_by, fold, slice_index_or, eq-eqb, ne_eqb, eqb-true}
+use Rattle.std.proofs.lemmas.Bool.{cases_eq, cases_order}
 use Rattle.std.proofs.lemmas.List.{get_or_default}
 use Rattle.std.proofs.lemmas.List.Elements.{Contains-get_or}
 use Rattle.std.proofs.lemmas.List.Sums.{fold-append}
@@ -10,21 +9,16 @@ use Rattle.lt_modes.specs.declared.stamp.Stamp.{Stamp}
 use Rattle.lt_modes.specs.declared.ask.Ask.{Ask}
 use Rattle.lt_modes.specs.declared.event.Event.{Event}
 use Rattle.lt_modes.specs.declared.event.Event.TheVariants.{Freeze}
-use Rattle.lt_modes.specs.Modes.{Modes, bars, same_modes}
-use Rattle.lt_modes.specs.State.{SetState, Desk, ParkedTell}
-use Rattle.lt_modes.specs.Held.{held_modes}
-use Rattle.lt_modes.specs.Made.{Made, Post, silent, then_do}
-use Rattle.lt_modes.specs.Queue.{no_ask, without}
-use Rattle.lt_modes.specs.Serving.{ask_at, queue_of, next_service, next_draw, serve, serve_up_to, serve_step, serve_one, serve_local, serve_copy, answer_by, answer_event}
+use Rattle.lt_modes.specs.Modes.{Modes, bars, same_modes, held_modes}
+use Rattle.lt_modes.specs.State.{SetState, Desk, ParkedTell, Made, Post, silent, then_do, no_ask, without}
+use Rattle.lt_modes.specs.Serving.{ask_at, queue_of, next_service, next_draw, serve, serve_up_to, serve_step, serve_one, serve_local, serve_copy, answer_by, answer_event, hand_over, hand_over_for, hand_over_to}
 use Rattle.lt_modes.specs.Freezing.{freeze, freeze_at, frozen_by, targets}
-use Rattle.lt_modes.specs.HandingOver.{hand_over, hand_over_for, hand_over_to}
-use Rattle.lt_modes.specs.Telling.{tell_of, make_tell, finish, finish_by}
+use Rattle.lt_modes.specs.SetMove.{tell_of, make_tell, finish, finish_by}
 use Rattle.lt_spec.specs.Holdings.{Holding, wanted_after}
-use Rattle.lt_law_accounts.proofs.Asks.{times_in-some}
-use Rattle.lt_law_accounts.proofs.Unanswered.{without_only, without_kept, without_gone}
+use Rattle.lt_law_accounts.proofs.Asks.{times_in-some, without_only, without_kept, without_gone}
 use Rattle.lt_model.proofs.Effects.{EndEffects, next_service-within, both}
 use Rattle.lt_model.proofs.StandingEffects.{found_here}
-use Rattle.lt_model.proofs.StandingParts.{stands}
+use Rattle.lt_model.proofs.SentInMove.{stands}
 use Rattle.lt_law_invariant.proofs.OwnSteps.{route_same}
 use Rattle.lt_law_invariant.proofs.ClientEffects.{is_asks, clients, one_of_client, clients_ends}
 use Rattle.lt_law_lines.proofs.LineRules.{route_says}

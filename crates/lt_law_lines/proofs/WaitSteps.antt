@@ -1,6 +1,5 @@
 -- The lines of each enabled move of a world that is kept tell who waits at the mover.
-use Rattle.std.proofs.Common.{◌≡◌, ◌≢◌, ℕ, ◌+◌, ◌<◌, inl, inr, List, [], ◌∷◌, ◌++◌, length, Option, Some, None, Bool, true, false, refl, sym, ap, subst, arith, ◌∙◌}
-use Rattle.std.specs.Prelude.{◌==◌, not, nat_lt, if◌then◌else◌, Contains, AllPairs, IsTrue, fold, drop as drop_front}
+use Rattle.std.proofs.Common.{◌≡◌, ◌≢◌, ℕ, ◌+◌, ◌<◌, inl, inr, List, [], ◌∷◌, ◌++◌, length, Option, Some, None, Bool, true, false, refl, sym, ap, subst, arith, ◌∙◌, ◌==◌, not, nat_lt, if◌then◌else◌, Contains, AllPairs, IsTrue, fold, drop as drop_front}
 use Rattle.std.proofs.lemmas.Bool.{and_parts, cases_eq, false≢true}
 use Rattle.std.proofs.lemmas.List.Elements.{All-contains}
 use Rattle.lt_modes.specs.declared.stamp.Stamp.{Stamp}
@@ -10,31 +9,20 @@ use Rattle.lt_modes.specs.declared.command.Command.TheVariants.{Lock, Unlock, Tr
 use Rattle.lt_modes.specs.declared.moves.Step.{Step}
 use Rattle.lt_modes.specs.declared.moves.Step.TheVariants.{Act, Take}
 use Rattle.lt_modes.specs.Script.{ScriptData}
-use Rattle.lt_modes.specs.State.{SetState, Body, AskBody, TellBody, CopyBody, TokenBody, FreezeBody, Letter, ParkedAsk, ParkedTell}
-use Rattle.lt_modes.specs.Made.{Made, silent}
-use Rattle.lt_modes.specs.Queue.{without}
-use Rattle.lt_modes.specs.Routing.{learn}
-use Rattle.lt_modes.specs.Taking.{arrive, take_body}
-use Rattle.lt_modes.specs.Telling.{finish}
-use Rattle.lt_modes.specs.SetMove.{locked, tried, unlocked, changed, dropped, drop, take as take_letter}
-use Rattle.lt_spec.specs.Families.{home, related}
+use Rattle.lt_modes.specs.State.{SetState, Body, AskBody, TellBody, CopyBody, TokenBody, FreezeBody, Letter, ParkedAsk, ParkedTell, Made, silent, without}
+use Rattle.lt_modes.specs.SetMove.{learn, arrive, take_body, finish, locked, tried, unlocked, changed, dropped, drop, take as take_letter}
+use Rattle.lt_spec.specs.NodeMove.{home, related, NodeState, NodeMade, node_waits, next_command, act_stamp, take_stamp, at_clock, one_made, node_act, node_take, touched, drop_all, obey, IsWhole, HasTargetsAt}
 use Rattle.lt_spec.specs.Holdings.{Holding, wanted_after}
-use Rattle.lt_spec.specs.NodeMove.{NodeState, NodeMade, node_waits, next_command, act_stamp, take_stamp, at_clock, one_made, node_act, node_take, touched, drop_all, obey}
 use Rattle.lt_spec.specs.World.{World, is_enabled, is_waiting, is_some_letter, put_mail, take_front, node_move}
-use Rattle.lt_spec.specs.WholeScripts.{IsWhole, HasTargetsAt}
-use Rattle.lt_model.specs.Invariant.{WorldInvariant}
-use Rattle.lt_model.specs.Standing.{AsksStand}
+use Rattle.lt_model.specs.Invariant.{WorldInvariant, AsksStand}
 use Rattle.lt_lists.proofs.AllLemmas.{all_weaker}
 use Rattle.lt_model.proofs.Effects.{HoldsOf, both}
-use Rattle.lt_model.proofs.Gathered.{copies_are_on_way}
+use Rattle.lt_model.proofs.StandingBegins.{copies_are_on_way, stands_arrived, elsewhere, unanswered, only_here, stands_before, none_in_hand}
 use Rattle.lt_model.proofs.HomesMove.{IsMaker, maker, next_targets, related_below}
-use Rattle.lt_model.proofs.KeptSets.{kept_stands}
+use Rattle.lt_model.proofs.PathsMove.{kept_stands, has_mail_parts, desk_somewhere}
 use Rattle.lt_model.proofs.NodeEffects.{once_or_aside}
-use Rattle.lt_model.proofs.PathsMove.{has_mail_parts}
 use Rattle.lt_model.proofs.StandingEffects.{stands_later}
-use Rattle.lt_model.proofs.StandingParts.{Stands, stands}
-use Rattle.lt_model.proofs.StandingBegins.{stands_arrived, elsewhere, unanswered, only_here, stands_before, none_in_hand}
-use Rattle.lt_model.proofs.TokenComes.{desk_somewhere}
+use Rattle.lt_model.proofs.SentInMove.{Stands, stands}
 use Rattle.lt_law_invariant.proofs.OwnSteps.{route_same}
 use Rattle.lt_law_invariant.proofs.ClientEffects.{Clients, clients}
 use Rattle.lt_law_invariant.proofs.ClientCommands.{one_for, idle, no_ask_of, clients_acts, drops_kept, locked_of, tried_of, unlocked_of, changed_of}

@@ -4,15 +4,12 @@ use Rattle.lt_modes.specs.declared.mode.Mode.{Mode}
 use Rattle.lt_modes.specs.declared.ask.Ask.{Ask}
 use Rattle.lt_modes.specs.declared.parts.Link.{Link}
 use Rattle.lt_modes.specs.Script.{ScriptData}
-use Rattle.lt_modes.specs.Held.{count_of}
-use Rattle.lt_spec.specs.Families.{home}
-use Rattle.lt_spec.specs.Holdings.{holding, holdings, owner_of, lines_of, IsLawful, times_held}
-use Rattle.lt_spec.specs.Log.{Logged}
-use Rattle.lt_spec.specs.World.{world_after, IsRun, is_at_rest}
+use Rattle.lt_modes.specs.Modes.{count_of}
+use Rattle.lt_spec.specs.NodeMove.{home, IsWhole}
+use Rattle.lt_spec.specs.Holdings.{holding, holdings, owner_of, lines_of, IsLawful, times_held, WaitsFor, IsBarredByLines, HasOpenWait}
+use Rattle.lt_spec.specs.World.{Logged, world_after, IsRun, is_at_rest}
 use Rattle.lt_spec.specs.Facts.{state_at, IsFirstWaiter}
-use Rattle.lt_spec.specs.WholeScripts.{IsWhole}
 use Rattle.lt_model.specs.Invariant.{LinesKept}
-use Rattle.lt_spec.specs.Waits.{WaitsFor, IsBarredByLines, HasOpenWait}
 
 -- the lines of each prefix of each run tell what is held and who waits
 abbrev pub LinesKeptInRuns : Type 0

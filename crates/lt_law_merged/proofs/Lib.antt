@@ -1,4 +1,1 @@
-pub mod Moving
-pub mod Joining
 pub mod PartLogs
-pub mod LeftLetters

@@ -3,13 +3,10 @@ use Rattle.std.specs.Prelude.{◌≡◌, ℕ, List, ◌++◌, Some, length, map,
 use Rattle.lt_modes.specs.Script.{ScriptData}
 use Rattle.lt_modes.specs.State.{Letter}
 use Rattle.lt_lists.specs.Below.{sum_below}
-use Rattle.lt_spec.specs.Log.{Logged}
-use Rattle.lt_spec.specs.World.{world_after, IsRun}
-use Rattle.lt_merge.specs.Run.{RunData}
-use Rattle.lt_merge.specs.Merging.{IsMerged, AreLogs, Merges}
-use Rattle.lt_law_plays.specs.Merged.{merged}
+use Rattle.lt_spec.specs.World.{Logged, world_after, IsRun}
+use Rattle.lt_merge.specs.Merging.{RunData, IsMerged, AreLogs, Merges}
+use Rattle.lt_law_plays.specs.Merged.{merged, Part, logs_of, Joined}
 use Rattle.lt_law_plays.specs.MergeLaws.{joined_world}
-use Rattle.lt_law_plays.specs.Parts.{Part, logs_of, Joined}
 
 -- a run, after which each node is as its part left it, and the letters that were sent and not used are on their way
 pub record IsJoinedRun (script : ScriptData) (parts : List Part) (run : List Logged) : Type 0 where

@@ -1,3 +1,2 @@
 pub mod JoinedRun
 pub mod States
-pub mod CanMove

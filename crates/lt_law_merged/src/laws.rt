@@ -1,6 +1,5 @@
 ghost use Rattle.lt_law_merged.specs.JoinedRun.{JoinedRuns, JoinedMerges, LogsOfParts};
-ghost use Rattle.lt_law_merged.specs.States.{StatesWithin, AsksHavePlace, ClocksBelow, LettersLeftFit};
-ghost use Rattle.lt_law_merged.specs.CanMove.{CanMoveIsSeen, CanMoveIsEnabled, RestIsNoMove};
+ghost use Rattle.lt_law_merged.specs.States.{StatesWithin, AsksHavePlace, ClocksBelow, LettersLeftFit, CanMoveIsSeen, CanMoveIsEnabled, RestIsNoMove};
 
 use lt_law_enabled::law_order;
 

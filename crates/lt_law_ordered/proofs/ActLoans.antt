@@ -1,7 +1,6 @@
 -- What a client that waits for nothing holds and asks for in one set, through its command.
-use Rattle.std.proofs.Common.{◌≡◌, ◌≢◌, ℕ, ◌+◌, ◌≤◌, List, [], ◌∷◌, ◌++◌, None, Bool, true, false, refl, sym, ap, arith, zero, suc, ◌∙◌}
-use Rattle.std.specs.Prelude.{◌==◌, if◌then◌else◌, count_by}
-use Rattle.std.proofs.lemmas.Bool.{ne_eqb, eqb-true, and_left, and_parts}
+use Rattle.std.proofs.Common.{◌≡◌, ◌≢◌, ℕ, ◌+◌, ◌≤◌, List, [], ◌∷◌, ◌++◌, None, Bool, true, false, refl, sym, ap, arith, zero, suc, ◌∙◌, ◌==◌, if◌then◌else◌, count_by, ne_eqb, eqb-true}
+use Rattle.std.proofs.lemmas.Bool.{and_left, and_parts}
 use Rattle.lt_modes.specs.declared.mode.Mode.{Mode}
 use Rattle.lt_modes.specs.declared.stamp.Stamp.{Stamp}
 use Rattle.lt_modes.specs.declared.ask.Ask.{Ask}
@@ -9,14 +8,13 @@ use Rattle.lt_modes.specs.declared.parts.Row.{Row}
 use Rattle.lt_modes.specs.declared.command.Command.{Command}
 use Rattle.lt_modes.specs.declared.command.Command.TheVariants.{Lock, Try}
 use Rattle.lt_modes.specs.declared.event.Event.TheVariants.{Try as TryLine}
-use Rattle.lt_modes.specs.Modes.{same_mode}
+use Rattle.lt_modes.specs.Modes.{same_mode, add_lock}
 use Rattle.lt_modes.specs.Script.{ScriptData}
 use Rattle.lt_modes.specs.State.{SetState, ParkedAsk}
-use Rattle.lt_modes.specs.Held.{add_lock}
-use Rattle.lt_modes.specs.Granting.{can_grant}
+use Rattle.lt_modes.specs.Freezing.{can_grant}
 use Rattle.lt_modes.specs.SetMove.{answers, given, granted, ask_of, asked, locked, tried}
 use Rattle.lt_spec.specs.Holdings.{holding, same_holding}
-use Rattle.lt_modes.proofs.EachMode.{same_mode-true}
+use Rattle.lt_modes.proofs.ModeAlgebra.{same_mode-true}
 use Rattle.lt_law_accounts.proofs.RowTotals.{total, is_key, total_added}
 use Rattle.lt_law_invariant.proofs.OwnSteps.{route_same}
 use Rattle.lt_lists.proofs.Sums.{counted_in}
@@ -24,7 +22,7 @@ use Rattle.lt_law_invariant.proofs.ClientCounts.{asks_pushed}
 use Rattle.lt_law_invariant.proofs.ClientCommands.{IsIdle, no_ask_of}
 use Rattle.lt_law_lines.proofs.LineCounts.{count_after}
 use Rattle.lt_law_lines.proofs.LineRules.{key_is}
-use Rattle.lt_spec.specs.Ordered.{best_answer}
+use Rattle.lt_spec.specs.Script.{best_answer}
 use Rattle.lt_law_ordered.proofs.Loans.{is_for, asks_for, Loans, no_more, same_loans}
 
 -- a client that waits for nothing asks for no mode

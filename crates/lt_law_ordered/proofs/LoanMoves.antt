@@ -1,36 +1,29 @@
 -- Each move keeps that clients hold no more than they may.
-use Rattle.std.proofs.Common.{◌≡◌, ℕ, zero, suc, ◌+◌, ◌<◌, ◌≤◌, inl, inr, List, [], ◌∷◌, length, Option, Some, None, Bool, true, false, refl, sym, ap, subst, arith, take, ◌∙◌}
-use Rattle.std.specs.Prelude.{◌==◌, not, nat_lt, IsTrue, slice_get}
-use Rattle.std.proofs.lemmas.Bool.{cases_eq, and_parts, ltb-true, lt-ltb}
+use Rattle.std.proofs.Common.{◌≡◌, ℕ, zero, suc, ◌+◌, ◌<◌, ◌≤◌, inl, inr, List, [], ◌∷◌, length, Option, Some, None, Bool, true, false, refl, sym, ap, subst, arith, take, ◌∙◌, ◌==◌, not, nat_lt, IsTrue, slice_get, ltb-true, lt-ltb}
+use Rattle.std.proofs.lemmas.Bool.{cases_eq, and_parts}
 use Rattle.lt_modes.specs.declared.mode.Mode.{Mode}
 use Rattle.lt_modes.specs.declared.stamp.Stamp.{Stamp}
 use Rattle.lt_modes.specs.declared.command.Command.{Command}
 use Rattle.lt_modes.specs.declared.command.Command.TheVariants.{Lock, Unlock, Try, Change, DropAll}
 use Rattle.lt_modes.specs.declared.moves.Step.{Step}
 use Rattle.lt_modes.specs.declared.moves.Step.TheVariants.{Act, Take}
-use Rattle.lt_modes.specs.Made.{Made}
+use Rattle.lt_modes.specs.State.{Made, SetState, Letter}
 use Rattle.lt_modes.specs.Script.{ScriptData}
-use Rattle.lt_modes.specs.State.{SetState, Letter}
-use Rattle.lt_modes.specs.Telling.{finish}
-use Rattle.lt_modes.specs.SetMove.{drop}
+use Rattle.lt_modes.specs.SetMove.{finish, drop}
 use Rattle.lt_lists.proofs.Puts.{put-same, put-other}
-use Rattle.lt_spec.specs.Families.{home, commands_of, related}
+use Rattle.lt_spec.specs.NodeMove.{home, commands_of, related, NodeState, node_waits, has_command, next_command, act_stamp, at_clock, one_made, node_act, node_take, touched, each_touched, drop_all, obey, IsWhole}
 use Rattle.lt_spec.specs.Holdings.{Holding, holding, times_held}
-use Rattle.lt_spec.specs.Log.{Logged}
-use Rattle.lt_spec.specs.NodeMove.{NodeState, node_waits, has_command, next_command, act_stamp, at_clock, one_made, node_act, node_take, touched, each_touched, drop_all, obey}
-use Rattle.lt_spec.specs.World.{World, start, is_enabled, is_waiting, is_some_letter, take_front, node_move, after, world_after, IsRun}
-use Rattle.lt_spec.specs.WholeScripts.{IsWhole}
+use Rattle.lt_spec.specs.World.{Logged, World, start, is_enabled, is_waiting, is_some_letter, take_front, node_move, after, world_after, IsRun}
 use Rattle.lt_model.specs.Invariant.{WorldInvariant}
 use Rattle.lt_model.proofs.HomesMove.{IsMaker, maker, next_targets}
-use Rattle.lt_model.proofs.KeptSets.{kept_stands}
-use Rattle.lt_model.proofs.NodeMoves.{after_node}
-use Rattle.lt_model.proofs.PathsMove.{has_mail_parts}
+use Rattle.lt_model.proofs.PathsMove.{kept_stands, has_mail_parts}
+use Rattle.lt_model.proofs.NodeEffects.{after_node}
 use Rattle.lt_law_accounts.proofs.RowTotals.{total}
 use Rattle.lt_law_invariant.proofs.ClientsKept.{sound_clients}
-use Rattle.lt_law_lines.proofs.AlongRuns.{along_runs}
-use Rattle.lt_spec.specs.Ordered.{may_hold}
+use Rattle.lt_law_lines.proofs.OwnerRuns.{along_runs}
+use Rattle.lt_spec.specs.Script.{may_hold}
 use Rattle.lt_law_ordered.proofs.Loans.{asks_for}
-use Rattle.lt_law_ordered.specs.Ranked.{is_steady}
+use Rattle.lt_law_ordered.specs.OrderedLaws.{is_steady}
 use Rattle.lt_law_ordered.proofs.ActLoans.{ActLoans}
 use Rattle.lt_law_ordered.proofs.NodeLoans.{act_loans, take_loans}
 use Rattle.lt_law_ordered.proofs.MayHold.{may_hold_more, may_count, count_grows}

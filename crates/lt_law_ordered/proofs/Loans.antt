@@ -1,27 +1,20 @@
 -- What clients hold and ask for in a set, mode by mode, grows in no answer and in no end of a move.
-use Rattle.std.proofs.Common.{◌≡◌, ◌≢◌, ℕ, ◌+◌, ◌-◌, ◌≤◌, List, Option, Some, None, Bool, true, false, refl, ap, arith, ◌∙◌}
-use Rattle.std.specs.Prelude.{◌==◌, nat_lt, if◌then◌else◌, Contains, AllPairs, count_by}
-use Rattle.std.proofs.lemmas.Bool.{eqb-true}
+use Rattle.std.proofs.Common.{◌≡◌, ◌≢◌, ℕ, ◌+◌, ◌-◌, ◌≤◌, List, Option, Some, None, Bool, true, false, refl, ap, arith, ◌∙◌, ◌==◌, nat_lt, if◌then◌else◌, Contains, AllPairs, count_by, eqb-true}
 use Rattle.std.proofs.lemmas.List.Elements.{Contains-get_or}
 use Rattle.lt_modes.specs.declared.mode.Mode.{Mode}
 use Rattle.lt_modes.specs.declared.stamp.Stamp.{Stamp}
 use Rattle.lt_modes.specs.declared.ask.Ask.{Ask}
 use Rattle.lt_modes.specs.declared.parts.Row.{Row}
-use Rattle.lt_modes.specs.State.{SetState, Desk, Body, AskBody, TellBody, CopyBody, TokenBody, FreezeBody, Letter, ParkedAsk, ParkedTell}
-use Rattle.lt_modes.specs.Held.{add_lock, take_lock, held_modes}
-use Rattle.lt_modes.specs.Made.{Post}
-use Rattle.lt_modes.specs.Queue.{no_ask, without}
-use Rattle.lt_modes.specs.Serving.{ask_at, queue_of, next_service, give_up, answered, serve_local, serve_copy}
+use Rattle.lt_modes.specs.State.{SetState, Desk, Body, AskBody, TellBody, CopyBody, TokenBody, FreezeBody, Letter, ParkedAsk, ParkedTell, Post, no_ask, without}
+use Rattle.lt_modes.specs.Modes.{add_lock, take_lock, held_modes}
+use Rattle.lt_modes.specs.Serving.{ask_at, queue_of, next_service, give_up, answered, serve_local, serve_copy, hand_over_to}
 use Rattle.lt_modes.specs.Freezing.{freeze_at}
-use Rattle.lt_modes.specs.HandingOver.{hand_over_to}
-use Rattle.lt_modes.specs.Routing.{learn}
-use Rattle.lt_modes.specs.Taking.{arrive, take_body}
-use Rattle.lt_modes.specs.Telling.{tell_of, make_tell}
+use Rattle.lt_modes.specs.SetMove.{learn, arrive, take_body, tell_of, make_tell}
 use Rattle.lt_law_accounts.proofs.Asks.{times_in-some}
 use Rattle.lt_law_accounts.proofs.RowTotals.{total, is_key, total_added, total_taken}
 use Rattle.lt_model.proofs.Effects.{Fact, EndEffects, next_service-within, both}
 use Rattle.lt_model.proofs.StandingEffects.{found_here}
-use Rattle.lt_model.proofs.StandingParts.{stands}
+use Rattle.lt_model.proofs.SentInMove.{stands}
 use Rattle.lt_law_invariant.proofs.OwnSteps.{route_same}
 use Rattle.lt_law_invariant.proofs.ClientCounts.{SomeEach, each_some, asks_without}
 use Rattle.lt_law_invariant.proofs.ClientEffects.{clients, clients_ends}

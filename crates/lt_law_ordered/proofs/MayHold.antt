@@ -1,16 +1,15 @@
 -- What a client may hold, command by command.
-use Rattle.std.proofs.Common.{◌≡◌, ℕ, zero, suc, ◌+◌, ◌-◌, ◌<◌, ◌≤◌, List, [], ◌∷◌, length, Some, Bool, true, false, refl, ap, subst, arith, take}
-use Rattle.std.specs.Prelude.{nat_lt, if◌then◌else◌, IsTrue, fold, slice_get}
-use Rattle.std.proofs.lemmas.Bool.{and_parts, ltb-true, false≢true, and_from}
+use Rattle.std.proofs.Common.{◌≡◌, ℕ, zero, suc, ◌+◌, ◌-◌, ◌<◌, ◌≤◌, List, [], ◌∷◌, length, Some, Bool, true, false, refl, ap, subst, arith, take, nat_lt, if◌then◌else◌, IsTrue, fold, slice_get, ltb-true}
+use Rattle.std.proofs.lemmas.Bool.{and_parts, false≢true, and_from}
 use Rattle.std.proofs.lemmas.List.Sums.{sum_by-cons}
 use Rattle.lt_modes.specs.declared.command.Command.{Command}
 use Rattle.lt_modes.specs.declared.command.Command.TheVariants.{Lock, Try, Unlock, Change, DropAll}
 use Rattle.lt_modes.specs.Script.{ScriptData}
-use Rattle.lt_spec.specs.Families.{commands_of}
+use Rattle.lt_spec.specs.NodeMove.{commands_of}
 use Rattle.lt_spec.specs.Holdings.{Holding, holding, same_holding, is_dropped, times_held}
 use Rattle.lt_law_lines.proofs.LineCounts.{count_after, line_counts, same_holding-true}
-use Rattle.lt_spec.specs.Ordered.{best_answer, may_hold_after, may_hold, keeps_order, is_orderly_from, IsOrdered}
-use Rattle.lt_law_ordered.specs.Ranked.{is_steady, are_ranked_below, goes_up, is_ranked_from, IsRanked, asks_alone, is_alone_from, NeverAsksHolding}
+use Rattle.lt_spec.specs.Script.{best_answer, may_hold_after, may_hold, keeps_order, is_orderly_from, IsOrdered}
+use Rattle.lt_law_ordered.specs.OrderedLaws.{is_steady, are_ranked_below, goes_up, is_ranked_from, IsRanked, asks_alone, is_alone_from, NeverAsksHolding}
 
 -- one command more
 fold_more : {X Y : Type 0} (f : Y → X → Y) (first : Y) (xs : List X) (k : ℕ) (x : X) → slice_get xs k ≡ Some x → fold f first (take (suc k) xs) ≡ f (fold f first (take k xs)) x

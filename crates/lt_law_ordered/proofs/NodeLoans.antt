@@ -1,6 +1,5 @@
 -- What clients hold and ask for at a node, through the command of one of them and through a letter.
-use Rattle.std.proofs.Common.{◌≡◌, ◌≢◌, ℕ, ◌+◌, ◌<◌, ◌≤◌, inl, inr, List, [], ◌∷◌, ◌++◌, length, Some, Bool, true, false, refl, sym, ap, subst, arith, ◌∙◌}
-use Rattle.std.specs.Prelude.{◌⊎◌, IsTrue, Contains, drop as drop_front}
+use Rattle.std.proofs.Common.{◌≡◌, ◌≢◌, ℕ, ◌+◌, ◌<◌, ◌≤◌, inl, inr, List, [], ◌∷◌, ◌++◌, length, Some, Bool, true, false, refl, sym, ap, subst, arith, ◌∙◌, ◌⊎◌, IsTrue, Contains, drop as drop_front}
 use Rattle.std.specs.List.{AllByRecursion}
 use Rattle.std.proofs.lemmas.Bool.{cases_eq, false≢true}
 use Rattle.std.proofs.lemmas.List.Elements.{All-contains}
@@ -10,37 +9,28 @@ use Rattle.lt_modes.specs.declared.ask.Ask.{Ask}
 use Rattle.lt_modes.specs.declared.command.Command.{Command}
 use Rattle.lt_modes.specs.declared.command.Command.TheVariants.{Lock, Unlock, Try, Change, DropAll}
 use Rattle.lt_modes.specs.Script.{ScriptData}
-use Rattle.lt_modes.specs.State.{SetState, CopyBody, Letter}
-use Rattle.lt_modes.specs.Made.{Made, then_do}
-use Rattle.lt_modes.specs.SetMove.{locked, tried, unlocked, changed, dropped, drop, take as take_letter}
-use Rattle.lt_modes.specs.Telling.{finish}
+use Rattle.lt_modes.specs.State.{SetState, CopyBody, Letter, Made, then_do}
+use Rattle.lt_modes.specs.SetMove.{locked, tried, unlocked, changed, dropped, drop, take as take_letter, finish}
 use Rattle.lt_lists.specs.Below.{put}
-use Rattle.lt_spec.specs.Families.{related, is_related}
+use Rattle.lt_spec.specs.NodeMove.{related, is_related, NodeState, node_waits, act_stamp, take_stamp, at_clock, one_made, drop_all, obey, node_take, HasTargetsAt}
 use Rattle.lt_spec.specs.Holdings.{holding}
-use Rattle.lt_spec.specs.NodeMove.{NodeState, node_waits, act_stamp, take_stamp, at_clock, one_made, drop_all, obey, node_take}
 use Rattle.lt_spec.specs.World.{World, put_mail}
-use Rattle.lt_spec.specs.WholeScripts.{HasTargetsAt}
-use Rattle.lt_model.specs.Invariant.{WorldInvariant}
-use Rattle.lt_model.specs.Standing.{AsksStand}
+use Rattle.lt_model.specs.Invariant.{WorldInvariant, AsksStand}
 use Rattle.lt_lists.proofs.Puts.{put-same, put-other}
 use Rattle.lt_model.proofs.Effects.{Fact, HoldsOf, EndEffects, ends_by_effects, finish_by_effects, take_by_effects, both}
-use Rattle.lt_model.proofs.Gathered.{copies_are_on_way}
-use Rattle.lt_model.proofs.KeptSets.{kept_stands}
-use Rattle.lt_model.proofs.NodeEffects.{IsOfSet, IsOnce, once_or_aside, each_by_effects, both_of_set}
-use Rattle.lt_model.proofs.NodeMoves.{each-beside}
-use Rattle.lt_model.proofs.SentInMove.{finish-sent, drop-sent}
+use Rattle.lt_model.proofs.StandingBegins.{copies_are_on_way, stands_arrived, elsewhere, unanswered, only_here, stands_before, none_in_hand, stands_of_set}
+use Rattle.lt_model.proofs.PathsMove.{kept_stands, desk_somewhere}
+use Rattle.lt_model.proofs.NodeEffects.{IsOfSet, IsOnce, once_or_aside, each_by_effects, both_of_set, each-beside}
+use Rattle.lt_model.proofs.SentInMove.{finish-sent, drop-sent, Stands, stands}
 use Rattle.lt_model.proofs.StandingEffects.{stands_later}
-use Rattle.lt_model.proofs.StandingParts.{Stands, stands}
-use Rattle.lt_model.proofs.StandingBegins.{stands_arrived, elsewhere, unanswered, only_here, stands_before, none_in_hand, stands_of_set}
-use Rattle.lt_model.proofs.TokenComes.{desk_somewhere}
 use Rattle.lt_law_invariant.proofs.ClientEffects.{Clients, clients}
 use Rattle.lt_law_invariant.proofs.ClientCommands.{one_for, IsIdle, idle, clients_acts, drops_kept, locked_of, tried_of, unlocked_of, changed_of}
 use Rattle.lt_law_invariant.proofs.ClientMoves.{SoundClients, at_first, idle_in}
 use Rattle.lt_law_invariant.proofs.ClientsKept.{sound_clients, clients_arrived}
 use Rattle.lt_law_lines.proofs.LineCounts.{count_after}
 use Rattle.lt_law_lines.proofs.HeldMoves.{some_set, related_aside}
-use Rattle.lt_spec.specs.Ordered.{best_answer}
-use Rattle.lt_law_ordered.specs.Ranked.{is_steady}
+use Rattle.lt_spec.specs.Script.{best_answer}
+use Rattle.lt_law_ordered.specs.OrderedLaws.{is_steady}
 use Rattle.lt_law_ordered.proofs.Loans.{Loans, loans, no_more, loans_ends, loans_arrived}
 use Rattle.lt_law_ordered.proofs.ActLoans.{ActLoans, act_then, grant_more, locked_loans, tried_loans}
 use Rattle.lt_law_ordered.proofs.ChangeLoans.{unlocked_loans, changed_loans, change_aside, dropped_loans, aside_loans, unlock_aside, drop_aside, drop_other}

@@ -1,8 +1,8 @@
 -- At rest nobody waits, where each client waits only for sets of greater ranks.
-use Rattle.std.proofs.Common.{◌≡◌, ℕ, zero, suc, ◌+◌, ◌<◌, ◌≤◌, List, [], ◌∷◌, length, Some, Bool, true, false, refl, sym, ap, subst, arith, take, ◌∙◌}
-use Rattle.std.specs.Prelude.{◌==◌, ◌&&◌, not, if◌then◌else◌, Contains, IsTrue, slice_get}
-use Rattle.std.proofs.lemmas.Bool.{eq-eqb, eqb-true, and_parts, and_from, ltb-false}
+use Rattle.std.proofs.Common.{◌≡◌, ℕ, zero, suc, ◌+◌, ◌<◌, ◌≤◌, List, [], ◌∷◌, length, Some, Bool, true, false, refl, sym, ap, subst, arith, take, ◌∙◌, inl, inr, ◌==◌, ◌&&◌, not, if◌then◌else◌, Contains, IsTrue, slice_get, fold, eq-eqb, eqb-true, ltb-false}
+use Rattle.std.proofs.lemmas.Bool.{and_parts, and_from}
 use Rattle.std.proofs.lemmas.List.Elements.{All-contains}
+use Rattle.std.specs.List.{list_all}
 use Rattle.lt_modes.specs.declared.mode.Mode.{Mode}
 use Rattle.lt_modes.specs.declared.ask.Ask.{Ask}
 use Rattle.lt_modes.specs.declared.command.Command.TheVariants.{Lock}
@@ -10,32 +10,31 @@ use Rattle.lt_modes.specs.Modes.{same_mode}
 use Rattle.lt_modes.specs.Script.{ScriptData}
 use Rattle.lt_modes.specs.Serving.{queue_of, waits}
 use Rattle.lt_modes.proofs.ModeAlgebra.{has-itself}
+use Rattle.lt_modes.specs.declared.command.Command.{Command}
 use Rattle.lt_lists.specs.Below.{any_below, sum_below}
 use Rattle.lt_lists.proofs.Members.{list_any-which, nothing_in}
 use Rattle.lt_lists.proofs.Searches.{any_below_none}
 use Rattle.lt_lists.proofs.Sums.{sum_below-at, counted_some}
-use Rattle.lt_spec.specs.Families.{home, commands_of}
+use Rattle.lt_spec.specs.NodeMove.{home, commands_of, NodeState, IsWhole}
 use Rattle.lt_spec.specs.Facts.{state_at, IsFirstWaiter, LeadsBy, IsLedToQueue}
 use Rattle.lt_spec.specs.Holdings.{Holding, holding, same_holding, holdings, lines_of, times_held}
-use Rattle.lt_spec.specs.NodeMove.{NodeState}
 use Rattle.lt_spec.specs.World.{World, world_after, made_by, is_waiting, is_runnable, is_at_rest, anyone_waits}
+use Rattle.lt_spec.specs.Script.{may_hold, may_hold_after, holds_none}
+use Rattle.lt_law_accounts.proofs.RowTotals.{total}
 use Rattle.lt_model.specs.Homes.{Homes, IsRowAtHome}
-use Rattle.lt_spec.specs.WholeScripts.{IsWhole}
 use Rattle.lt_model.specs.Invariant.{WorldInvariant}
 use Rattle.lt_model.proofs.HomesMove.{homes_in_runs}
-use Rattle.lt_law_accounts.proofs.RowTotals.{total}
-use Rattle.lt_law_invariant.specs.RestLaws.{IsBarred}
+use Rattle.lt_law_invariant.specs.InvariantLaws.{IsBarred}
 use Rattle.lt_law_invariant.proofs.FirstWaiter.{first_waiter_conflicts}
-use Rattle.lt_law_invariant.proofs.LedAtRest.{asks_are_led}
-use Rattle.lt_law_invariant.proofs.KeptRuns.{kept_in_runs}
+use Rattle.lt_law_invariant.proofs.MidMove.{asks_are_led}
+use Rattle.lt_law_invariant.proofs.SoundStates.{kept_in_runs}
 use Rattle.lt_law_lines.proofs.KeptLines.{lines_kept_in_runs}
-use Rattle.lt_law_lines.proofs.HeldRuns.{held_in_runs}
+use Rattle.lt_law_lines.proofs.OwnerRuns.{held_in_runs}
 use Rattle.lt_law_lines.proofs.LineCounts.{same_holding-true, same_holding-itself}
-use Rattle.lt_law_waiting.proofs.Finds.{any_below_which}
+use Rattle.lt_law_waiting.proofs.KeptAsks.{any_below_which}
 use Rattle.lt_law_waiting.proofs.WaitsAtRest.{row_counts}
-use Rattle.lt_spec.specs.Ordered.{may_hold}
-use Rattle.lt_law_ordered.specs.Ranked.{is_ranked_from, IsRanked}
-use Rattle.lt_law_ordered.specs.OrderedLaws.{OrderedFinish, OrderedRelease, RankedFinish, RankedRelease, AloneFinish, RankedHold, RankedWait}
+use Rattle.lt_law_waiting.proofs.Explained.{waiters_are_explained}
+use Rattle.lt_law_ordered.specs.OrderedLaws.{is_ranked_from, IsRanked, OrderedFinish, OrderedRelease, RankedFinish, RankedRelease, AloneFinish, RankedHold, RankedWait, is_steady, IsReleasing, StuckByRing}
 use Rattle.lt_law_ordered.proofs.Loans.{is_for, asks_for}
 use Rattle.lt_law_ordered.proofs.LoanMoves.{KeepsWithin, AllWithin, AreSteady, within_in_runs}
 use Rattle.lt_law_ordered.proofs.MayHold.{may_hold_more, may_count, ranked_goes_up, ranked_none, ranked_steady, ranked_lock, ordered_ranked, alone_ranked}
@@ -218,3 +217,51 @@ ordered_release script run whole is_run ordered k rest = ranked_release script r
 
 pub alone_finish : AloneFinish
 alone_finish script run whole is_run alone k rest = ranked_finish script run (λ s. 0) whole is_run (alone_ranked script alone) k rest
+
+-- Where all clients release what they may hold, only a ring keeps a client waiting.
+
+some_one : (a b : Command) → Some a ≡ Some b → a ≡ b
+some_one a b e = cc
+
+steady_at : (commands : List Command) (k : ℕ) (command : Command) → list_all is_steady commands ≡ true → slice_get commands k ≡ Some command → is_steady command ≡ true
+steady_at [] k command h e = cc
+steady_at (first ∷ rest) zero command h e = subst (λ (c : Command). is_steady c ≡ true) (some_one first command e) (and_parts (is_steady first) _ h).0
+steady_at (first ∷ rest) (suc k) command h e = steady_at rest k command (and_parts (is_steady first) _ h).1 e
+
+releasing_steady : (script : ScriptData) → IsReleasing script → AreSteady script
+releasing_steady script h c k command known e =
+    steady_at (commands_of script c) k command (and_parts (list_all is_steady (commands_of script c)) _ (h c known)).0 e
+
+all_taken : (commands : List Command) (k : ℕ) → length commands ≤ k → take k commands ≡ take (length commands) commands
+all_taken [] zero h = refl
+all_taken [] (suc k) h = refl
+all_taken (first ∷ rest) zero h = absurd (omega (arith, h))
+all_taken (first ∷ rest) (suc k) h = ap (λ (l : List Command). first ∷ l) (all_taken rest k (omega (arith, h)))
+
+none_is : (locks : List Holding) → holds_none locks ≡ true → locks ≡ []
+none_is [] e = refl
+none_is (lock ∷ rest) e = cc
+
+pub stuck_by_ring : StuckByRing
+stuck_by_ring script run whole is_run releasing k rest = (
+  λ someone. elim ((waiters_are_explained script run whole is_run k rest).0 someone) [
+    | inl ring ↦ ring
+    | inr (waiter, last, waits, known, ended, holds) ↦
+        let w = world_after script (take k run) in
+        let parts = and_parts (list_all is_steady (commands_of script last)) _ (releasing last known) in
+        let all : length (commands_of script last) ≤ made_by script w last = omega (arith, ltb-false (made_by script w last) (length (commands_of script last)) ended.commands) in
+        let nothing : may_hold script last (made_by script w last) ≡ [] =
+        ap (λ (l : List Command). fold (may_hold_after script last) [] l) (all_taken (commands_of script last) (made_by script w last) all)
+        ∙ none_is (may_hold script last (length (commands_of script last))) parts.1 in
+        let named = (lines_kept_in_runs script run whole is_run k).named holds.lock holds.held in
+        let some = counted_some (same_holding holds.lock) (holdings script (lines_of (take k run))) holds.lock holds.held (same_holding-itself holds.lock) in
+        let client : holds.lock.client ≡ last = holds.holder in
+        let own = (held_in_runs script run whole is_run k).own holds.lock named.1 in
+        let within = (within_in_runs script run whole is_run (releasing_steady script releasing) k last known).loans holds.lock.set holds.lock.mode named.1 in
+        let same : total (state_at w holds.lock.set (home script holds.lock.client)).held holds.lock.client holds.lock.mode ≡ total (state_at w holds.lock.set (home script last)).held last holds.lock.mode =
+        ap (λ (x : ℕ). total (state_at w holds.lock.set (home script x)).held x holds.lock.mode) client in
+        let empty = ap (λ (l : List Holding). times_held l (holding last holds.lock.set holds.lock.mode)) nothing in
+        absurd (omega (arith, some, own, within, same, empty))
+  ],
+  λ ring. (waiters_are_explained script run whole is_run k rest).1 (inl ring),
+)

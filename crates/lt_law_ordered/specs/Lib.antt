@@ -1,3 +1,2 @@
-pub mod Ranked
 pub mod OrderedLaws
 pub mod OrderedRows

@@ -1,8 +1,7 @@
 -- A whole move of a node names nodes of the script, and its letters are for other nodes of it.
-use Rattle.std.proofs.Common.{◌≡◌, ℕ, ◌+◌, ◌<◌, inl, inr, List, [], ◌∷◌, length, Option, Some, None, Bool, true, false, refl, sym, subst, arith}
-use Rattle.std.specs.Prelude.{◌==◌, if◌then◌else◌, nat_lt, nat_le, All, is_none}
+use Rattle.std.proofs.Common.{◌≡◌, ℕ, ◌+◌, ◌<◌, inl, inr, List, [], ◌∷◌, length, Option, Some, None, Bool, true, false, refl, sym, subst, arith, ◌==◌, if◌then◌else◌, nat_lt, nat_le, All, is_none, eqb-true, ltb-true}
 use Rattle.std.specs.List.{AllByRecursion, list_all}
-use Rattle.std.proofs.lemmas.Bool.{cases_eq, eqb-true, ltb-true, and_parts}
+use Rattle.std.proofs.lemmas.Bool.{cases_eq, and_parts}
 use Rattle.std.proofs.lemmas.List.{length-replicate}
 use Rattle.std.proofs.lemmas.List.Elements.{All-nil, All-cons, All-from_recursion}
 use Rattle.lt_lists.proofs.AllLemmas.{all_append}
@@ -12,20 +11,14 @@ use Rattle.lt_modes.specs.declared.ask.Ask.{Ask}
 use Rattle.lt_modes.specs.declared.command.Command.{Command}
 use Rattle.lt_modes.specs.declared.command.Command.TheVariants.{Lock, Unlock, Try, Change, DropAll}
 use Rattle.lt_modes.specs.Script.{ScriptData}
-use Rattle.lt_modes.specs.State.{SetState, Body, AskBody, TellBody, CopyBody, TokenBody, FreezeBody, ParkedAsk, ParkedTell, first_entry, first_state, first_desk}
-use Rattle.lt_modes.specs.Made.{Made, silent}
+use Rattle.lt_modes.specs.State.{SetState, Body, AskBody, TellBody, CopyBody, TokenBody, FreezeBody, ParkedAsk, ParkedTell, first_entry, first_state, first_desk, Made, silent}
 use Rattle.lt_modes.specs.Fits.{Numbers, head_fits, body_fits, is_at_home, numbers_of}
-use Rattle.lt_modes.specs.Routing.{learn}
-use Rattle.lt_modes.specs.Telling.{finish}
-use Rattle.lt_modes.specs.Taking.{take_copy, take_body}
-use Rattle.lt_modes.specs.SetMove.{drop, take}
-use Rattle.lt_spec.specs.Families.{related}
-use Rattle.lt_spec.specs.NodeMove.{NodeState, NodeMade, node_waits, next_command, touched, each_touched, drop_all, obey, act_stamp, take_stamp, at_clock, one_made}
+use Rattle.lt_modes.specs.SetMove.{learn, finish, take_copy, take_body, drop, take}
+use Rattle.lt_spec.specs.NodeMove.{related, NodeState, NodeMade, node_waits, next_command, touched, each_touched, drop_all, obey, act_stamp, take_stamp, at_clock, one_made}
 use Rattle.lt_lists.specs.Below.{put}
 use Rattle.lt_model.proofs.Effects.{HoldsOf, ByEffects, acts_by_effects, take_by_effects}
-use Rattle.lt_model.specs.Paths.{IsNamed, IsParkedNamed}
-use Rattle.lt_law_own_lines.specs.Peers.{IsForPeer, NamesNodes, NodeNames}
-use Rattle.lt_law_own_lines.specs.PeerLaws.{ReachesPeers, NamesAtStart, ActsReachPeers, TakesReachPeers}
+use Rattle.lt_model.specs.Invariant.{IsNamed, IsParkedNamed}
+use Rattle.lt_law_own_lines.specs.WaitingLaws.{IsForPeer, NamesNodes, NodeNames, ReachesPeers, NamesAtStart, ActsReachPeers, TakesReachPeers}
 use Rattle.lt_law_own_lines.proofs.Routes.{named, DeskNames, all_dealt, route_named, learn_named}
 use Rattle.lt_law_own_lines.proofs.Ends.{same_names, named_ends, named_acts}
 

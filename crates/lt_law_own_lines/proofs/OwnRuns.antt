@@ -1,22 +1,17 @@
 -- The lines of a run are of clients of the nodes that move, and so are replies.
-use Rattle.std.proofs.Common.{◌≡◌, ℕ, List, [], ◌∷◌, ◌++◌, Bool, true, false, refl, sym, ap, subst, ◌∙◌, zero, suc, take}
-use Rattle.std.specs.Prelude.{◌==◌, if◌then◌else◌, filter}
+use Rattle.std.proofs.Common.{◌≡◌, ℕ, List, [], ◌∷◌, ◌++◌, Bool, true, false, refl, sym, ap, subst, ◌∙◌, zero, suc, take, ◌==◌, if◌then◌else◌, filter, eq-eqb, eqb-true}
 use Rattle.std.specs.List.{AllByRecursion}
-use Rattle.std.proofs.lemmas.Bool.{eq-eqb, eqb-true}
 use Rattle.std.proofs.lemmas.List.Elements.{All-from_recursion}
 use Rattle.lt_modes.specs.declared.event.Event.{Event}
 use Rattle.lt_modes.specs.declared.event.Event.TheVariants.{Grant, Wait, Try, Unlock, NotHeld, Change, DropAll, Busy, Copy, Freeze, Token}
 use Rattle.lt_modes.specs.Script.{ScriptData}
-use Rattle.lt_spec.specs.Families.{home}
+use Rattle.lt_spec.specs.NodeMove.{home, IsWhole}
 use Rattle.lt_spec.specs.Holdings.{lines_of}
-use Rattle.lt_spec.specs.Log.{Logged}
-use Rattle.lt_spec.specs.World.{World, start, is_of_node, after, IsRunFrom}
+use Rattle.lt_spec.specs.World.{Logged, World, start, is_of_node, after, IsRunFrom, IsOwnLine, HasOwnLines, is_reply_to, replies_of}
 use Rattle.lt_model.specs.Homes.{Homes}
-use Rattle.lt_spec.specs.WholeScripts.{IsWhole}
 use Rattle.lt_model.proofs.HomesMove.{homes_kept, homes_start}
-use Rattle.lt_spec.specs.OwnLines.{IsOwnLine, HasOwnLines, is_reply_to, replies_of}
 use Rattle.lt_law_own_lines.specs.OwnLaws.{OwnLinesInRuns, RepliesAtHome, RepliesOfLog, RepliesSoFar, RepliesGrow}
-use Rattle.lt_law_own_lines.proofs.OwnMoves.{own_lines_of_moves}
+use Rattle.lt_law_own_lines.proofs.OwnEffects.{own_lines_of_moves}
 
 own_from : (script : ScriptData) (run : List Logged) (w : World) → IsWhole script → Homes script w → IsRunFrom script w run
     → AllByRecursion (HasOwnLines script) run

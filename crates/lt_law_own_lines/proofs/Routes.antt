@@ -1,9 +1,7 @@
 -- Asks and tells that are dealt with, parked or sent on go to other nodes of the script.
-use Rattle.std.proofs.Common.{◌≡◌, ◌≢◌, ℕ, suc, ◌<◌, ◌≤◌, List, [], ◌∷◌, ◌++◌, length, Option, Some, None, Bool, true, false, refl, sym, subst, arith, take as take_first, drop as drop_front}
-use Rattle.std.specs.Prelude.{◌==◌, ◌&&◌, not, if◌then◌else◌, nat_lt, IfSome, All, fold}
+use Rattle.std.proofs.Common.{◌≡◌, ◌≢◌, ℕ, suc, ◌<◌, ◌≤◌, List, [], ◌∷◌, ◌++◌, length, Option, Some, None, Bool, true, false, refl, sym, subst, arith, take as take_first, drop as drop_front, ◌==◌, ◌&&◌, not, if◌then◌else◌, nat_lt, IfSome, All, fold, length-set}
 use Rattle.std.specs.List.{AllByRecursion}
 use Rattle.std.proofs.lemmas.Bool.{eqb-false, and_parts}
-use Rattle.std.proofs.lemmas.List.{length-set}
 use Rattle.std.proofs.lemmas.List.Elements.{All-push, All-append, All-cons, All-take, All-drop}
 use Rattle.lt_lists.proofs.AllLemmas.{all_append}
 use Rattle.lt_modes.specs.declared.stamp.Stamp.{Stamp}
@@ -11,16 +9,12 @@ use Rattle.lt_modes.specs.declared.ask.Ask.{Ask}
 use Rattle.lt_modes.specs.declared.parts.Link.{Link}
 use Rattle.lt_modes.specs.declared.parts.Hoped.{Hoped}
 use Rattle.lt_modes.specs.Modes.{excludes_itself}
-use Rattle.lt_modes.specs.State.{SetState, Desk, Parked, ParkedAsk, ParkedTell}
-use Rattle.lt_modes.specs.Made.{Post}
-use Rattle.lt_modes.specs.Queue.{entered, place}
-use Rattle.lt_modes.specs.Serving.{queue_of_desk}
-use Rattle.lt_modes.specs.Records.{entry_of}
-use Rattle.lt_modes.specs.Tells.{is_newer, told}
-use Rattle.lt_modes.specs.Routing.{Way, Parks, Goes, learn, dealt, is_behind, hoped_way, ask_way, way_onward, way, reversed, sent_on, route}
+use Rattle.lt_modes.specs.State.{SetState, Desk, Parked, ParkedAsk, ParkedTell, Post, entered, place, entry_of}
+use Rattle.lt_modes.specs.Serving.{queue_of_desk, is_newer, told}
+use Rattle.lt_modes.specs.SetMove.{Way, Parks, Goes, learn, dealt, is_behind, hoped_way, ask_way, way_onward, way, reversed, sent_on, route}
 use Rattle.lt_model.proofs.Effects.{Fact, HoldsOf, holds_silent, route_ways}
-use Rattle.lt_model.specs.Paths.{IsNamed, IsParkedNamed}
-use Rattle.lt_law_own_lines.specs.Peers.{IsForPeer, NamesNodes}
+use Rattle.lt_model.specs.Invariant.{IsNamed, IsParkedNamed}
+use Rattle.lt_law_own_lines.specs.WaitingLaws.{IsForPeer, NamesNodes}
 
 -- the state names nodes of the script, and the letters are for other nodes of it
 abbrev pub named : ℕ → ℕ → Fact

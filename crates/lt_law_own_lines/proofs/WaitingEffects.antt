@@ -1,29 +1,20 @@
 -- The effects of a move on a set leave a client that no line names waiting as before.
-use Rattle.std.proofs.Common.{◌≡◌, ℕ, ◌<◌, [], ◌∷◌, ◌++◌, length, Option, Some, None, Bool, true, false, refl, ap, subst, ◌∙◌}
-use Rattle.std.specs.Prelude.{◌==◌, ◌&&◌, not, nat_lt, if◌then◌else◌, All, remove}
-use Rattle.std.proofs.lemmas.Bool.{eqb-true, ne_eqb}
+use Rattle.std.proofs.Common.{◌≡◌, ℕ, ◌<◌, [], ◌∷◌, ◌++◌, length, Option, Some, None, Bool, true, false, refl, ap, subst, ◌∙◌, ◌==◌, ◌&&◌, not, nat_lt, if◌then◌else◌, All, remove, eqb-true, ne_eqb}
 use Rattle.std.proofs.lemmas.List.Elements.{All-push, All-nil, recursion_from_All}
 use Rattle.lt_modes.specs.declared.mode.Mode.{Mode}
 use Rattle.lt_modes.specs.declared.stamp.Stamp.{Stamp}
 use Rattle.lt_modes.specs.declared.ask.Ask.{Ask}
 use Rattle.lt_modes.specs.declared.parts.Link.{Link}
-use Rattle.lt_modes.specs.Modes.{excludes_itself}
-use Rattle.lt_modes.specs.Held.{held_modes}
-use Rattle.lt_modes.specs.State.{SetState, Desk, Body, AskBody, TellBody, CopyBody, TokenBody, FreezeBody, Letter, Parked, ParkedAsk, ParkedTell}
-use Rattle.lt_modes.specs.Made.{Made, silent, then_do}
-use Rattle.lt_modes.specs.Queue.{no_ask}
-use Rattle.lt_modes.specs.Serving.{queue_of, queue_of_desk, put_queue, owed_at, ask_at, serve_one, serve_local, serve_copy, waits}
+use Rattle.lt_modes.specs.Modes.{excludes_itself, held_modes}
+use Rattle.lt_modes.specs.State.{SetState, Desk, Body, AskBody, TellBody, CopyBody, TokenBody, FreezeBody, Letter, Parked, ParkedAsk, ParkedTell, Made, silent, then_do, no_ask}
+use Rattle.lt_modes.specs.Serving.{queue_of, queue_of_desk, put_queue, owed_at, ask_at, serve_one, serve_local, serve_copy, waits, hand_over_to}
 use Rattle.lt_modes.specs.Freezing.{freeze, freeze_at}
-use Rattle.lt_modes.specs.HandingOver.{hand_over_to}
-use Rattle.lt_modes.specs.Routing.{Way, Parks, Goes, learn, reversed, sent_on, route}
-use Rattle.lt_modes.specs.Telling.{tell_of, finish}
-use Rattle.lt_modes.specs.Taking.{take_body, arrive}
-use Rattle.lt_modes.specs.SetMove.{ask_of, asked, dropped, take, drop}
+use Rattle.lt_modes.specs.SetMove.{Way, Parks, Goes, learn, reversed, sent_on, route, tell_of, finish, take_body, arrive, ask_of, asked, dropped, take, drop}
 use Rattle.lt_lists.proofs.AllLemmas.{all_front, all_back, remove_all}
 use Rattle.lt_model.proofs.Effects.{route_ways}
 use Rattle.lt_model.proofs.HomesRows.{without_home}
-use Rattle.lt_model.proofs.RuleEffects.{Between, EndRules, ActRules, finish_rule, take_rule}
-use Rattle.lt_law_own_lines.proofs.Makers.{Maker, IsMadeBy, IsOwnMadeBy, IsParkedMadeBy, AreMadeBy, OthersLines, answered_leaves, dealt_made, all_dealt_made, any_pushed}
+use Rattle.lt_model.proofs.TryEffects.{Between, EndRules, ActRules, finish_rule, take_rule}
+use Rattle.lt_law_own_lines.proofs.Ends.{Maker, IsMadeBy, IsOwnMadeBy, IsParkedMadeBy, AreMadeBy, OthersLines, answered_leaves, dealt_made, all_dealt_made, any_pushed}
 
 -- so it stays, and a client that no line names waits as before
 pub record Leaves (maker : Maker) (q other : ℕ) (t : SetState) (m : Made) : Type 0 where

@@ -1,8 +1,7 @@
 -- A move of a node leaves a client that no line names waiting as before.
-use Rattle.std.proofs.Common.{◌≡◌, ◌≢◌, ℕ, suc, ◌+◌, ◌<◌, inl, inr, List, [], ◌∷◌, ◌++◌, length, Option, Some, None, Bool, true, false, refl, sym, ap, subst, arith, ◌∙◌}
-use Rattle.std.specs.Prelude.{◌==◌, ◌||◌, not, nat_le, if◌then◌else◌, is_none, AllPairs, Contains, IsTrue}
+use Rattle.std.proofs.Common.{◌≡◌, ◌≢◌, ℕ, suc, ◌+◌, ◌<◌, inl, inr, List, [], ◌∷◌, ◌++◌, length, Option, Some, None, Bool, true, false, refl, sym, ap, subst, arith, ◌∙◌, ◌==◌, ◌||◌, not, nat_le, if◌then◌else◌, is_none, AllPairs, Contains, IsTrue, eq-eqb, ne_eqb}
 use Rattle.std.specs.List.{list_all}
-use Rattle.std.proofs.lemmas.Bool.{cases_eq, eq-eqb, ne_eqb, and_parts}
+use Rattle.std.proofs.lemmas.Bool.{cases_eq, and_parts}
 use Rattle.std.proofs.lemmas.List.Elements.{All-contains, Contains-append_left, Contains-append_right, recursion_from_All}
 use Rattle.std.proofs.lemmas.List.Sums.{AllPass-from_list_all}
 use Rattle.lt_modes.specs.declared.stamp.Stamp.{Stamp}
@@ -10,24 +9,20 @@ use Rattle.lt_modes.specs.declared.ask.Ask.{Ask}
 use Rattle.lt_modes.specs.declared.command.Command.{Command}
 use Rattle.lt_modes.specs.declared.command.Command.TheVariants.{Lock, Unlock, Try, Change, DropAll}
 use Rattle.lt_modes.specs.Script.{ScriptData}
-use Rattle.lt_modes.specs.State.{SetState, Body, AskBody, TellBody, CopyBody, TokenBody, FreezeBody, Parked, ParkedAsk, ParkedTell}
-use Rattle.lt_modes.specs.Made.{Made}
-use Rattle.lt_modes.specs.Queue.{has_stamp}
+use Rattle.lt_modes.specs.State.{SetState, Body, AskBody, TellBody, CopyBody, TokenBody, FreezeBody, Parked, ParkedAsk, ParkedTell, Made, has_stamp}
 use Rattle.lt_modes.specs.Fits.{Numbers, ask_if, parked_asks, asks_here, is_at_home, is_pending, is_known, are_apart, body_fits}
 use Rattle.lt_modes.specs.Serving.{queue_of, waits}
-use Rattle.lt_modes.specs.Telling.{finish}
-use Rattle.lt_modes.specs.SetMove.{drop, take}
+use Rattle.lt_modes.specs.SetMove.{finish, drop, take}
 use Rattle.lt_lists.specs.Below.{put}
 use Rattle.lt_lists.proofs.AllLemmas.{all_front, all_back}
 use Rattle.lt_lists.proofs.Members.{contains_cases, list_any-which, filter_map-at, none_in, all_of}
 use Rattle.lt_lists.proofs.Puts.{put-same, put-other}
 use Rattle.lt_lists.proofs.Searches.{any_below_same}
-use Rattle.lt_spec.specs.Families.{related}
-use Rattle.lt_spec.specs.NodeMove.{NodeState, NodeMade, node_waits, next_command, touched, each_touched, drop_all, act_stamp, take_stamp, at_clock, one_made, obey}
+use Rattle.lt_spec.specs.NodeMove.{related, NodeState, NodeMade, node_waits, next_command, touched, each_touched, drop_all, act_stamp, take_stamp, at_clock, one_made, obey}
 use Rattle.lt_law_accounts.proofs.Asks.{has_stamp-true, has_stamp-own, same_ask-true}
-use Rattle.lt_model.proofs.RuleEffects.{command_rules, CommandRules}
+use Rattle.lt_model.proofs.TryEffects.{command_rules, CommandRules}
 use Rattle.lt_law_own_lines.specs.WaitingLaws.{OwnAsksKnown, WaitingInCommands, WaitingInTakes, WaitingInActs, WaitingInNodeTakes, KnownWhereSound}
-use Rattle.lt_law_own_lines.proofs.Makers.{Maker, IsMadeBy, IsOwnMadeBy, IsParkedMadeBy, AreMadeBy, OthersLines}
+use Rattle.lt_law_own_lines.proofs.Ends.{Maker, IsMadeBy, IsOwnMadeBy, IsParkedMadeBy, AreMadeBy, OthersLines}
 use Rattle.lt_law_own_lines.proofs.WaitingEffects.{BringsMadeBy, Leaves, leaves, leaving_acts, finish_leaves, drop_leaves, take_leaves}
 
 -- the client of the first ask with the stamp

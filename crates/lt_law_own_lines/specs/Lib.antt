@@ -1,4 +1,2 @@
 pub mod OwnLaws
 pub mod WaitingLaws
-pub mod Peers
-pub mod PeerLaws

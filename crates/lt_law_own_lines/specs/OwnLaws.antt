@@ -4,13 +4,10 @@ use Rattle.std.specs.List.{AllByRecursion}
 use Rattle.lt_modes.specs.declared.moves.Step.{Step}
 use Rattle.lt_modes.specs.declared.event.Event.{Event}
 use Rattle.lt_modes.specs.Script.{ScriptData}
-use Rattle.lt_spec.specs.Families.{home}
+use Rattle.lt_spec.specs.NodeMove.{home, IsWhole}
 use Rattle.lt_spec.specs.Holdings.{lines_of}
-use Rattle.lt_spec.specs.Log.{Logged}
-use Rattle.lt_spec.specs.World.{World, is_enabled, is_of_node, node_move, IsRun}
+use Rattle.lt_spec.specs.World.{Logged, World, is_enabled, is_of_node, node_move, IsRun, IsOwnLine, HasOwnLines, replies_of}
 use Rattle.lt_model.specs.Homes.{Homes}
-use Rattle.lt_spec.specs.WholeScripts.{IsWhole}
-use Rattle.lt_spec.specs.OwnLines.{IsOwnLine, HasOwnLines, replies_of}
 
 -- an enabled move of a node shows lines of its own clients alone
 abbrev pub OwnLinesOfMoves : Type 0

@@ -1,19 +1,57 @@
--- Whom a move makes wait, or lets go on: clients that its lines name, and no others.
-use Rattle.std.specs.Prelude.{◌≡◌, ◌≢◌, ◌<◌, false, ℕ, List, Some, length, All, AllPairs, IsTrue}
+-- Which nodes a node's links, asks and letters name.
+use Rattle.std.specs.Prelude.{◌≢◌, ◌≤◌, ◌<◌, ℕ, length, IfSome, All, IsTrue, ◌≡◌, false, List, Some, AllPairs}
+use Rattle.lt_modes.specs.declared.parts.Hoped.{Hoped}
+use Rattle.lt_modes.specs.State.{SetState, Desk, Post, Letter, Made}
+use Rattle.lt_modes.specs.Serving.{queue_of, waits}
+use Rattle.lt_modes.specs.Script.{ScriptData}
+use Rattle.lt_modes.specs.Fits.{fits, numbers_of, Numbers, is_known, asks_here, body_fits}
 use Rattle.lt_modes.specs.declared.mode.Mode.{Mode}
 use Rattle.lt_modes.specs.declared.stamp.Stamp.{Stamp}
 use Rattle.lt_modes.specs.declared.ask.Ask.{Ask}
 use Rattle.lt_modes.specs.declared.event.Event.{Event}
-use Rattle.lt_modes.specs.Script.{ScriptData}
-use Rattle.lt_modes.specs.State.{SetState, Letter}
-use Rattle.lt_modes.specs.Made.{Made}
-use Rattle.lt_modes.specs.Fits.{Numbers, is_known, asks_here, body_fits}
-use Rattle.lt_modes.specs.Serving.{waits}
 use Rattle.lt_modes.specs.Sound.{SoundSet}
-use Rattle.lt_modes.specs.Telling.{finish}
-use Rattle.lt_modes.specs.SetMove.{lock, try, unlock, change, drop, take}
-use Rattle.lt_spec.specs.NodeMove.{NodeState, node_waits, act_stamp, take_stamp, node_act, node_take}
-use Rattle.lt_spec.specs.OwnLines.{line_client}
+use Rattle.lt_modes.specs.SetMove.{finish, lock, try, unlock, change, drop, take}
+use Rattle.lt_spec.specs.NodeMove.{NodeState, NodeMade, node_act, node_take, node_waits, act_stamp, take_stamp}
+use Rattle.lt_spec.specs.World.{start, line_client}
+use Rattle.lt_model.specs.Invariant.{IsNamed, IsParkedNamed}
+
+-- the letter is for another node of the script
+pub record IsForPeer (nodes me : ℕ) (post : Post) : Type 0 where
+  pub node : post.to < nodes
+  pub other : post.to ≢ me
+
+-- asks here, links, and the desk's entries name nodes of the script; a hoped link names another node
+pub record NamesNodes (nodes me : ℕ) (s : SetState) : Type 0 where
+  pub queue : All (IsNamed nodes) (queue_of s)
+  pub parked : All (IsParkedNamed nodes) s.parked
+  pub firm : s.firm.node < nodes
+  pub hoped : IfSome s.hoped (λ (link : Hoped). (link.node < nodes) × (link.node ≢ me))
+  pub entries : IfSome s.desk (λ (desk : Desk). length desk.entries ≤ nodes)
+
+-- so it is in each set
+abbrev pub NodeNames : ℕ → ℕ → NodeState → Type 0
+NodeNames nodes me n = (s : ℕ) → NamesNodes nodes me (n.set s)
+
+-- A node sends letters to other nodes of the script alone, as statements.
+
+-- the node that a move made names nodes of the script, and its letters are for other nodes of it
+pub record ReachesPeers (nodes me : ℕ) (made : NodeMade) : Type 0 where
+  pub node : NodeNames nodes me made.node
+  pub posts : All (IsForPeer nodes me) made.posts
+
+abbrev pub NamesAtStart : Type 0
+NamesAtStart = (script : ScriptData) (q : ℕ) → q < script.nodes → NodeNames script.nodes q ((start script).node q)
+
+abbrev pub ActsReachPeers : Type 0
+ActsReachPeers = (script : ScriptData) (q client : ℕ) (n : NodeState) → q < script.nodes → NodeNames script.nodes q n
+    → ReachesPeers script.nodes q (node_act script q client n)
+
+abbrev pub TakesReachPeers : Type 0
+TakesReachPeers = (script : ScriptData) (q clock : ℕ) (letter : Letter) (n : NodeState) → q < script.nodes → NodeNames script.nodes q n
+    → IsTrue (fits (numbers_of script) q clock (n.set letter.set) letter)
+    → ReachesPeers script.nodes q (node_take q letter n)
+
+-- Whom a move makes wait, or lets go on: clients that its lines name, and no others.
 
 -- no line names the client as the one that acts or is answered
 abbrev pub AreOfOthers : ℕ → List Event → Type 0

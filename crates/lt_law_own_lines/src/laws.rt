@@ -1,6 +1,5 @@
 ghost use Rattle.lt_law_own_lines.specs.OwnLaws.{OwnLinesOfMoves, OwnLinesInRuns, RepliesAtHome, RepliesOfLog, RepliesSoFar, RepliesGrow};
-ghost use Rattle.lt_law_own_lines.specs.WaitingLaws.{WaitingInCommands, WaitingInTakes, WaitingInActs, WaitingInNodeTakes, KnownWhereSound};
-ghost use Rattle.lt_law_own_lines.specs.PeerLaws.{NamesAtStart, ActsReachPeers, TakesReachPeers};
+ghost use Rattle.lt_law_own_lines.specs.WaitingLaws.{WaitingInCommands, WaitingInTakes, WaitingInActs, WaitingInNodeTakes, KnownWhereSound, NamesAtStart, ActsReachPeers, TakesReachPeers};
 
 /// The lines that name a client as the one that acts or is answered stand in moves of that client's own node: in each
 /// enabled move of a world that is at home, and so in each run; and so the replies to a client in a run are those in the

@@ -1,31 +1,40 @@
 -- What `check` says of the small journals.
-use Rattle.std.proofs.Common.{◌≡◌, ℕ, List, [], ◌∷◌, ◌++◌, Ok, Err, Some, refl, ap, ap₂, subst, ◌∙◌}
-use Rattle.std.specs.Prelude.{Result, take, codes}
+use Rattle.std.proofs.Common.{◌≡◌, ℕ, List, [], ◌∷◌, ◌++◌, Ok, Err, Some, refl, ap, ap₂, subst, ◌∙◌, arith, ◌≢◌, ◌+◌, true, sym, subst₂, Result, take, codes, length, Option}
+use Rattle.std.proofs.lemmas.Bool.{false≢true}
 use Rattle.lt_modes.specs.Script.{ScriptData}
 use Rattle.lt_modes.specs.Modes.{conflicts}
-use Rattle.lt_spec.specs.Log.{Logged}
+use Rattle.lt_spec.specs.World.{Logged}
+use Rattle.lt_spec.specs.Script.{IsScript}
+use Rattle.lt_spec.specs.declared.moves.TheConstants.{MAX_MOVES}
+use Rattle.lt_io.specs.Streams.{Rose, RoseBy, SourceState}
 use Rattle.lt_text.specs.Text as text
 use Rattle.lt_text.specs.Text.{lines}
 use Rattle.lt_script.specs.declared.fault.ScriptFault.{ScriptFault}
 use Rattle.lt_script.specs.declared.fault.Fault.TheVariants as faults
 use Rattle.lt_script.specs.Reading.{read_of}
+use Rattle.lt_words.specs.declared.command.Command.{Command}
+use Rattle.lt_words.specs.declared.command.Command.TheVariants.{Run, SimFirst, Sim, Check, Make, Order}
 use Rattle.lt_journal.specs.Split as split
 use Rattle.lt_journal.specs.Split.{input_parts}
-use Rattle.lt_law_journals.specs.Checking.{checked}
-use Rattle.lt_law_journals.specs.Input.{checked_input, counted_from, journal_in, lines_before, IsFirstBadIn}
-use Rattle.lt_law_journals.specs.Journals.{IsFinished}
+use Rattle.lt_law_journals.specs.Checking.{checked, checked_input, counted_from, journal_in, lines_before, IsFirstBadIn, IsFinished}
 use Rattle.lt_law_journals.proofs.Answers.{accepted_input, refused_input}
 use Rattle.lt_law_journals.proofs.RowAnswers.{short_rows}
-use Rattle.lt_serve.specs.declared.status.Status.TheVariants.{Done}
-use Rattle.lt_spec.specs.Script.{IsScript}
 use Rattle.lt_checker.specs.Input.{IsJournalOf, IsBad, HasFaultBefore}
-use Rattle.lt_serve.specs.TopCall.{Checks, ok_text}
-use Rattle.lt_law_pinned.proofs.AnswerResults.{same_script, same_run, same_line, same_fault, run_or_line, script_or_fault}
-use Rattle.lt_law_pinned.specs.Examples.{one_lock, one_lock_script, the_move}
-use Rattle.lt_law_pinned.specs.OtherAnswers.{CheckSays, checked_lock, wrong_mode, no_mode, checked_no_mode}
-use Rattle.lt_law_pinned.proofs.RunAnswers.{one_lock_read}
+use Rattle.lt_checker.specs.declared.limits.TheConstants.{MAX_JOURNAL}
+use Rattle.lt_call.specs.Outcomes.{IsEnding, SaysOfSource, SaysOfSink, WritesNothing}
+use Rattle.lt_call.specs.Scripts.{HasFault}
+use Rattle.lt_serve.specs.declared.status.Status.TheVariants.{Done, Stuck, Usage, Refused, TooLong, ReadFault, WriteFault, NoMemory, Cut, BadJournal}
+use Rattle.lt_serve.specs.TopCall.{Checks, ok_text, Did}
+use Rattle.lt_serve.specs.declared.limits.TheConstants.{MAX_INPUT}
+use Rattle.lt_serve.specs.declared.status.Status.{Status}
+use Rattle.lt_serve.specs.Status.{outcome_of}
+use Rattle.lt_serve.specs.Serves.{IsGood, IsAnswered, GoesWell, IsComplete}
+use Rattle.lt_serve.specs.Causes.{reads, HasStatusCause, limit_of}
+use Rattle.lt_law_pinned.proofs.TwoWritersSay.{same_script, same_run, same_line, same_fault, run_or_line, script_or_fault, one_lock_read, same_bytes, one_lock_says, cut_short_says}
+use Rattle.lt_law_pinned.specs.Examples.{one_lock, one_lock_script, the_move, Says, OnlyJournal, one_lock_journal, two_writers}
+use Rattle.lt_law_pinned.specs.OtherAnswers.{CheckSays, checked_lock, wrong_mode, no_mode, checked_no_mode, untouched, FailuresSay, UnwrittenSays, CompleteSays, IsDone, read_whole, ServesSay}
 use Rattle.lt_law_pinned.proofs.Refusals.{no_mode_read}
-use Rattle.lt_law_pinned.proofs.AnswerTexts.{one_text}
+use Rattle.lt_law_pinned.proofs.MakeAnswers.{one_text}
 
 right_before : take (input_parts checked_lock).script checked_lock ≡ one_lock
 unfolding text.lines text.cut_at text.words split.after_first_line
@@ -121,4 +130,129 @@ check_says = record {
       same_fault fault (record { line = 4; fault = faults.Mode }) (read_of no_mode)
       (subst (λ (bytes : List ℕ). read_of bytes ≡ Err fault) no_mode_before (h.refused fault refl)) no_mode_read;
   never_refused = λ fault h. without_fault fault (h.refused fault refl);
+}
+
+-- What is said where something fails, and where nothing does.
+
+pub failures_say : FailuresSay
+failures_say = record {
+  no_memory = λ run old new t. (t.0, same_bytes new old t.1);
+  too_long = λ run old new t. (t.0, same_bytes new old t.1);
+  read_fault = λ run old new t. (t.0, same_bytes new old t.1);
+  bad_journal = λ run old new t. (t.0, same_bytes new old t.1);
+}
+
+pub unwritten_says : UnwrittenSays
+unwritten_says = record {
+  usage = tt;
+  refused = λ fault. tt;
+  too_long = tt;
+  read_fault = tt;
+  no_memory = tt;
+  bad_journal = λ line. tt;
+}
+
+-- a count that stays at 0 didn't rise
+pub no_rise : Rose 0 0 → ⊥
+no_rise h = omega (arith, h)
+
+short_script : RoseBy (MAX_INPUT + 1) 0 (length one_lock) → ⊥
+short_script h = omega (arith, h)
+
+short_journal : RoseBy (MAX_JOURNAL + 1) 0 (length checked_lock) → ⊥
+short_journal h = omega (arith, h)
+
+no_fault : (fault : ScriptFault) → HasFault (Some one_lock) fault → ⊥
+no_fault fault h = script_or_fault one_lock_script fault (read_of one_lock) one_lock_read h
+
+pub good_first : IsGood SimFirst (untouched (Some one_lock)) (read_whole one_lock)
+good_first = record { no_read_fault = no_rise; not_too_long = short_script; no_fault = no_fault; no_bad_line = λ e. cc }
+
+pub good_drawn : (seed : ℕ) → IsGood (Sim seed) (untouched (Some one_lock)) (read_whole one_lock)
+good_drawn seed = record { no_read_fault = no_rise; not_too_long = short_script; no_fault = no_fault; no_bad_line = λ e. cc }
+
+pub good_threads : IsGood Run (untouched (Some one_lock)) (read_whole one_lock)
+good_threads = record { no_read_fault = no_rise; not_too_long = short_script; no_fault = no_fault; no_bad_line = λ e. cc }
+
+good_order : IsGood Order (untouched (Some one_lock)) (read_whole one_lock)
+good_order = record { no_read_fault = no_rise; not_too_long = short_script; no_fault = no_fault; no_bad_line = λ e. cc }
+
+good_check : IsGood Check (untouched (Some checked_lock)) (read_whole checked_lock)
+good_check = record { no_read_fault = no_rise; not_too_long = short_journal; no_fault = without_fault; no_bad_line = λ e. never_bad }
+
+-- nothing goes wrong with a good input
+abbrev pub goes_well : (command : Command) (answer : Status) (before after : SourceState) → (reads (Some command) ≡ true → IsGood command before after) → answer ≢ NoMemory
+    → GoesWell (Some command) answer before after 0 0
+goes_well command answer before after good there =
+    record { command = command; is_asked = refl; good = good; no_write_fault = no_rise; memory = there }
+
+-- of the ends that a run can have only one is that of the script with one lock
+only_done : (command : Command) → OnlyJournal command one_lock one_lock_journal → (answer : Status) → IsEnding (outcome_of answer)
+    → (run : List Logged) (old new : List ℕ) → Says MAX_MOVES command answer one_lock run old new → answer ≡ Done
+only_done command only Done e run old new t = refl
+only_done command only Stuck e run old new t = absurd (only.never_stuck run old new t)
+only_done command only (Cut node) e run old new t = absurd (only.never_cut node run old new t)
+only_done command only Usage e run old new t = absurd e
+only_done command only (Refused fault) e run old new t = absurd e
+only_done command only TooLong e run old new t = absurd e
+only_done command only ReadFault e run old new t = absurd e
+only_done command only WriteFault e run old new t = absurd e
+only_done command only NoMemory e run old new t = absurd e
+only_done command only (BadJournal line) e run old new t = absurd e
+
+is_done : (command : Command) → OnlyJournal command one_lock one_lock_journal → IsGood command (untouched (Some one_lock)) (read_whole one_lock)
+    → ((answer : Status) → IsAnswered command answer → IsEnding (outcome_of answer)) → IsDone command
+is_done command only good ends answer run old new complete t there =
+    only_done command only answer (ends answer (complete (goes_well command answer _ _ (λ reads. good) there))) run old new t
+
+pub complete_says : CompleteSays
+complete_says = record {
+  first = is_done SimFirst one_lock_says.first good_first (λ answer e. e);
+  drawn = λ seed. is_done (Sim seed) (one_lock_says.drawn seed) (good_drawn seed) (λ answer e. e);
+  threads = is_done Run one_lock_says.threads good_threads (λ answer e. e);
+  check = λ answer complete there. complete (goes_well Check answer _ _ (λ reads. good_check) there);
+  order = λ answer complete there. complete (goes_well Order answer _ _ (λ reads. good_order) there);
+  make = λ answer complete there. complete (goes_well (Make 1 1 1 7) answer _ _ (λ reads. absurd (false≢true reads)) there);
+}
+
+-- What follows of all that is said of an answer.
+
+-- what an answer says of this input and these bytes of the sink
+told : (moves : ℕ) (command : Command) (a b : Status) (left input : Option (List ℕ)) (run : List Logged) (held old lastly new : Option (List ℕ))
+    → a ≡ b → left ≡ input → held ≡ old → lastly ≡ new → Did moves (Some command) a left run held lastly → Did moves (Some command) b input run old new
+told moves command a b left input run held old lastly new same read before after t =
+    subst₂ (λ (x : Status) (y : Option (List ℕ)). Did moves (Some command) x y run old new) same read
+    (subst₂ (λ (x y : Option (List ℕ)). Did moves (Some command) a left run x y) before after t)
+
+complete_so : (a : Status) (before after : SourceState) (first last : ℕ) → before ≡ untouched (Some checked_lock) → after ≡ read_whole checked_lock
+    → first ≡ 0 → last ≡ 0 → IsComplete (Some Check) a before after first last
+    → IsComplete (Some Check) a (untouched (Some checked_lock)) (read_whole checked_lock) 0 0
+complete_so a before after first last at_first lastly none still h =
+    subst₂ (λ (x y : SourceState). IsComplete (Some Check) a x y 0 0) at_first lastly
+    (subst₂ (λ (x y : ℕ). IsComplete (Some Check) a before after x y) none still h)
+
+pub serves_say : {S K : Type 0} (state : S → SourceState) (held : K → Option (List ℕ)) (faults : K → ℕ) → ServesSay state held faults
+serves_say state held faults = record {
+  unwritten = λ answer s t k l h is. h.unwritten (subst (λ (a : Status). WritesNothing (outcome_of a)) (sym is) tt);
+  unread = λ answer s t k l h. h.unread refl;
+  writing = λ answer s t k l h is.
+      (subst (λ (a : Status). SaysOfSink (outcome_of a) (faults k) (faults l)) is h.writing).no_write_fault (λ e. cc);
+  reading = λ answer s t k l h is.
+      let told = subst (λ (a : Status). SaysOfSource (limit_of (Some SimFirst)) (outcome_of a) (state s) (state t)) is (h.reading refl) in
+      (told.no_read_fault (λ e. cc), told.not_too_long (λ e. cc));
+  told = λ answer s t k l h is input old new before after.
+      let so = told MAX_MOVES Check answer.status Done (state s).left (Some checked_lock) answer.run.entries (held k) (Some old) (held l) (Some new)
+      is input before after h.did in
+      (check_says.run answer.run.entries old new so, check_says.done answer.run.entries old new so);
+  cut = λ answer s t k l h is input old new before after.
+      cut_short_says.cut answer.run.entries old new
+      (told 1 SimFirst answer.status (Cut 0) (state s).left (Some two_writers) answer.run.entries (held k) (Some old) (held l) (Some new)
+      is input before after h.did);
+  bad = λ answer s t k l h line is input.
+      check_says.bad line (subst₂ (λ (left : Option (List ℕ)) (a : Status). HasStatusCause (Some Check) left a) input is h.causes);
+  wrong_words = λ answer s t k l h.
+      let usage = h.causes.no_command refl in
+      (usage, h.unread refl, h.unwritten (subst (λ (a : Status). WritesNothing (outcome_of a)) (sym usage) tt));
+  complete = λ answer s t k l h at_first lastly none still there.
+      complete_says.check answer.status (complete_so answer.status (state s) (state t) (faults k) (faults l) at_first lastly none still h.complete) there;
 }

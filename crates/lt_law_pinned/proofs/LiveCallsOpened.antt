@@ -1,33 +1,29 @@
 -- Each field of what is said of the words, the source, the sink and the end of a live run.
-use Rattle.std.proofs.Common.{◌≡◌, ◌≢◌, ◌<◌, ◌≤◌, ◌⊎◌, ◌+◌, ◌++◌, ℕ, zero, suc, List, [], Ok, Err, Option, Some, false, true, refl, sym, ap, ap₂, subst, arith, ◌∙◌}
-use Rattle.std.specs.Prelude.{Result, length, codes}
+use Rattle.std.proofs.Common.{◌≡◌, ◌≢◌, ◌<◌, ◌≤◌, ◌+◌, ◌++◌, ℕ, zero, suc, List, [], Ok, Err, Option, Some, false, true, refl, sym, ap, ap₂, subst, arith, ◌∙◌, length, codes}
 use Rattle.std.proofs.lemmas.Bool.{false≢true}
 use Rattle.lt_modes.specs.Script.{ScriptData}
 use Rattle.lt_text.specs.Text as text
-use Rattle.lt_io.specs.FaultCounts.{count_after}
-use Rattle.lt_io.specs.Source.{SourceState}
+use Rattle.lt_io.specs.Streams.{count_after}
 use Rattle.lt_call.specs.declared.outcome.Outcome.TheVariants as outcome
 use Rattle.lt_call.specs.Outcomes.{HasRead, WritesNothing, SaysOfSource}
 use Rattle.lt_script.specs.declared.fault.ScriptFault.{ScriptFault}
 use Rattle.lt_script.specs.Reading.{read_of}
 use Rattle.lt_script.specs.Reading as reading
-use Rattle.lt_spec.specs.Ordered.{IsOrdered, is_orderly}
+use Rattle.lt_spec.specs.Script.{IsOrdered}
 use Rattle.lt_spec.specs.declared.ending.Ending.{Ending}
 use Rattle.lt_spec.specs.declared.ending.Ending.TheVariants as ending
-use Rattle.lt_spec.specs.Log.{Logged}
+use Rattle.lt_spec.specs.World.{Logged}
 use Rattle.lt_live.specs.declared.reply.Reply.{Reply}
 use Rattle.lt_live_serve.specs.declared.limits.TheConstants.{MAX_INPUT}
 use Rattle.lt_live_serve.specs.declared.status.Status.{Status}
 use Rattle.lt_live_serve.specs.declared.status.Status.TheVariants.{Done, Stuck, Usage, Refused, TooLong, ReadFault, WriteFault, NoMemory, Share}
-use Rattle.lt_live_serve.specs.Over.{is_over}
-use Rattle.lt_live_serve.specs.Runs.{IsOverShare, LiveRun, Journals}
-use Rattle.lt_live_serve.specs.Serves.{Did, GoesWell}
+use Rattle.lt_live_serve.specs.Serves.{is_over, IsOverShare, LiveRun, Journals, Did, GoesWell}
 use Rattle.lt_call.specs.Scripts.{HasFault, DenotesOrdered}
 use Rattle.lt_live_serve.specs.Status.{outcome_of}
-use Rattle.lt_law_pinned.specs.ToldRuns.{two_writers, two_writers_script}
+use Rattle.lt_law_pinned.specs.Told.{two_writers, two_writers_script}
 use Rattle.lt_law_pinned.specs.LiveCalls.{LiveCodesAre, LiveTextsAre, LiveCall, IsCall, Answers, ReadsBytes, IsUntroubled, ReadsWhole, LiveWordsTold, LiveRefusalsTold, LiveCountsTold, LiveEndsTold, no_nodes, one_lock, one_lock_script}
 use Rattle.lt_law_pinned.proofs.Numbers.{one_text, three_text, five_text, seven_text}
-use Rattle.lt_law_pinned.proofs.RunsOpened.{same_script, writers_read}
+use Rattle.lt_law_pinned.proofs.LimitsOpened.{same_script, writers_read}
 
 pub live_codes_are : LiveCodesAre
 live_codes_are = record {

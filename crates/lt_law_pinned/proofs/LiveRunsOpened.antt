@@ -1,27 +1,23 @@
 -- Each field of what is said of a live run, of its replies and of its journal.
-use Rattle.std.proofs.Common.{◌≡◌, ◌≢◌, ◌<◌, ◌≤◌, ◌++◌, ℕ, List, Ok, Option, Some, None, Bool, true, false, refl, sym, ap, subst, arith, ◌∙◌}
-use Rattle.std.specs.Prelude.{length, take}
+use Rattle.std.proofs.Common.{◌≡◌, ◌≢◌, ◌<◌, ◌++◌, ℕ, List, Option, Some, None, refl, sym, ap, subst, arith, ◌∙◌, length, take, ltb-false}
 use Rattle.std.specs.Io.KnownBytes.{Appends}
-use Rattle.std.proofs.lemmas.Bool.{false≢true, ltb-false}
+use Rattle.std.proofs.lemmas.Bool.{false≢true}
 use Rattle.lt_modes.specs.Script.{ScriptData}
-use Rattle.lt_spec.specs.Families.{commands_of}
-use Rattle.lt_spec.specs.Log.{Logged}
+use Rattle.lt_spec.specs.NodeMove.{commands_of}
+use Rattle.lt_spec.specs.World.{Logged}
 use Rattle.lt_script.specs.Reading.{read_of}
 use Rattle.lt_spec.specs.declared.ending.Ending.{Ending}
 use Rattle.lt_spec.specs.declared.ending.Ending.TheVariants as ending
-use Rattle.lt_journal.specs.Text.{text_of}
+use Rattle.lt_journal.specs.RunLines.{text_of}
 use Rattle.lt_merge.specs.Merging.{AreRising}
 use Rattle.lt_live.specs.declared.reply.Reply.{Reply}
-use Rattle.lt_live_serve.specs.declared.status.Status.{Status}
 use Rattle.lt_live_serve.specs.declared.status.Status.TheVariants.{Done, Stuck, WriteFault}
-use Rattle.lt_live.specs.Opened.{equal_share}
-use Rattle.lt_live_serve.specs.Runs.{Journals, all_replies}
+use Rattle.lt_live.specs.Stations.{equal_share}
+use Rattle.lt_live_serve.specs.Serves.{Journals, all_replies}
 use Rattle.lt_live_serve.specs.Status.{cut_of}
-use Rattle.lt_law_pinned.specs.ToldRuns.{two_writers, two_writers_script, both_moves}
-use Rattle.lt_law_pinned.specs.ToldOthers.{falling, crossed}
-use Rattle.lt_law_pinned.specs.LiveCalls.{LiveCall, IsCall, ReadsBytes, one_lock, one_lock_script}
-use Rattle.lt_law_pinned.specs.LiveRuns.{WritesJournal, JournalPart, LiveRunsTold, LiveSharesTold, crowded, two_moves}
-use Rattle.lt_law_pinned.proofs.RunsOpened.{same_script, writers_read}
+use Rattle.lt_law_pinned.specs.Told.{two_writers, two_writers_script, falling, crossed}
+use Rattle.lt_law_pinned.specs.LiveCalls.{one_lock, one_lock_script, LiveRunsTold, LiveSharesTold}
+use Rattle.lt_law_pinned.proofs.LimitsOpened.{same_script, writers_read}
 use Rattle.lt_law_pinned.proofs.LiveCallsOpened.{did_so, did_read, live_so, one_lock_read, two_fit}
 
 -- the journal of the two writers, of which no run is cut

@@ -1,15 +1,13 @@
 -- Each field of what is said of small inputs of nested transactions.
-use Rattle.std.proofs.Common.{◌≡◌, ◌++◌, ℕ, List, [], Ok, Err, Option, Some, refl, sym, ap, subst, ◌∙◌}
-use Rattle.std.specs.Prelude.{Result, codes}
+use Rattle.std.proofs.Common.{◌≡◌, ◌++◌, ℕ, List, [], Ok, Err, Option, Some, refl, sym, ap, subst, ◌∙◌, Result, codes}
 use Rattle.std.specs.Fmt.{digits}
 use Rattle.std.specs.Io.KnownBytes.{Appends}
 use Rattle.lt_modes.specs.Modes.{conflicts}
 use Rattle.lt_text.specs.Text as text
-use Rattle.lt_io.specs.Sink.{AppendsPart}
+use Rattle.lt_io.specs.Streams.{AppendsPart}
 use Rattle.lt_call.specs.Outcomes.{IsRefused}
 use Rattle.lt_nest.specs.Forest.{is_ancestor}
-use Rattle.lt_nest.specs.Locks.{pass}
-use Rattle.lt_nest.specs.Serving.{first_free, serve_set}
+use Rattle.lt_nest.specs.Locks.{pass, first_free, serve_set}
 use Rattle.lt_nest_lines.specs.declared.answer.Answer.{Answer}
 use Rattle.lt_nest_lines.specs.declared.answer.Answer.TheVariants.{Done, Usage, Refused, TooLong, ReadFault, WriteFault, NoMemory}
 use Rattle.lt_nest_lines.specs.Answers.{outcome_of}

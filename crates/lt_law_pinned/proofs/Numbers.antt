@@ -1,7 +1,5 @@
 -- How small numbers are written.
-use Rattle.std.proofs.Common.{arith, ◌≡◌, refl, ◌∙◌}
-use Rattle.std.specs.Prelude.{codes}
-use Rattle.std.specs.Fmt.{decimal}
+use Rattle.std.proofs.Common.{arith, ◌≡◌, refl, ◌∙◌, codes, decimal}
 use Rattle.std.proofs.lemmas.Fmt.{decimal_digit, decimal-digits_of}
 
 pub zero_text : decimal 0 ≡ codes "0"

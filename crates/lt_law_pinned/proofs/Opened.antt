@@ -1,5 +1,5 @@
 -- The promise, opened.
-use Rattle.lt_law_pinned.specs.Opened.{PromisedOpens}
+use Rattle.lt_law_pinned.specs.Worlds.{PromisedOpens}
 
 pub promised_opens : PromisedOpens
 promised_opens = record {

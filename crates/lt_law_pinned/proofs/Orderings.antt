@@ -4,21 +4,20 @@ use Rattle.std.proofs.lemmas.Bool.{false≢true}
 use Rattle.lt_modes.specs.declared.moves.Step.TheVariants.{Act}
 use Rattle.lt_modes.specs.Script.{ScriptData}
 use Rattle.lt_modes.specs.Modes.{conflicts}
-use Rattle.lt_spec.specs.Log.{Logged}
-use Rattle.lt_spec.specs.World.{start, logged, IsRun}
+use Rattle.lt_spec.specs.World.{Logged, start, logged, IsRun}
 use Rattle.lt_spec.specs.FixedOrder.{Turn, first_run}
 use Rattle.lt_text.specs.Text as text
 use Rattle.lt_script.specs.Reading.{read_of}
 use Rattle.lt_script.specs.Reading as reading
-use Rattle.lt_gen.specs.Draws.{seeded, draw_of}
-use Rattle.lt_gen.specs.Draws as draws
+use Rattle.lt_gen.specs.Generator.{seeded, draw_of}
+use Rattle.lt_gen.specs.Generator as draws
 use Rattle.rand_core.specs.Pcg32Seed as seeds
 use Rattle.rand_core.specs.Steps as steps
 use Rattle.lt_serve.specs.declared.schedule.Schedule.TheVariants.{First, Drawn}
 use Rattle.lt_serve.specs.Schedules.{AreInOrder, IsAt}
 use Rattle.lt_serve.proofs.Ordered.{first_from}
-use Rattle.lt_law_pinned.specs.TwoOrders.{OrdersSay, two_tries, two_tries_script, try_of_a, try_of_b, a_first, b_first}
-use Rattle.lt_law_pinned.proofs.AnswerResults.{same_script}
+use Rattle.lt_law_pinned.specs.Examples.{OrdersSay, two_tries, two_tries_script, try_of_a, try_of_b, a_first, b_first}
+use Rattle.lt_law_pinned.proofs.TwoWritersSay.{same_script}
 
 two_tries_read : read_of two_tries ≡ Ok two_tries_script
 unfolding reading.script_body reading.read_from text.lines text.cut_at reading.line_step text.words

@@ -1,12 +1,8 @@
 -- Each field of what is said of the words, the source and the sink by a program that takes no words.
-use Rattle.std.proofs.Common.{◌≡◌, ◌≢◌, ◌<◌, ◌≤◌, ◌+◌, ◌++◌, ℕ, List, Option, Some, refl, sym, ap, subst, arith, ◌∙◌}
-use Rattle.lt_io.specs.FaultCounts.{count_after}
-use Rattle.std.specs.Prelude.{take, codes}
-use Rattle.std.specs.Fmt.{decimal}
+use Rattle.std.proofs.Common.{◌≡◌, ◌≢◌, ◌<◌, ◌≤◌, ◌+◌, ◌++◌, ℕ, List, Option, Some, refl, sym, ap, subst, arith, ◌∙◌, take, codes, decimal}
+use Rattle.lt_io.specs.Streams.{count_after, AppendsPart, SourceState}
 use Rattle.std.proofs.lemmas.Fmt.{decimal_digit}
 use Rattle.std.specs.Io.KnownBytes.{Appends}
-use Rattle.lt_io.specs.Sink.{AppendsPart}
-use Rattle.lt_io.specs.Source.{SourceState}
 use Rattle.lt_call.specs.declared.outcome.Outcome.{Outcome}
 use Rattle.lt_call.specs.declared.outcome.Outcome.TheVariants.{Done, Usage, Refused, TooLong, ReadFault, WriteFault, NoMemory, BadJournal}
 use Rattle.lt_call.specs.Outcomes.{HasRead, IsRefused, WritesNothing, SaysOfSource}

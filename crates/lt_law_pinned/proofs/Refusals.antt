@@ -5,10 +5,9 @@ use Rattle.lt_script.specs.Reading.{read_of}
 use Rattle.lt_script.specs.Reading as reading
 use Rattle.lt_text.specs.Text as text
 use Rattle.lt_words.specs.declared.command.Command.TheVariants.{SimFirst}
-use Rattle.lt_law_pinned.proofs.AnswerResults.{same_bytes, same_fault, script_or_fault}
+use Rattle.lt_law_pinned.proofs.TwoWritersSay.{same_bytes, same_fault, script_or_fault, one_lock_read}
 use Rattle.lt_law_pinned.specs.Examples.{one_lock}
 use Rattle.lt_law_pinned.specs.OtherAnswers.{WordsSay, FaultSays, CountsSay, no_mode}
-use Rattle.lt_law_pinned.proofs.RunAnswers.{one_lock_read}
 
 pub words_say : WordsSay
 words_say = record {

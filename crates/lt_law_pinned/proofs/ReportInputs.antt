@@ -1,24 +1,21 @@
 -- What the small inputs of reports say: their scripts, their runs and the reports of these.
-use Rattle.std.proofs.Common.{◌≡◌, ◌∷◌, ℕ, List, [], Ok, Err, refl, ap, ap₂, ◌∙◌}
-use Rattle.std.specs.Prelude.{Result, take, codes}
+use Rattle.std.proofs.Common.{◌≡◌, ◌∷◌, ℕ, List, [], Ok, Err, refl, ap, ap₂, ◌∙◌, Result, take, codes}
 use Rattle.std.specs.Fmt.{digits}
 use Rattle.lt_modes.specs.declared.mode.Mode.TheVariants.{Read, Write}
 use Rattle.lt_modes.specs.declared.event.Event.TheVariants.{Grant, Wait}
 use Rattle.lt_modes.specs.declared.command.Command.TheVariants.{Lock, Change}
 use Rattle.lt_modes.specs.Modes.{conflicts}
 use Rattle.lt_modes.specs.Script.{ScriptData}
-use Rattle.lt_spec.specs.Log.{Logged}
-use Rattle.lt_spec.specs.Reports.{waits_report}
-use Rattle.lt_spec.specs.World.{world_after}
+use Rattle.lt_spec.specs.World.{Logged, world_after}
+use Rattle.lt_spec.specs.Rings.{waits_report}
 use Rattle.lt_text.specs.Text as text
 use Rattle.lt_text.specs.Text.{lines}
 use Rattle.lt_script.specs.Reading.{read_of}
 use Rattle.lt_script.specs.Reading as reading
 use Rattle.lt_journal.specs.Split as split
 use Rattle.lt_journal.specs.Split.{input_parts}
-use Rattle.lt_law_journals.specs.Checking.{checked}
-use Rattle.lt_law_journals.specs.Input.{checked_input, counted_from, journal_in, lines_before}
-use Rattle.lt_waits.specs.Report.{waits_text}
+use Rattle.lt_law_journals.specs.Checking.{checked, checked_input, counted_from, journal_in, lines_before}
+use Rattle.lt_waits.specs.Serves.{waits_text}
 use Rattle.lt_law_examples.specs.Worked.{declared_set, declared_client, act}
 use Rattle.lt_law_pinned.specs.Reports.{no_nodes_fault, writers_apart, writers_report, both_change, wrong_grant}
 

@@ -1,24 +1,21 @@
 -- Each field of what is said of a report of who waits for whom.
-use Rattle.std.proofs.Common.{◌≡◌, ◌++◌, ℕ, List, [], Ok, Err, Option, Some, refl, sym, ap, ap₂, subst, ◌∙◌}
-use Rattle.std.specs.Prelude.{Result, take, codes}
+use Rattle.std.proofs.Common.{◌≡◌, ◌++◌, ℕ, List, [], Ok, Err, Option, Some, refl, sym, ap, ap₂, subst, ◌∙◌, Result, take, codes}
 use Rattle.std.specs.Io.KnownBytes.{Appends}
-use Rattle.lt_io.specs.Sink.{AppendsPart}
+use Rattle.lt_io.specs.Streams.{AppendsPart}
 use Rattle.lt_modes.specs.Script.{ScriptData}
-use Rattle.lt_spec.specs.Log.{Logged}
-use Rattle.lt_spec.specs.Reports.{waits_report}
-use Rattle.lt_spec.specs.World.{world_after}
+use Rattle.lt_spec.specs.World.{Logged, world_after}
+use Rattle.lt_spec.specs.Rings.{waits_report}
 use Rattle.lt_text.specs.Text.{lines}
 use Rattle.lt_call.specs.Outcomes.{IsRefused}
 use Rattle.lt_script.specs.declared.fault.ScriptFault.{ScriptFault}
 use Rattle.lt_script.specs.Reading.{read_of}
 use Rattle.lt_journal.specs.Split.{input_parts}
-use Rattle.lt_law_journals.specs.Input.{checked_input}
+use Rattle.lt_law_journals.specs.Checking.{checked_input}
 use Rattle.lt_checker.specs.Input.{DenotesBefore, IsBad}
 use Rattle.lt_waits.specs.declared.answer.Answer.{Answer}
 use Rattle.lt_waits.specs.declared.answer.Answer.TheVariants.{Done, Usage, Refused, TooLong, ReadFault, WriteFault, NoMemory, BadJournal}
 use Rattle.lt_waits.specs.Answers.{outcome_of}
-use Rattle.lt_waits.specs.Report.{waits_text}
-use Rattle.lt_waits.specs.Serves.{IsReportOf, IsUnfit}
+use Rattle.lt_waits.specs.Serves.{waits_text, IsReportOf, IsUnfit}
 use Rattle.lt_law_pinned.specs.PlainCalls.{PlainCall, ReadsPlain, PlainlyTold}
 use Rattle.lt_law_pinned.specs.Reports.{ReportCodesAre, ReportTextsAre, IsReportCall, Reports, ReportsTold, no_nodes_fault, writers_apart, writers_report, both_change, wrong_grant}
 use Rattle.lt_law_pinned.proofs.ReportInputs.{InputIs, apart_script, writer_moves, change_script, change_moves, nothing_read, apart_is, change_is, wrong_is, apart_text, change_text}

@@ -1,6 +1,5 @@
 -- The texts of the whole script and its journal.
-use Rattle.std.proofs.Common.{◌≡◌, List, [], ◌∷◌, Ok, None, Some, true, false, refl, ap, ◌∙◌}
-use Rattle.std.specs.Prelude.{codes, take}
+use Rattle.std.proofs.Common.{◌≡◌, List, [], ◌∷◌, Ok, None, Some, true, false, refl, ap, ◌∙◌, codes, take}
 use Rattle.lt_modes.specs.declared.mode.Mode.TheVariants.{IntentionRead, Read, Upgrade, IntentionWrite, ReadIntentionWrite, Write}
 use Rattle.lt_modes.specs.declared.event.Event.TheVariants.{Grant, Wait, Try as Tried, Unlock as Unlocked, NotHeld, Change as Changed, DropAll as Dropped, Busy, Copy, Freeze, Token}
 use Rattle.lt_modes.specs.declared.moves.Step.TheVariants.{Act, Take}
@@ -12,10 +11,8 @@ use Rattle.lt_script.specs.Reading.{read_of}
 use Rattle.lt_script.specs.Reading as reading
 use Rattle.lt_journal.specs.declared.line.Line.{Line}
 use Rattle.lt_journal.specs.declared.line.Line.TheVariants.{Version, Move as MoveLine, Event as EventLine, Held, Waiting, Owner, End}
-use Rattle.lt_journal.specs.RunLines.{run_lines, entry_lines}
-use Rattle.lt_journal.specs.Text.{text_of, lines_text}
-use Rattle.lt_law_pinned.specs.Whole.{whole, whole_text, spread_text, whole_journal, freezing_move}
-use Rattle.lt_law_pinned.specs.Texts.{WholeIs}
+use Rattle.lt_journal.specs.RunLines.{run_lines, entry_lines, text_of, lines_text}
+use Rattle.lt_law_pinned.specs.Whole.{whole, whole_text, spread_text, whole_journal, freezing_move, WholeIs}
 use Rattle.lt_law_pinned.proofs.Numbers.{zero_text, one_text, two_text, three_text, four_text, five_text, six_text, seven_text, eight_text, nine_text, ten_text, eleven_text, twelve_text, thirteen_text, nineteen_text}
 
 -- the lines of the journal, one by one

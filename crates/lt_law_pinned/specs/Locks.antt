@@ -2,9 +2,12 @@
 use Rattle.std.specs.Prelude.{[], ◌∷◌, codes}
 use Rattle.lt_modes.specs.declared.mode.Mode.TheVariants.{IntentionRead, Read, Upgrade, IntentionWrite, Write}
 use Rattle.lt_modes.specs.declared.command.Command.TheVariants.{Lock, Unlock}
-use Rattle.lt_modes.specs.declared.event.Event.TheVariants.{Grant, Unlock as Unlocked}
-use Rattle.lt_law_examples.specs.Worked.{declared_set, declared_client, act}
-use Rattle.lt_law_pinned.specs.Faulty.{Faulty}
+use Rattle.lt_modes.specs.declared.event.Event.TheVariants.{Grant, Unlock as Unlocked, Wait, Token}
+use Rattle.lt_modes.specs.declared.ask.Ask.{Ask}
+use Rattle.lt_modes.specs.Script.{ScriptData}
+use Rattle.lt_law_examples.specs.Worked.{declared_set, declared_client, act, taken_at}
+use Rattle.lt_law_examples.specs.Snapshot.{stamp, new_ask}
+use Rattle.lt_law_pinned.specs.Waits.{Faulty, IsExcluded, wait_untold, wait_told_early, other_mode_told, other_set_told, answer_told, nobody_told, somebody_told, nobody_in_way, own_lock_in_way, lock_elsewhere, lock_beside, refused_at_first, refused_at_second, given_at_second, refused_beside}
 
 -- The second writer is granted its lock at the last move.
 abbrev pub granted_at_last : Faulty
@@ -85,3 +88,126 @@ second_lock_untold = record {
 -- The first lock isn't told before the second one is.
 abbrev pub lock_told_late : Faulty
 lock_told_late = record second_lock_untold { run = act 1 0 1 [] ∷ act 2 0 1 (Grant 1 1 Read ∷ Grant 1 1 Read ∷ []) ∷ [] }
+
+-- Runs in which the token or an ask goes to a node that the script doesn't have, and one of a script without nodes.
+
+-- There is no node, and so no token.
+abbrev pub no_node : Faulty
+no_node = record {
+  script = record { version = 1; nodes = 0; sets = declared_set (codes "s") 0 ∷ []; clients = []; commands = [] };
+  run = [];
+}
+
+-- The only client is on node 5 of two nodes, and at the last move the token leaves for it.
+abbrev pub token_leaves : Faulty
+token_leaves = record {
+  script = record {
+    version = 1;
+    nodes = 2;
+    sets = declared_set (codes "s") 0 ∷ [];
+    clients = declared_client (codes "a") 5 ∷ [];
+    commands = (0, Lock 0 Write) ∷ [];
+  };
+  run = act 1 5 0 (Wait 0 0 Write ∷ []) ∷ taken_at 2 0 5 (Token 0 5 1 ∷ []) ∷ [];
+}
+
+-- The token of the second set leaves, and that of the first stays.
+abbrev pub second_token_leaves : Faulty
+second_token_leaves = record {
+  script = record token_leaves.script {
+    sets = declared_set (codes "s") 0 ∷ declared_set (codes "t") 1 ∷ [];
+    commands = (0, Lock 1 Write) ∷ [];
+  };
+  run = act 1 5 0 (Wait 0 1 Write ∷ []) ∷ taken_at 2 0 5 (Token 1 5 1 ∷ []) ∷ [];
+}
+
+-- clients on nodes 5, 1 and 0 of two nodes
+abbrev pub by_hope : ScriptData
+by_hope = record {
+  version = 1;
+  nodes = 2;
+  sets = declared_set (codes "s") 0 ∷ declared_set (codes "t") 1 ∷ [];
+  clients =
+      declared_client (codes "a") 5 ∷
+      declared_client (codes "b") 1 ∷
+      declared_client (codes "c") 0 ∷
+      [];
+  commands = (0, Lock 0 Upgrade) ∷ (1, Lock 0 Write) ∷ (2, Lock 0 Read) ∷ [];
+}
+
+-- Node 0 hopes that the token will come to node 5, and sends its own ask there, while the token goes to node 1.
+abbrev pub ask_leaves : Faulty
+ask_leaves = record {
+  script = by_hope;
+  run =
+      act 1 1 1 (Wait 1 0 Write ∷ []) ∷
+      taken_at 2 0 1 (Token 0 1 1 ∷ []) ∷
+      act 1 5 0 (Wait 0 0 Upgrade ∷ []) ∷
+      taken_at 3 0 5 [] ∷
+      act 4 0 2 (Wait 2 0 Read ∷ []) ∷
+      [];
+}
+
+abbrev pub ask_that_leaves : Ask
+ask_that_leaves = new_ask 2 Read (stamp 4 0)
+
+-- The same in the second set.
+abbrev pub second_ask_leaves : Faulty
+second_ask_leaves = record {
+  script = record by_hope { commands = (0, Lock 1 Upgrade) ∷ (1, Lock 1 Write) ∷ (2, Lock 1 Read) ∷ [] };
+  run =
+      act 1 1 1 (Wait 1 1 Write ∷ []) ∷
+      taken_at 2 0 1 (Token 1 1 1 ∷ []) ∷
+      act 1 5 0 (Wait 0 1 Upgrade ∷ []) ∷
+      taken_at 3 0 5 [] ∷
+      act 4 0 2 (Wait 2 1 Read ∷ []) ∷
+      [];
+}
+
+-- Which runs aren't promised, by what is wrong in them.
+
+-- locks of different clients conflict, or the lines don't tell what is held
+pub record LocksExcluded : Type 0 where
+  pub granted_at_last : IsExcluded granted_at_last
+  pub granted_at_first : IsExcluded granted_at_first
+  pub stranger_at_first : IsExcluded stranger_at_first
+  pub stranger_at_last : IsExcluded stranger_at_last
+  pub stranger_midway : IsExcluded stranger_midway
+  pub strangers_apart : IsExcluded strangers_apart
+  pub set_of_strangers : IsExcluded set_of_strangers
+  pub lock_untold : IsExcluded lock_untold
+  pub lock_told_twice : IsExcluded lock_told_twice
+  pub second_lock_untold : IsExcluded second_lock_untold
+  pub lock_told_late : IsExcluded lock_told_late
+
+-- a set has no token, or an ask stands nowhere
+pub record PlacesExcluded : Type 0 where
+  pub no_node : IsExcluded no_node
+  pub token_leaves : IsExcluded token_leaves
+  pub second_token_leaves : IsExcluded second_token_leaves
+  pub ask_leaves : IsExcluded ask_leaves
+  pub second_ask_leaves : IsExcluded second_ask_leaves
+
+-- the lines don't tell who waits
+pub record WaitsExcluded : Type 0 where
+  pub wait_untold : IsExcluded wait_untold
+  pub wait_told_early : IsExcluded wait_told_early
+  pub other_mode_told : IsExcluded other_mode_told
+  pub other_set_told : IsExcluded other_set_told
+  pub answer_told : IsExcluded answer_told
+  pub nobody_told : IsExcluded nobody_told
+  pub somebody_told : IsExcluded somebody_told
+
+-- at rest nobody is in the way of the first waiter
+pub record RestsExcluded : Type 0 where
+  pub nobody_in_way : IsExcluded nobody_in_way
+  pub own_lock_in_way : IsExcluded own_lock_in_way
+  pub lock_elsewhere : IsExcluded lock_elsewhere
+  pub lock_beside : IsExcluded lock_beside
+
+-- a `try` is told wrongly
+pub record TriesExcluded : Type 0 where
+  pub refused_at_first : IsExcluded refused_at_first
+  pub refused_at_second : IsExcluded refused_at_second
+  pub given_at_second : IsExcluded given_at_second
+  pub refused_beside : IsExcluded refused_beside

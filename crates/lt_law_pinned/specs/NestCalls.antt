@@ -1,6 +1,6 @@
 -- What an answer of the program on nested transactions says, for small inputs, and its exit statuses and texts.
 use Rattle.std.specs.Prelude.{◌≡◌, ◌++◌, [], ℕ, List, codes}
-use Rattle.lt_io.specs.Source.{SourceState}
+use Rattle.lt_io.specs.Streams.{SourceState}
 use Rattle.lt_call.specs.Outcomes.{exit_code}
 use Rattle.lt_nest_lines.specs.declared.answer.Answer.{Answer}
 use Rattle.lt_nest_lines.specs.declared.answer.Answer.TheVariants.{Done, Usage, Refused, TooLong, ReadFault, WriteFault, NoMemory}

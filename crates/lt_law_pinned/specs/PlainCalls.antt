@@ -1,6 +1,6 @@
 -- What the answer says of the words, the source and the sink, of a program that takes no words.
 use Rattle.std.specs.Prelude.{◌≡◌, ◌≢◌, ◌<◌, ◌≤◌, ◌+◌, ◌++◌, ℕ, List, Option, Some, length, take}
-use Rattle.lt_io.specs.Source.{SourceState}
+use Rattle.lt_io.specs.Streams.{SourceState}
 use Rattle.lt_call.specs.declared.outcome.Outcome.{Outcome}
 use Rattle.lt_call.specs.declared.outcome.Outcome.TheVariants.{Done, Usage, Refused, TooLong, ReadFault, WriteFault, NoMemory, BadJournal}
 

@@ -2,23 +2,19 @@
 use Rattle.std.specs.Prelude.{◌≡◌, ◌<◌, ◌==◌, ◌++◌, ◌∷◌, [], ℕ, List, Contains, IsTrue, length, codes}
 use Rattle.std.specs.List.{IsDistinct}
 use Rattle.lt_modes.specs.Script.{ScriptData}
-use Rattle.lt_io.specs.Source.{SourceState}
+use Rattle.lt_io.specs.Streams.{SourceState}
 use Rattle.lt_call.specs.Outcomes.{exit_code}
 use Rattle.lt_script.specs.declared.fault.Fault.TheVariants as faults
 use Rattle.lt_script.specs.declared.fault.ScriptFault.{ScriptFault}
-use Rattle.lt_spec.specs.Ended.{HasEnded, HoldsUp, WaitInRing}
-use Rattle.lt_spec.specs.Holdings.{lines_of}
-use Rattle.lt_spec.specs.Log.{Logged}
-use Rattle.lt_spec.specs.Reports.{CycleLine, EndsLine, waits_lines, waits_report}
-use Rattle.lt_spec.specs.Rings.{AreBelow, IsRing}
-use Rattle.lt_spec.specs.Waiting.{waits_for}
-use Rattle.lt_spec.specs.World.{World, world_after, is_at_rest, is_waiting, IsRun}
+use Rattle.lt_spec.specs.Promised.{HasEnded, HoldsUp, WaitInRing}
+use Rattle.lt_spec.specs.Holdings.{lines_of, waits_for}
+use Rattle.lt_spec.specs.World.{Logged, World, world_after, is_at_rest, is_waiting, IsRun}
+use Rattle.lt_spec.specs.Rings.{CycleLine, EndsLine, waits_lines, waits_report, AreBelow, IsRing}
 use Rattle.lt_checker.specs.declared.limits.TheConstants.{MAX_JOURNAL}
 use Rattle.lt_waits.specs.declared.answer.Answer.{Answer}
 use Rattle.lt_waits.specs.declared.answer.Answer.TheVariants.{Done, Usage, Refused, TooLong, ReadFault, WriteFault, NoMemory, BadJournal}
 use Rattle.lt_waits.specs.Answers.{outcome_of, answer_text}
-use Rattle.lt_waits.specs.Report.{waits_text}
-use Rattle.lt_waits.specs.Serves.{ServesReport}
+use Rattle.lt_waits.specs.Serves.{waits_text, ServesReport}
 use Rattle.lt_law_pinned.specs.PlainCalls.{SinkTells, PlainCall, AnswersSo, SinkHolds, IsPartWritten}
 
 -- the fault of a script of nothing

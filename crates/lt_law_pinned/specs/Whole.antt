@@ -1,12 +1,18 @@
 -- A script and its journal in which each form of a line, each command, each event and each mode stands.
-use Rattle.std.specs.Prelude.{[], ◌∷◌, ◌++◌, ℕ, List, codes, true, false}
+use Rattle.std.specs.Prelude.{[], ◌∷◌, ◌++◌, ℕ, List, codes, true, false, ◌≡◌, Ok, None, Some, take}
 use Rattle.lt_modes.specs.declared.mode.Mode.TheVariants.{IntentionRead, Read, Upgrade, IntentionWrite, ReadIntentionWrite, Write}
 use Rattle.lt_modes.specs.declared.command.Command.TheVariants.{Lock, Try, Unlock, Change, DropAll}
 use Rattle.lt_modes.specs.declared.event.Event.TheVariants.{Grant, Wait, Try as Tried, Unlock as Unlocked, NotHeld, Change as Changed, DropAll as Dropped, Busy, Copy, Freeze, Token}
 use Rattle.lt_modes.specs.Modes.{no_modes, modes_in}
 use Rattle.lt_spec.specs.Holdings.{holding}
-use Rattle.lt_spec.specs.Log.{Logged}
-use Rattle.lt_law_examples.specs.Worked.{Worked, declared_set, declared_client, act, taken_at, holds, owner}
+use Rattle.lt_spec.specs.World.{Logged}
+use Rattle.lt_script.specs.Printing.{print_of}
+use Rattle.lt_script.specs.Reading.{read_of}
+use Rattle.lt_gen.specs.Generator.{script_of}
+use Rattle.lt_tally.specs.Summary.{summary_of}
+use Rattle.lt_journal.specs.RunLines.{entry_lines, lines_text, text_of}
+use Rattle.lt_law_examples.specs.Worked.{Worked, declared_set, declared_client, act, taken_at, holds, owner, IsFirstRun}
+use Rattle.lt_law_pinned.specs.Worlds.{made_from_233, made_text}
 
 -- The script, its run in the fixed order of moves, and what is held at its end.
 abbrev pub whole : Worked
@@ -155,3 +161,29 @@ whole_journal =
 -- one of its moves
 abbrev pub freezing_move : Logged
 freezing_move = taken_at 10 0 1 (Freeze 0 1 1 (modes_in (Upgrade ∷ IntentionWrite ∷ ReadIntentionWrite ∷ Write ∷ [])) ∷ Token 0 1 1 ∷ [])
+
+-- What scripts, journals and counts are in literals.
+
+-- the script of version 2 with each form, its run and its journal
+pub record WholeIs : Type 0 where
+  pub printed : print_of whole.script ≡ whole_text
+  pub read : read_of whole_text ≡ Ok whole.script
+  pub spread : read_of spread_text ≡ Ok whole.script
+  pub run : IsFirstRun whole
+  pub journal : text_of whole.script whole.run None ≡ whole_journal
+  -- the journal of its first move, cut after it
+  pub cut : text_of whole.script (take 1 whole.run) (Some 1) ≡ codes "version 2\nmove 1 0 act a\ngrant a s intention_write\ncut 1\n"
+  -- a move that freezes, as journals of version 1 show it
+  pub five_modes : lines_text whole.script (entry_lines 1 freezing_move)
+      ≡ codes "move 10 0 take 1\nfreeze s 1 1 upgrade intention_write write\ntoken s 1 1\n"
+  -- what the run came to
+  pub summary : summary_of whole.script whole.run
+      ≡ record { nodes = 2; sets = 2; clients = 4; commands = 12; held = 3; waiting = 1 }
+  -- after six of its moves, the last of which asks
+  pub midway : summary_of whole.script (take 6 whole.run)
+      ≡ record { nodes = 2; sets = 2; clients = 4; commands = 12; held = 2; waiting = 1 }
+
+-- the script that is made from the seed 233
+pub record DrawnIs : Type 0 where
+  pub script : script_of 2 3 20 233 ≡ made_from_233
+  pub text : print_of made_from_233 ≡ made_text

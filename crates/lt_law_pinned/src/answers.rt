@@ -1,10 +1,5 @@
-ghost use Rattle.lt_law_pinned.specs.Examples.{OneLock, TwoWriters, CutShort};
-ghost use Rattle.lt_law_pinned.specs.OtherAnswers.{WordsSay, FaultSays, CheckSays, MakeSays, SoakSays, CountsSay};
-ghost use Rattle.lt_law_pinned.specs.Failures.{FailuresSay, UnwrittenSays, CompleteSays};
-ghost use Rattle.lt_law_pinned.specs.TwoOrders.{OrdersSay};
-ghost use Rattle.lt_law_pinned.specs.OrderAnswers.{OrderSays};
-ghost use Rattle.lt_law_pinned.specs.EndAnswers.{EndsSay};
-ghost use Rattle.lt_law_pinned.specs.WholeAnswers.{ServesSay};
+ghost use Rattle.lt_law_pinned.specs.Examples.{OneLock, TwoWriters, CutShort, OrdersSay};
+ghost use Rattle.lt_law_pinned.specs.OtherAnswers.{WordsSay, FaultSays, CheckSays, MakeSays, SoakSays, CountsSay, FailuresSay, UnwrittenSays, CompleteSays, OrderSays, EndsSay, ServesSay};
 
 use lt_io::{Sink, Source};
 

@@ -1,11 +1,7 @@
-ghost use Rattle.lt_law_pinned.specs.Excluded.{LocksExcluded, PlacesExcluded, WaitsExcluded, RestsExcluded, TriesExcluded};
-ghost use Rattle.lt_law_pinned.specs.Opened.{PromisedOpens};
-ghost use Rattle.lt_law_pinned.specs.WorldsExcluded.{CountsExcluded, StandingExcluded, TurnsExcluded};
-ghost use Rattle.lt_law_pinned.specs.Texts.{WholeIs, DrawnIs};
-ghost use Rattle.lt_law_pinned.specs.ToldWords.{WordsAre};
-ghost use Rattle.lt_law_pinned.specs.ToldRuns.{RunsTold, TimesTold};
-ghost use Rattle.lt_law_pinned.specs.ToldOthers.{SoakTold, CheckTold, MakeTold};
-ghost use Rattle.lt_law_pinned.specs.ToldLimits.{WithinTold, FarTold, EachTimeTold, EndsTold};
+ghost use Rattle.lt_law_pinned.specs.Locks.{LocksExcluded, PlacesExcluded, WaitsExcluded, RestsExcluded, TriesExcluded};
+ghost use Rattle.lt_law_pinned.specs.Worlds.{PromisedOpens, CountsExcluded, StandingExcluded, TurnsExcluded};
+ghost use Rattle.lt_law_pinned.specs.Whole.{WholeIs, DrawnIs};
+ghost use Rattle.lt_law_pinned.specs.Told.{WordsAre, RunsTold, TimesTold, SoakTold, CheckTold, MakeTold, WithinTold, FarTold, EachTimeTold, EndsTold};
 
 use lt_law_ends::law_never_cut;
 

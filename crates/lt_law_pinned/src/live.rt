@@ -1,5 +1,4 @@
-ghost use Rattle.lt_law_pinned.specs.LiveCalls.{LiveCodesAre, LiveTextsAre, LiveWordsTold, LiveRefusalsTold, LiveCountsTold, LiveEndsTold};
-ghost use Rattle.lt_law_pinned.specs.LiveRuns.{LiveRunsTold, LiveSharesTold};
+ghost use Rattle.lt_law_pinned.specs.LiveCalls.{LiveCodesAre, LiveTextsAre, LiveWordsTold, LiveRefusalsTold, LiveCountsTold, LiveEndsTold, LiveRunsTold, LiveSharesTold};
 
 /// What an answer of the program on live sessions says, field by field, and its exit statuses and texts.
 ///

@@ -1,21 +1,57 @@
--- Plays and runs where commands of clients go on.
-use Rattle.std.proofs.Common.{◌≡◌, ℕ, List, [], ◌∷◌, ◌++◌, Bool, true, false, Some, None, refl, sym, ap, subst, ◌∙◌, length}
-use Rattle.std.specs.Prelude.{◌&&◌, ◌==◌, not, nat_lt, if◌then◌else◌}
+-- A client's next command where its list goes on.
+use Rattle.std.proofs.Common.{◌≡◌, ℕ, zero, suc, ◌+◌, ◌<◌, List, [], ◌∷◌, ◌++◌, true, Option, Some, None, refl, sym, ap, arith, ◌∙◌, length, slice_get, Bool, false, subst, ◌≢◌, ◌≤◌, inl, inr, ltb-true, lt-ltb, eqb-true, ne_eqb, length-append, append-nil, ◌&&◌, ◌==◌, not, nat_lt, if◌then◌else◌, filter_map}
+use Rattle.std.proofs.lemmas.Bool.{and_parts, and_from, cases_eq}
 use Rattle.std.specs.List.{cons_option}
-use Rattle.std.proofs.lemmas.Bool.{and_parts, and_from, eqb-true}
 use Rattle.std.proofs.lemmas.List.Elements.{filter_map-append}
+use mathlib.Core.List.{IsPrefix}
+use Rattle.lt_modes.specs.declared.stamp.Stamp.{Stamp}
 use Rattle.lt_modes.specs.declared.command.Command.{Command}
+use Rattle.lt_modes.specs.declared.command.Command.TheVariants.{Lock, Unlock, Try, Change, DropAll}
+use Rattle.lt_modes.specs.Script.{ScriptData}
 use Rattle.lt_modes.specs.declared.moves.Step.{Step}
 use Rattle.lt_modes.specs.declared.moves.Step.TheVariants.{Act, Take}
-use Rattle.lt_modes.specs.Script.{ScriptData}
-use Rattle.lt_spec.specs.Log.{Logged}
-use Rattle.lt_spec.specs.Families.{commands_of, command_if, home}
-use Rattle.lt_spec.specs.NodeMove.{NodeState, NodeMade, has_command, node_waits, node_act}
-use Rattle.lt_spec.specs.World.{World, start, is_enabled, is_runnable, node_move, move_stamp, opened, after_made, after, after_run, IsRunFrom}
-use Rattle.lt_spec.specs.Plays.{Cause, OfClient, OfLetter, can_make_move, made_of, stamp_of, cause_step, letters_for, Plays}
-use Rattle.lt_spec.specs.Commands.{with_commands, AnyClient, IsHomeAt, GoOn}
-use Rattle.lt_law_plays.specs.AppendLaws.{PlaysGoOn, RunsGoOn, AppendedCommands, PlaysOfAppended, RunsOfAppended}
-use Rattle.lt_law_plays.proofs.NextCommands.{makes_same}
+use Rattle.lt_lists.specs.Below.{gather_below}
+use Rattle.lt_spec.specs.NodeMove.{commands_of, NodeState, has_command, next_command, act_stamp, one_made, at_clock, obey, node_act, with_commands, command_if, home, NodeMade, node_waits, AnyClient, IsHomeAt, GoOn, AreAt, share_of, joined_of}
+use Rattle.lt_spec.specs.World.{Logged, World, start, is_enabled, is_runnable, node_move, move_stamp, opened, after_made, after, after_run, IsRunFrom}
+use Rattle.lt_spec.specs.FixedOrder.{Cause, OfClient, OfLetter, can_make_move, made_of, stamp_of, cause_step, letters_for, Plays}
+use Rattle.lt_law_plays.specs.AppendLaws.{PlaysGoOn, RunsGoOn, AppendedCommands, PlaysOfAppended, RunsOfAppended, PlaysSameAt, AreOwnCommands, ShareIsSame, SharedPlays, SharedCommands}
+
+slice_get_front : {X : Type 0} (xs ys : List X) (k : ℕ) → k < length xs → slice_get (xs ++ ys) k ≡ slice_get xs k
+slice_get_front [] ys k below = absurd (omega (arith, below))
+slice_get_front (x ∷ xs) ys zero below = refl
+slice_get_front (x ∷ xs) ys (suc k) below = slice_get_front xs ys k (omega (arith, below))
+
+-- of the script a command reads the sets alone
+obey-same : (script : ScriptData) (commands : List (ℕ × Command)) (stamp : Stamp) (client : ℕ) (o : Option Command) (n : NodeState)
+    → obey (with_commands script commands) stamp client o n ≡ obey script stamp client o n
+obey-same script commands stamp client None n = refl
+obey-same script commands stamp client (Some (Lock s mode)) n = refl
+obey-same script commands stamp client (Some (Try s mode)) n = refl
+obey-same script commands stamp client (Some (Unlock s mode)) n = refl
+obey-same script commands stamp client (Some (Change s gives_up mode)) n = refl
+obey-same script commands stamp client (Some (DropAll other s)) n = refl
+
+-- the client has the same command to make, and what a node makes of it is the same
+pub record MakesSame (script : ScriptData) (commands : List (ℕ × Command)) (n : NodeState) (client : ℕ) : Type 0 where
+  pub has : has_command (with_commands script commands) n client ≡ true
+  pub made : (x : ℕ) → node_act (with_commands script commands) x client n ≡ node_act script x client n
+
+pub makes_same : (script : ScriptData) (commands : List (ℕ × Command)) (n : NodeState) (client : ℕ)
+    → IsPrefix (commands_of script client) (commands_of (with_commands script commands) client)
+    → has_command script n client ≡ true → MakesSame script commands n client
+makes_same script commands n client more has =
+    let below : n.made client < length (commands_of script client) = ltb-true (n.made client) (length (commands_of script client)) has in
+    let next : next_command (with_commands script commands) n client ≡ next_command script n client =
+    ap (λ (list : List Command). slice_get list (n.made client)) (sym more.1) ∙ slice_get_front (commands_of script client) more.0 (n.made client) below in
+    let count = ap (λ (list : List Command). length list) more.1 in
+    record {
+      has = lt-ltb (n.made client) (length (commands_of (with_commands script commands) client))
+          (omega (arith, below, count, length-append (commands_of script client) more.0));
+      made = λ x. ap (λ (o : Option Command). obey (with_commands script commands) (act_stamp x n) client o (one_made client (at_clock (n.clock + 1) n))) next
+          ∙ obey-same script commands (act_stamp x n) client (next_command script n client) (one_made client (at_clock (n.clock + 1) n));
+    }
+
+-- Plays and runs where commands of clients go on.
 
 -- the node can make the move, and makes the same of it
 record IsSameMove (script : ScriptData) (commands : List (ℕ × Command)) (x : ℕ) (n : NodeState) (cause : Cause) : Type 0 where
@@ -118,3 +154,65 @@ plays_of_appended script client command x log n last used sent h =
 pub runs_of_appended : RunsOfAppended
 runs_of_appended script client command run h =
     runs_go_on script (script.commands ++ (client, command) ∷ []) (appended_goes script client command AnyClient) run h
+
+-- Scripts in which a node sees the same.
+
+pub plays_same_at : PlaysSameAt
+plays_same_at x a b same log n last used sent h =
+    let goes : GoOn (IsHomeAt a x) a b.commands = λ client at. ([], append-nil (commands_of a client) ∙ sym (same.own client at)) in
+    subst (λ (s : ScriptData). Plays s x n log used sent last) (sym same.rest) (plays_go_on a b.commands x goes log n last used sent h)
+
+-- no command of these is one of the client, which is of another node
+not_here : (script : ScriptData) (q client : ℕ) (commands : List (ℕ × Command)) → AreAt script q commands → home script client ≢ q
+    → filter_map (command_if client) commands ≡ []
+not_here script q client [] h apart = refl
+not_here script q client (request ∷ rest) h apart =
+    ap (λ (t : Bool). cons_option (if t then Some request.1 else None) (filter_map (command_if client) rest))
+    (ne_eqb request.0 client (λ e. apart (ap (home script) (sym e) ∙ h.0)))
+    ∙ not_here script q client rest h.1 apart
+
+-- no command of the first n nodes is one of a client of a later node
+none_before : (script : ScriptData) (shares : ℕ → List (ℕ × Command)) (client n : ℕ) → ((q : ℕ) → q < n → AreAt script q (shares q))
+    → n ≤ home script client → filter_map (command_if client) (gather_below n shares) ≡ []
+none_before script shares client zero h past = refl
+none_before script shares client (suc n) h past =
+    filter_map-append (command_if client) (gather_below n shares) (shares n)
+    ∙ (ap (λ (list : List Command). list ++ filter_map (command_if client) (shares n))
+    (none_before script shares client n (λ q below. h q (omega (arith, below))) (omega (arith, past)))
+    ∙ not_here script n client (shares n) (h n (omega arith)) (λ e. absurd (omega (arith, e, past))))
+
+-- and of theirs a client has those that its own node appended
+own_below : (script : ScriptData) (shares : ℕ → List (ℕ × Command)) (client n : ℕ) → ((q : ℕ) → q < n → AreAt script q (shares q))
+    → home script client < n
+    → filter_map (command_if client) (gather_below n shares) ≡ filter_map (command_if client) (shares (home script client))
+own_below script shares client zero h below = absurd (omega (arith, below))
+own_below script shares client (suc n) h below =
+    filter_map-append (command_if client) (gather_below n shares) (shares n)
+    ∙ elim (cases_eq (home script client) n) [
+      | inl e ↦ ap (λ (list : List Command). list ++ filter_map (command_if client) (shares n))
+          (none_before script shares client n (λ q less. h q (omega (arith, less))) (omega (arith, e)))
+          ∙ ap (λ (q : ℕ). filter_map (command_if client) (shares q)) (sym e)
+      | inr d ↦ ap (λ (list : List Command). filter_map (command_if client) (gather_below n shares) ++ list)
+          (not_here script n client (shares n) (h n (omega arith)) d)
+          ∙ (append-nil (filter_map (command_if client) (gather_below n shares))
+          ∙ own_below script shares client n (λ q less. h q (omega (arith, less))) (omega (arith, below, d)))
+    ]
+
+own_of_joined : (script : ScriptData) (shares : ℕ → List (ℕ × Command)) → AreOwnCommands script shares
+    → (q client : ℕ) → q < script.nodes → home script client ≡ q
+    → commands_of (joined_of script shares) client ≡ commands_of (share_of script shares q) client
+own_of_joined script shares are q client below at =
+    filter_map-append (command_if client) script.commands (gather_below script.nodes shares)
+    ∙ (ap (λ (list : List Command). commands_of script client ++ list)
+    (own_below script shares client script.nodes are (omega (arith, at, below)) ∙ ap (λ (x : ℕ). filter_map (command_if client) (shares x)) at)
+    ∙ sym (filter_map-append (command_if client) script.commands (shares q)))
+
+pub share_is_same : ShareIsSame
+share_is_same script shares are q below = record { rest = refl; own = λ client at. own_of_joined script shares are q client below at }
+
+pub shared_plays : SharedPlays
+shared_plays script shares are x below log n last used sent h =
+    plays_same_at x (share_of script shares x) (joined_of script shares) (share_is_same script shares are x below) log n last used sent h
+
+pub shared_commands : SharedCommands
+shared_commands script shares are client below = own_of_joined script shares are (home script client) client below refl

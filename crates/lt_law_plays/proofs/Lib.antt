@@ -1,12 +1,7 @@
 pub mod PlayLemmas
 pub mod MergedLogs
-pub mod Steps
+pub mod RunParts
 pub mod MergedRun
 pub mod LowClocks
-pub mod RunParts
-pub mod Heads
-pub mod JoinedParts
 pub mod TokenHistory
-pub mod NextCommands
 pub mod Appending
-pub mod Sharing

@@ -1,20 +1,20 @@
 -- How far clocks get in plays, and what is enabled after them.
-use Rattle.std.proofs.Common.{◌≡◌, ℕ, List, length, Bool, true, false, refl, ap, arith, ◌∙◌, take as take_first}
-use Rattle.std.specs.Prelude.{◌&&◌, ◌==◌, not, nat_lt}
-use Rattle.std.proofs.lemmas.Bool.{eqb-true}
-use Rattle.std.proofs.lemmas.List.{take_all}
+use Rattle.std.proofs.Common.{◌≡◌, ℕ, List, length, Bool, true, false, refl, ap, arith, ◌∙◌, take as take_first, ◌+◌, ◌<◌, subst, ◌&&◌, ◌==◌, not, nat_lt, nat_le, eqb-true, lt-ltb, le-leb, take_all}
+use Rattle.std.proofs.lemmas.Bool.{and_from}
 use Rattle.std.proofs.lemmas.List.Elements.{All-contains, All-from_recursion}
 use Rattle.lt_modes.specs.Script.{ScriptData}
-use Rattle.lt_spec.specs.Log.{Logged}
-use Rattle.lt_spec.specs.Families.{home}
-use Rattle.lt_spec.specs.NodeMove.{has_command, node_waits}
-use Rattle.lt_spec.specs.World.{World, start, is_some_letter, is_runnable, world_after}
+use Rattle.lt_spec.specs.World.{Logged, World, start, is_some_letter, is_runnable, world_after}
+use Rattle.lt_spec.specs.NodeMove.{home, has_command, node_waits}
+use Rattle.lt_spec.specs.Facts.{OnWay}
 use Rattle.lt_model.proofs.ClocksGrow.{clocks_in_runs}
+use Rattle.lt_model.proofs.HomesMove.{homes_in_runs}
+use Rattle.lt_model.proofs.Runs.{paths_in_runs}
+use Rattle.lt_model.proofs.TimedMove.{timed_in_runs}
 use Rattle.lt_law_plays.specs.Merged.{merged}
-use Rattle.lt_law_plays.specs.MergeLaws.{joined_world, EnabledIsSeen, ClocksAreCounted, LettersAreCounted}
+use Rattle.lt_law_plays.specs.MergeLaws.{joined_world, EnabledIsSeen, ClocksAreCounted, LettersAreCounted, HeadsFit}
 use Rattle.lt_law_plays.proofs.PlayLemmas.{IsSentIn, plays_send_stamped}
 use Rattle.lt_law_plays.proofs.MergedLogs.{merged_exists, merged_has_all}
-use Rattle.lt_law_plays.proofs.MergedRun.{merged_is_run, merged_ends}
+use Rattle.lt_law_plays.proofs.MergedRun.{merged_is_run, merged_ends, sent_were_on_way}
 
 pub clocks_are_counted : ClocksAreCounted
 clocks_are_counted script l h x =
@@ -57,3 +57,26 @@ enabled_is_seen script l run h is_merged = (
     and_true : (t : Bool) → t && true ≡ t
     and_true true = refl
     and_true false = refl
+
+-- What each node tests first of a letter holds of every letter that was sent to it.
+
+pub heads_fit : HeadsFit
+heads_fit script l whole h few p q letter below among =
+    let run = merged script.nodes l.log in
+    let is_merged = merged_exists script l h in
+    let is_run = merged_is_run script l run h is_merged in
+    let found = sent_were_on_way script l run h is_merged p q letter among in
+    let w = world_after script (take_first found.0 run) in
+    let on : OnWay w letter.set p q letter = record { among = found.1; set = refl } in
+    let home = (homes_in_runs script run whole is_run found.0).letters p q letter found.1 in
+    let paths = paths_in_runs script run whole.some_node is_run found.0 letter.set in
+    let link = (paths.letters p q letter below on).link in
+    let named = paths.went letter.link.epoch 0 link.epoch in
+    let timed = (timed_in_runs script run is_run found.0 letter.set).letters p q letter below on in
+    let low = letters_are_counted script l h p q letter among in
+    let clock = clocks_are_counted script l h q in
+    and_from (nat_lt letter.set (length script.sets)) _ (lt-ltb letter.set (length script.sets) home.set)
+    (and_from (nat_lt letter.link.node script.nodes) _ (lt-ltb letter.link.node script.nodes (subst (λ x. x < script.nodes) link.node named))
+    (and_from (nat_le letter.link.epoch letter.stamp.clock) _ (le-leb letter.link.epoch letter.stamp.clock timed.epoch)
+    (and_from (nat_lt (letter.stamp.clock + 1) 4294967296) _ (lt-ltb (letter.stamp.clock + 1) 4294967296 (omega (arith, low, few)))
+    (lt-ltb ((l.last q).clock + 1) 4294967296 (omega (arith, clock, few))))))

@@ -1,17 +1,14 @@
 -- The logs of all nodes have one merged list.
-use Rattle.std.proofs.Common.{◌≡◌, ℕ, zero, suc, ◌<◌, ◌≤◌, inl, inr, List, [], ◌∷◌, length, true, false, refl, sym, ap, subst, arith, ◌∙◌}
-use Rattle.std.specs.Prelude.{◌≢◌, ◌⊎◌, filter, drop}
+use Rattle.std.proofs.Common.{◌≡◌, ℕ, zero, suc, ◌<◌, ◌≤◌, inl, inr, List, [], ◌∷◌, length, true, false, refl, sym, ap, subst, arith, ◌∙◌, ◌≢◌, ◌⊎◌, filter, drop, eq-eqb, ne_eqb}
 use Rattle.std.specs.List.{AllByRecursion}
-use Rattle.std.proofs.lemmas.Bool.{cases_eq, cases_lt, cases_Bool, eq-eqb, ne_eqb, both_ways}
-use Rattle.lt_modes.specs.Tells.{is_newer}
+use Rattle.std.proofs.lemmas.Bool.{cases_eq, cases_lt, cases_Bool, both_ways}
+use Rattle.lt_modes.specs.Serving.{is_newer}
 use Rattle.lt_lists.specs.Below.{sum_below}
 use Rattle.lt_lists.proofs.AllLemmas.{all_weaker}
-use Rattle.lt_spec.specs.Log.{Logged}
-use Rattle.lt_spec.specs.World.{start, is_of_node}
+use Rattle.lt_spec.specs.World.{Logged, start, is_of_node}
 use Rattle.lt_modes.proofs.StampOrder.{newer_one_way}
 use Rattle.lt_merge.specs.Merging.{IsBefore, AreRising, AreNodesApart, both_merged}
-use Rattle.lt_merge.proofs.Filters.{filter_yes, filter_no, all_filter, all_pass, none_left}
-use Rattle.lt_merge.proofs.MergedLists.{merged_rising, beside_by_node, merged-first, merged-second, length_merged}
+use Rattle.lt_merge.proofs.MergedLists.{filter_yes, filter_no, all_filter, all_pass, none_left, merged_rising, beside_by_node, merged-first, merged-second, length_merged}
 use Rattle.lt_law_plays.specs.Merged.{merged}
 use Rattle.lt_law_plays.specs.MergeLaws.{MergedExists, MergedHasAll, MergedIsOne}
 use Rattle.lt_law_plays.proofs.PlayLemmas.{plays_rise}

@@ -1,31 +1,28 @@
 -- Plays that are merged by stamps are a run of the world.
-use Rattle.std.proofs.Common.{◌≡◌, ℕ, zero, suc, ◌<◌, ◌≤◌, inl, inr, List, [], ◌∷◌, ◌++◌, Bool, true, false, refl, sym, ap, subst, arith, ◌∙◌, take as take_first}
-use Rattle.std.specs.Prelude.{Contains, ◌==◌, if◌then◌else◌, IsTrue, filter, filter_map, drop}
+use Rattle.std.proofs.Common.{◌≡◌, ℕ, zero, suc, ◌<◌, ◌≤◌, inl, inr, List, [], ◌∷◌, ◌++◌, Bool, true, false, refl, sym, ap, subst, arith, ◌∙◌, take as take_first, Contains, ◌==◌, if◌then◌else◌, IsTrue, filter, filter_map, drop, eq-eqb, ne_eqb, eqb-true, append-nil, append_assoc}
 use Rattle.std.specs.List.{AllByRecursion}
 use Rattle.std.proofs.Math.Path.{fun_ext}
-use Rattle.std.proofs.lemmas.Bool.{cases_eq, eq-eqb, ne_eqb, eqb-true}
-use Rattle.std.proofs.lemmas.List.{append-nil, append_assoc, append_cancel_left}
+use Rattle.std.proofs.lemmas.Bool.{cases_eq}
+use Rattle.std.proofs.lemmas.List.{append_cancel_left}
 use Rattle.std.proofs.lemmas.List.Elements.{Contains-append_cases, Contains-append_left, Contains-append_right}
 use Rattle.lt_modes.specs.declared.stamp.Stamp.{Stamp}
 use Rattle.lt_modes.specs.Script.{ScriptData}
-use Rattle.lt_modes.specs.State.{Letter}
-use Rattle.lt_modes.specs.Made.{Post}
-use Rattle.lt_spec.specs.Log.{Logged}
+use Rattle.lt_modes.specs.State.{Letter, Post}
+use Rattle.lt_spec.specs.World.{Logged, World, start, token_to, take_front, after, after_run, world_after, IsRunFrom, is_of_node}
 use Rattle.lt_lists.specs.Below.{put}
 use Rattle.lt_spec.specs.NodeMove.{NodeState, NodeMade}
-use Rattle.lt_spec.specs.World.{World, start, token_to, take_front, after, after_run, world_after, IsRunFrom, is_of_node}
 use Rattle.lt_modes.proofs.StampOrder.{newer_not_before}
 use Rattle.lt_lists.proofs.Puts.{put-same, put-other}
 use Rattle.lt_lists.proofs.AllLemmas.{all_weaker, all_append}
 use Rattle.lt_lists.proofs.Members.{none_in}
-use Rattle.lt_spec.specs.Plays.{Cause, OfClient, OfLetter, can_make_move, made_of, stamp_of, cause_step, logged_of, used_by, letters_for, BeginsPlay, Plays}
+use Rattle.lt_spec.specs.FixedOrder.{Cause, OfClient, OfLetter, can_make_move, made_of, stamp_of, cause_step, logged_of, used_by, letters_for, BeginsPlay, Plays}
 use Rattle.lt_merge.specs.Merging.{IsBefore, AreRising, IsMerged}
 use Rattle.lt_law_plays.specs.Merged.{Logs, ArePlays, step_made, step_left, token_goes}
 use Rattle.lt_law_plays.specs.MergeLaws.{MergedIsRun, MergedEnds, HandIsFront, SentWereOnWay, OnWayWereSent}
 use Rattle.lt_law_plays.proofs.PlayLemmas.{plays_same, stamped_move, all_letters_for, from_other}
-use Rattle.lt_merge.proofs.Filters.{filter_yes, filter_no, all_filter}
+use Rattle.lt_merge.proofs.MergedLists.{filter_yes, filter_no, all_filter}
 use Rattle.lt_law_plays.proofs.MergedLogs.{head_or}
-use Rattle.lt_law_plays.proofs.Steps.{IsFront, gone, added, IsStep, is_step}
+use Rattle.lt_law_plays.proofs.RunParts.{IsFront, gone, added, IsStep, is_step}
 
 -- the letters that are sent in a play have clocks of its entries
 late_letters : (script : ScriptData) (c x : ℕ) (log : List Logged) (n last : NodeState) (used sent : ℕ → List Letter) → Plays script x n log used sent last

@@ -1,28 +1,24 @@
 -- The token history of the merged run, told by the letters that were sent.
-use Rattle.std.proofs.Common.{◌≡◌, ℕ, zero, suc, ◌+◌, ◌<◌, ◌≤◌, inl, inr, List, [], ◌∷◌, ◌++◌, length, None, Bool, true, false, refl, sym, ap, subst, arith, ◌∙◌, take as take_first}
-use Rattle.std.specs.Prelude.{◌==◌, if◌then◌else◌, filter, filter_map, slice_index, slice_index_or, is_some, Contains}
+use Rattle.std.proofs.Common.{◌≡◌, ℕ, zero, suc, ◌+◌, ◌<◌, ◌≤◌, inl, inr, List, [], ◌∷◌, ◌++◌, length, None, Bool, true, false, refl, sym, ap, subst, arith, ◌∙◌, take as take_first, ◌==◌, if◌then◌else◌, filter, filter_map, slice_index, slice_index_or, is_some, Contains, eq-eqb, ne_eqb, eqb-true, append-nil, append_assoc, length-append}
 use Rattle.std.specs.List.{AllByRecursion, cons_option}
-use Rattle.std.proofs.lemmas.Bool.{cases_eq, cases_lt, cases_Bool, eq-eqb, ne_eqb, eqb-true}
-use Rattle.std.proofs.lemmas.List.{append-nil, append_assoc, get_or_append_left, length-append}
+use Rattle.std.proofs.lemmas.Bool.{cases_eq, cases_lt, cases_Bool}
+use Rattle.std.proofs.lemmas.List.{get_or_append_left}
 use Rattle.std.proofs.lemmas.List.Elements.{recursion_from_All, Contains-get_or}
 use Rattle.std.proofs.lemmas.List.Sums.{sum_by-cons}
 use Rattle.lt_modes.specs.declared.moves.Step.{Step}
 use Rattle.lt_modes.specs.declared.moves.Step.TheVariants.{Act, Take}
 use Rattle.lt_modes.specs.Script.{ScriptData}
-use Rattle.lt_modes.specs.State.{Desk, Letter, Body, AskBody, TellBody, CopyBody, TokenBody, FreezeBody}
-use Rattle.lt_modes.specs.Made.{Post}
-use Rattle.lt_spec.specs.Log.{Logged}
-use Rattle.lt_lists.specs.Below.{sum_below}
-use Rattle.lt_lists.specs.Below.{one_if}
+use Rattle.lt_modes.specs.State.{Desk, Letter, Body, AskBody, TellBody, CopyBody, TokenBody, FreezeBody, Post}
+use Rattle.lt_spec.specs.World.{Logged, World, start, opened, sent, node_move, token_by, token_to, after, after_run, world_after, IsRunFrom, is_of_node}
+use Rattle.lt_lists.specs.Below.{sum_below, one_if}
 use Rattle.lt_spec.specs.Facts.{tokens_in, state_at}
-use Rattle.lt_model.specs.Paths.{Paths, DeskOnPath, BodyOnPath}
+use Rattle.lt_model.specs.Invariant.{Paths, DeskOnPath, BodyOnPath}
 use Rattle.lt_model.specs.PathEffects.{token_weight, posts_weight}
-use Rattle.lt_spec.specs.World.{World, start, opened, sent, node_move, token_by, token_to, after, after_run, world_after, IsRunFrom, is_of_node}
 use Rattle.lt_model.proofs.Letters.{IsCounted, mail_weight, mail_weight-sent, sent_on_way}
 use Rattle.lt_model.proofs.PathsMove.{move_kept}
-use Rattle.lt_model.proofs.PathsInRuns.{paths_in_runs}
+use Rattle.lt_model.proofs.Runs.{paths_in_runs}
 use Rattle.lt_law_plays.specs.MergeLaws.{CarriesToken, TokenStands, TokenCame}
-use Rattle.lt_merge.proofs.Filters.{filter_yes, filter_no}
+use Rattle.lt_merge.proofs.MergedLists.{filter_yes, filter_no}
 use Rattle.lt_law_plays.proofs.MergedRun.{merged_is_run, sent_were_on_way, on_way_were_sent}
 
 -- where the token went before, and then where the move sent it

@@ -1,14 +1,11 @@
 -- The laws of appended commands, as statements.
-use Rattle.std.specs.Prelude.{◌≡◌, ◌==◌, ℕ, List, [], ◌∷◌, ◌++◌, if◌then◌else◌}
+use Rattle.std.specs.Prelude.{◌≡◌, ◌==◌, ℕ, List, [], ◌∷◌, ◌++◌, if◌then◌else◌, ◌<◌}
 use Rattle.lt_modes.specs.declared.command.Command.{Command}
 use Rattle.lt_modes.specs.Script.{ScriptData}
 use Rattle.lt_modes.specs.State.{Letter}
-use Rattle.lt_spec.specs.Log.{Logged}
-use Rattle.lt_spec.specs.Families.{commands_of}
-use Rattle.lt_spec.specs.NodeMove.{NodeState}
-use Rattle.lt_spec.specs.World.{world_after, IsRun}
-use Rattle.lt_spec.specs.Plays.{Plays}
-use Rattle.lt_spec.specs.Commands.{with_commands, AnyClient, IsHomeAt, GoOn, appended}
+use Rattle.lt_spec.specs.World.{Logged, world_after, IsRun}
+use Rattle.lt_spec.specs.NodeMove.{commands_of, NodeState, with_commands, AnyClient, IsHomeAt, GoOn, appended, home, SameAt, AreAt, share_of, joined_of}
+use Rattle.lt_spec.specs.FixedOrder.{Plays}
 
 -- where the commands of the node's own clients go on, its play is a play: of the same letters, to the same state
 abbrev pub PlaysGoOn : Type 0
@@ -37,3 +34,32 @@ PlaysOfAppended = (script : ScriptData) (client : ℕ) (command : Command) (x : 
 abbrev pub RunsOfAppended : Type 0
 RunsOfAppended = (script : ScriptData) (client : ℕ) (command : Command) (run : List Logged) → IsRun script run
     → IsRun (appended script client command) run × (world_after (appended script client command) run ≡ world_after script run)
+
+-- The laws of commands that nodes appended each for its own clients, as statements.
+
+-- a play of a node is a play of each script in which the node sees the same
+abbrev pub PlaysSameAt : Type 0
+PlaysSameAt = (x : ℕ) (a b : ScriptData) → SameAt x a b
+    → (log : List Logged) (n last : NodeState) (used sent : ℕ → List Letter)
+    → Plays a x n log used sent last → Plays b x n log used sent last
+
+-- each node appended commands of its own clients
+abbrev pub AreOwnCommands : ScriptData → (ℕ → List (ℕ × Command)) → Type 0
+AreOwnCommands script shares = (q : ℕ) → q < script.nodes → AreAt script q (shares q)
+
+-- then it sees the same in its own script and in the one with the commands of all nodes
+abbrev pub ShareIsSame : Type 0
+ShareIsSame = (script : ScriptData) (shares : ℕ → List (ℕ × Command)) → AreOwnCommands script shares
+    → (q : ℕ) → q < script.nodes → SameAt q (share_of script shares q) (joined_of script shares)
+
+-- so the plays of all nodes, each of its own script, are plays of that one
+abbrev pub SharedPlays : Type 0
+SharedPlays = (script : ScriptData) (shares : ℕ → List (ℕ × Command)) → AreOwnCommands script shares
+    → (x : ℕ) → x < script.nodes → (log : List Logged) (n last : NodeState) (used sent : ℕ → List Letter)
+    → Plays (share_of script shares x) x n log used sent last → Plays (joined_of script shares) x n log used sent last
+
+-- in which a client has the commands that its own node appended
+abbrev pub SharedCommands : Type 0
+SharedCommands = (script : ScriptData) (shares : ℕ → List (ℕ × Command)) → AreOwnCommands script shares
+    → (client : ℕ) → home script client < script.nodes
+    → commands_of (joined_of script shares) client ≡ commands_of (share_of script shares (home script client)) client

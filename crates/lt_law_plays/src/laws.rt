@@ -1,8 +1,6 @@
-ghost use Rattle.lt_law_plays.specs.PlayLaws.{OneMovePlays, PlaysJoin, PlaysGrow, PlaysRise, PlaysSendStamped, TakesNothingOfItself, TakesNothingFromBeyond};
-ghost use Rattle.lt_law_plays.specs.Parts.{JoinedArePlays};
+ghost use Rattle.lt_law_plays.specs.Merged.{OneMovePlays, PlaysJoin, PlaysGrow, PlaysRise, PlaysSendStamped, TakesNothingOfItself, TakesNothingFromBeyond, JoinedArePlays};
 ghost use Rattle.lt_law_plays.specs.MergeLaws.{MergedIsRun, MergedEnds, MergedExists, MergedHasAll, MergedIsOne, HandIsFront, SentWereOnWay, OnWayWereSent, TokenStands, TokenCame, EnabledIsSeen, ClocksAreCounted, LettersAreCounted, HeadsFit, RunsArePlays};
-ghost use Rattle.lt_law_plays.specs.AppendLaws.{PlaysGoOn, RunsGoOn, AppendedCommands, PlaysOfAppended, RunsOfAppended};
-ghost use Rattle.lt_law_plays.specs.ShareLaws.{PlaysSameAt, ShareIsSame, SharedPlays, SharedCommands};
+ghost use Rattle.lt_law_plays.specs.AppendLaws.{PlaysGoOn, RunsGoOn, AppendedCommands, PlaysOfAppended, RunsOfAppended, PlaysSameAt, ShareIsSame, SharedPlays, SharedCommands};
 
 /// One move is a play; a play and one that begins where it ended are a play; in a play the node's stamps rise.
 pub fn law_plays()

@@ -1,7 +1,6 @@
 -- Some client waits exactly where the lines have an open `wait` line.
-use Rattle.std.proofs.Common.{◌≡◌, ℕ, zero, suc, ◌<◌, List, length, Bool, true, refl, arith, inl, inr}
-use Rattle.std.specs.Prelude.{◌==◌, ◌↔◌}
-use Rattle.std.proofs.lemmas.Bool.{or_cases, eq-eqb, eqb-true}
+use Rattle.std.proofs.Common.{◌≡◌, ℕ, zero, suc, ◌<◌, List, length, Bool, true, refl, arith, inl, inr, ◌==◌, ◌↔◌, eq-eqb, eqb-true}
+use Rattle.std.proofs.lemmas.Bool.{or_cases}
 use Rattle.lt_modes.specs.declared.mode.Mode.{Mode}
 use Rattle.lt_modes.specs.declared.ask.Ask.{Ask}
 use Rattle.lt_modes.specs.declared.event.Event.{Event}
@@ -10,10 +9,10 @@ use Rattle.lt_modes.specs.Serving.{waits}
 use Rattle.lt_lists.specs.Below.{any_below}
 use Rattle.lt_lists.proofs.Members.{list_any-at, list_any-which}
 use Rattle.lt_lists.proofs.Searches.{any_below_at}
-use Rattle.lt_spec.specs.Families.{home}
+use Rattle.lt_spec.specs.NodeMove.{home}
 use Rattle.lt_spec.specs.Facts.{state_at}
 use Rattle.lt_spec.specs.World.{World, is_waiting, anyone_waits}
-use Rattle.lt_spec.specs.Waits.{WaitsFor, HasOpenWait, HasWaiter}
+use Rattle.lt_spec.specs.Holdings.{WaitsFor, HasOpenWait, HasWaiter}
 
 -- a search that finds something finds it at some number
 any_below_which : (n : ℕ) (test : ℕ → Bool) → any_below n test ≡ true → (k : ℕ) × (k < n) × (test k ≡ true)

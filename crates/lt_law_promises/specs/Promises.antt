@@ -1,11 +1,9 @@
 -- Who waits, in the words of the lines of a run, as statements.
 use Rattle.std.specs.Prelude.{◌≡◌, ◌↔◌, true, ℕ, List, take}
 use Rattle.lt_modes.specs.Script.{ScriptData}
-use Rattle.lt_spec.specs.Holdings.{lines_of}
-use Rattle.lt_spec.specs.Log.{Logged}
-use Rattle.lt_spec.specs.World.{world_after, IsRun, anyone_waits}
-use Rattle.lt_spec.specs.WholeScripts.{IsWhole}
-use Rattle.lt_spec.specs.Waits.{HasWaiter}
+use Rattle.lt_spec.specs.Holdings.{lines_of, HasWaiter}
+use Rattle.lt_spec.specs.World.{Logged, world_after, IsRun, anyone_waits}
+use Rattle.lt_spec.specs.NodeMove.{IsWhole}
 use Rattle.lt_spec.specs.Promised.{Promised}
 
 -- some client waits exactly where the lines say so

@@ -1,6 +1,6 @@
 ghost use Rattle.lt_model.specs.Laws.{OneToken, OnePlace, TriesInRuns};
-ghost use Rattle.lt_law_invariant.specs.RunLaws.{KeptInRuns, LettersFitInRuns, LedInRuns, FrozenInRuns};
-ghost use Rattle.lt_spec.specs.Services.{ServedInTurn};
+ghost use Rattle.lt_law_invariant.specs.InvariantLaws.{KeptInRuns, LettersFitInRuns, LedInRuns, FrozenInRuns};
+ghost use Rattle.lt_spec.specs.Promised.{ServedInTurn};
 ghost use Rattle.lt_law_lines.specs.LineLaws.{LinesTellHeld, HoldingsAreLawful, LinesTellWaits, LinesTellOwners, FirstWaiterByLines};
 ghost use Rattle.lt_law_promises.specs.Promises.{SomebodyWaits, RunsKeepPromises};
 

@@ -4,4 +4,3 @@ mod ReplyMoves
 mod ReplyCommands
 mod ReplySteps
 pub mod ReplyRuns
-mod AnswerRows

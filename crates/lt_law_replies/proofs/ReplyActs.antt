@@ -1,28 +1,36 @@
--- The replies in the lines of a client's command.
-use Rattle.std.proofs.Common.{◌≡◌, ◌≢◌, ℕ, inl, inr, List, [], ◌∷◌, ◌++◌, Option, Some, None, Bool, true, false, refl, sym, ap, subst, ◌∙◌}
-use Rattle.std.specs.Prelude.{◌⊎◌, ◌==◌, if◌then◌else◌, Contains}
-use Rattle.std.proofs.lemmas.Bool.{eq-eqb, ne_eqb}
+-- Lines that don't answer a command.
+use Rattle.std.proofs.Common.{inl, inr, ◌≡◌, ◌≢◌, ℕ, List, [], ◌∷◌, ◌++◌, Option, Some, None, Bool, true, false, refl, sym, ap, subst, ◌∙◌, ◌⊎◌, ◌==◌, if◌then◌else◌, Contains, eq-eqb, ne_eqb}
 use Rattle.std.proofs.lemmas.List.Elements.{Contains-push_cases, Contains-push, Contains-append_left}
+use Rattle.lt_modes.specs.declared.mode.Mode.TheVariants.{Read, Write}
+use Rattle.lt_modes.specs.declared.command.Command.TheVariants.{Change, Lock, Try, Unlock}
+use Rattle.lt_modes.specs.declared.event.Event.TheVariants.{Wait, NotHeld, Grant, Try as Tried, Unlock as Unlocked, Change as Changed}
 use Rattle.lt_modes.specs.declared.mode.Mode.{Mode}
 use Rattle.lt_modes.specs.declared.stamp.Stamp.{Stamp}
 use Rattle.lt_modes.specs.declared.ask.Ask.{Ask}
 use Rattle.lt_modes.specs.declared.command.Command.{Command}
-use Rattle.lt_modes.specs.declared.command.Command.TheVariants.{Lock, Try, Unlock, Change}
 use Rattle.lt_modes.specs.declared.event.Event.{Event}
-use Rattle.lt_modes.specs.declared.event.Event.TheVariants.{Grant, Wait, Try as Tried, Unlock as Unlocked, NotHeld, Change as Changed}
-use Rattle.lt_modes.specs.State.{SetState, ParkedAsk}
-use Rattle.lt_modes.specs.Held.{count_of, take_lock}
-use Rattle.lt_modes.specs.Made.{Made, then_do}
-use Rattle.lt_modes.specs.Granting.{can_grant}
+use Rattle.lt_modes.specs.State.{SetState, ParkedAsk, Made, then_do}
+use Rattle.lt_modes.specs.Modes.{count_of, take_lock}
+use Rattle.lt_modes.specs.Freezing.{can_grant}
 use Rattle.lt_modes.specs.Serving.{answer_event}
 use Rattle.lt_modes.specs.SetMove.{answers, given, granted, ask_of, asked, locked, tried, unlocked, change_held, changed}
+use Rattle.lt_spec.specs.Script.{AnswersCommand}
+use Rattle.lt_spec.specs.World.{replies_of}
 use Rattle.lt_law_invariant.proofs.OwnSteps.{route_same}
 use Rattle.lt_law_lines.proofs.LineRules.{route_says}
 use Rattle.lt_law_lines.proofs.WaitActs.{NoneOf}
-use Rattle.lt_spec.specs.OwnLines.{replies_of}
 use Rattle.lt_law_own_lines.proofs.OwnRuns.{replies_append}
-use Rattle.lt_spec.specs.Answers.{AnswersCommand}
 use Rattle.lt_law_replies.proofs.ReplyRules.{Replies, AllReplies, then_replies, no_reply}
+
+pub other_mode : AnswersCommand 3 (Change 1 Read Write) (NotHeld 3 1 Write) → ⊥
+other_mode (inl e) = cc
+other_mode (inr e) = cc
+
+pub not_wait : AnswersCommand 3 (Change 1 Read Write) (Wait 3 1 Write) → ⊥
+not_wait (inl e) = cc
+not_wait (inr e) = cc
+
+-- The replies in the lines of a client's command.
 
 -- the command has its reply, and no ask of the client is left
 pub record Answered (client : ℕ) (command : Command) (m : Made) : Type 0 where

@@ -1,8 +1,5 @@
 -- A client's command keeps the commands of each client in turn.
-use Rattle.std.proofs.Common.{◌≡◌, ◌≢◌, ℕ, ◌+◌, ◌<◌, inl, inr, List, [], ◌∷◌, ◌++◌, length, Some, Bool, true, false, refl, sym, ap, subst, arith, ◌∙◌}
-use Rattle.std.specs.Prelude.{◌==◌, if◌then◌else◌, slice_get}
-use Rattle.std.proofs.lemmas.Bool.{eq-eqb, ne_eqb}
-use Rattle.std.proofs.lemmas.List.{append_assoc}
+use Rattle.std.proofs.Common.{◌≡◌, ◌≢◌, ℕ, ◌+◌, ◌<◌, inl, inr, List, [], ◌∷◌, ◌++◌, length, Some, Bool, true, false, refl, sym, ap, subst, arith, ◌∙◌, ◌==◌, if◌then◌else◌, slice_get, eq-eqb, ne_eqb, append_assoc}
 use Rattle.lt_modes.specs.declared.stamp.Stamp.{Stamp}
 use Rattle.lt_modes.specs.declared.ask.Ask.{Ask}
 use Rattle.lt_modes.specs.declared.command.Command.{Command}
@@ -10,28 +7,23 @@ use Rattle.lt_modes.specs.declared.command.Command.TheVariants.{Lock, Unlock, Tr
 use Rattle.lt_modes.specs.declared.event.Event.{Event}
 use Rattle.lt_modes.specs.declared.event.Event.TheVariants.{DropAll as Dropped, Busy}
 use Rattle.lt_modes.specs.Script.{ScriptData}
-use Rattle.lt_modes.specs.State.{SetState}
-use Rattle.lt_modes.specs.Made.{Made, silent}
-use Rattle.lt_modes.specs.Telling.{finish}
-use Rattle.lt_modes.specs.SetMove.{locked, tried, unlocked, changed, dropped, drop}
+use Rattle.lt_modes.specs.State.{SetState, Made, silent}
+use Rattle.lt_modes.specs.SetMove.{finish, locked, tried, unlocked, changed, dropped, drop}
 use Rattle.lt_lists.proofs.AllLemmas.{all_weaker}
-use Rattle.lt_spec.specs.Families.{related}
-use Rattle.lt_spec.specs.NodeMove.{NodeState, NodeMade, node_waits, act_stamp, at_clock, one_made, touched, each_touched, locks_in_sets, answered_first, drop_all, obey}
-use Rattle.lt_spec.specs.World.{World}
-use Rattle.lt_spec.specs.WholeScripts.{HasTargetsAt}
-use Rattle.lt_model.specs.Standing.{AsksStand}
+use Rattle.lt_spec.specs.NodeMove.{related, NodeState, NodeMade, node_waits, act_stamp, at_clock, one_made, touched, each_touched, locks_in_sets, answered_first, drop_all, obey, HasTargetsAt}
+use Rattle.lt_spec.specs.World.{World, replies_of}
+use Rattle.lt_model.specs.Invariant.{AsksStand}
 use Rattle.lt_model.proofs.Effects.{HoldsOf}
 use Rattle.lt_model.proofs.HomesMove.{related_below}
 use Rattle.lt_model.proofs.NodeEffects.{once_or_aside}
 use Rattle.lt_model.proofs.StandingEffects.{stands_later}
-use Rattle.lt_model.proofs.StandingParts.{Stands}
+use Rattle.lt_model.proofs.SentInMove.{Stands}
 use Rattle.lt_model.proofs.StandingBegins.{elsewhere, unanswered, only_here, stands_before, none_in_hand}
 use Rattle.lt_law_invariant.proofs.ClientEffects.{Clients}
 use Rattle.lt_law_invariant.proofs.ClientCommands.{one_for, idle, no_ask_of, clients_acts, drops_kept, locked_of, tried_of, unlocked_of, changed_of}
 use Rattle.lt_law_invariant.proofs.ClientMoves.{SoundClients, at_first, idle_in}
 use Rattle.lt_law_lines.proofs.WaitMoves.{IsFree}
-use Rattle.lt_spec.specs.OwnLines.{replies_of}
-use Rattle.lt_spec.specs.Answers.{AnswersCommand}
+use Rattle.lt_spec.specs.Script.{AnswersCommand}
 use Rattle.lt_law_replies.proofs.ReplyRules.{AllReplies, stands_so, then_all, no_lines, finish_replies}
 use Rattle.lt_law_replies.proofs.ReplyActs.{ActReplies, act_ends, locked_replies, tried_replies, unlocked_replies, changed_replies}
 use Rattle.lt_law_replies.proofs.ReplyMoves.{InTurn, Follows, put_follows, act_follows, all_answered, one_more, each_follows}

@@ -1,24 +1,22 @@
 -- The replies in the lines of a node's move keep the turn of the client's commands.
-use Rattle.std.proofs.Common.{◌≡◌, ◌≢◌, ℕ, zero, suc, ◌+◌, ◌<◌, inl, inr, List, [], ◌∷◌, ◌++◌, length, Some, refl, sym, ap, subst, arith, ◌∙◌}
-use Rattle.std.specs.Prelude.{◌⊎◌, Contains, slice_get}
+use Rattle.std.proofs.Common.{◌≡◌, ◌≢◌, ℕ, zero, suc, ◌+◌, ◌<◌, inl, inr, List, [], ◌∷◌, ◌++◌, length, Some, refl, sym, ap, subst, arith, ◌∙◌, ◌⊎◌, Contains, slice_get, append-nil, append_assoc}
 use Rattle.std.specs.List.{AllByRecursion}
 use Rattle.std.proofs.lemmas.Bool.{cases_eq}
-use Rattle.std.proofs.lemmas.List.{append-nil, append_assoc, length_push}
+use Rattle.std.proofs.lemmas.List.{length_push}
 use Rattle.std.proofs.lemmas.Option.{same_Some}
 use Rattle.lt_modes.specs.declared.ask.Ask.{Ask}
 use Rattle.lt_modes.specs.declared.command.Command.{Command}
 use Rattle.lt_modes.specs.declared.event.Event.{Event}
-use Rattle.lt_modes.specs.State.{SetState}
-use Rattle.lt_modes.specs.Made.{Made}
+use Rattle.lt_modes.specs.State.{SetState, Made}
 use Rattle.lt_modes.specs.Serving.{answer_event}
 use Rattle.lt_lists.specs.Below.{put}
 use Rattle.lt_lists.proofs.Puts.{put-same, put-other}
 use Rattle.lt_spec.specs.NodeMove.{NodeState, touched, each_touched}
 use Rattle.lt_model.proofs.NodeEffects.{IsOnce}
 use Rattle.lt_law_lines.proofs.WaitMoves.{IsFree}
-use Rattle.lt_spec.specs.OwnLines.{replies_of}
+use Rattle.lt_spec.specs.World.{replies_of}
 use Rattle.lt_law_own_lines.proofs.OwnRuns.{replies_append}
-use Rattle.lt_spec.specs.Answers.{AnswersCommand, AnswersAt, AnswersInTurn}
+use Rattle.lt_spec.specs.Script.{AnswersCommand, AnswersAt, AnswersInTurn}
 use Rattle.lt_law_replies.proofs.ReplyRules.{NoReply, OneReply, Replies, AllReplies}
 use Rattle.lt_law_replies.proofs.ReplyActs.{Answered, Asks, ActReplies}
 

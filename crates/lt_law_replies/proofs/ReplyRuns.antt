@@ -1,8 +1,6 @@
 -- The replies to each client of a run answer its commands in turn.
-use Rattle.std.proofs.Common.{◌≡◌, ◌≢◌, ℕ, zero, suc, ◌+◌, ◌<◌, inl, inr, List, [], ◌++◌, length, Bool, true, false, refl, sym, ap, subst, arith, take, take_all, ◌∙◌}
-use Rattle.std.specs.Prelude.{◌⊎◌, ◌||◌, ◌==◌, Contains, IsTrue, slice_index_or}
-use Rattle.std.proofs.lemmas.Bool.{cases_eq, eq-eqb, eqb-true}
-use Rattle.std.proofs.lemmas.List.{append-nil}
+use Rattle.std.proofs.Common.{◌≡◌, ◌≢◌, ℕ, zero, suc, ◌+◌, ◌<◌, inl, inr, List, [], ◌++◌, length, Bool, true, false, refl, sym, ap, subst, arith, take, take_all, ◌∙◌, ◌⊎◌, ◌||◌, ◌==◌, Contains, IsTrue, slice_index_or, eq-eqb, eqb-true, append-nil}
+use Rattle.std.proofs.lemmas.Bool.{cases_eq}
 use Rattle.std.proofs.lemmas.List.Elements.{Contains-get_or}
 use Rattle.std.proofs.lemmas.List.Folds.{list_any_none}
 use Rattle.lt_modes.specs.declared.ask.Ask.{Ask}
@@ -14,21 +12,17 @@ use Rattle.lt_lists.specs.Below.{any_below, one_if}
 use Rattle.lt_lists.proofs.Members.{list_any-at}
 use Rattle.lt_lists.proofs.Puts.{put-same, put-other}
 use Rattle.lt_lists.proofs.Searches.{any_below_at}
-use Rattle.lt_spec.specs.Families.{home, commands_of}
+use Rattle.lt_spec.specs.NodeMove.{home, commands_of, NodeState, NodeMade, node_waits, IsWhole}
 use Rattle.lt_spec.specs.Holdings.{lines_of}
-use Rattle.lt_spec.specs.Log.{Logged}
-use Rattle.lt_spec.specs.NodeMove.{NodeState, NodeMade, node_waits}
-use Rattle.lt_spec.specs.World.{World, start, is_enabled, node_move, after, world_after, IsRun}
+use Rattle.lt_spec.specs.World.{Logged, World, start, is_enabled, node_move, after, world_after, IsRun, replies_of}
 use Rattle.lt_model.specs.Homes.{Homes}
-use Rattle.lt_spec.specs.WholeScripts.{IsWhole}
 use Rattle.lt_model.specs.Invariant.{WorldInvariant}
-use Rattle.lt_model.proofs.NodeMoves.{after_node}
-use Rattle.lt_law_lines.proofs.AlongRuns.{along_runs}
+use Rattle.lt_model.proofs.NodeEffects.{after_node}
+use Rattle.lt_law_lines.proofs.OwnerRuns.{along_runs}
 use Rattle.lt_law_lines.proofs.WaitMoves.{IsFree}
-use Rattle.lt_spec.specs.OwnLines.{replies_of}
-use Rattle.lt_law_own_lines.proofs.OwnMoves.{own_lines_of_moves}
+use Rattle.lt_law_own_lines.proofs.OwnEffects.{own_lines_of_moves}
 use Rattle.lt_law_own_lines.proofs.OwnRuns.{replies_append, no_replies, replies_of_log}
-use Rattle.lt_spec.specs.Answers.{AnswersAt, AnswersInTurn}
+use Rattle.lt_spec.specs.Script.{AnswersAt, AnswersInTurn}
 use Rattle.lt_law_replies.specs.ReplyLaws.{RepliesInTurn, LogInTurn, OneReplyEach, UnansweredWait, AsksAnswerNext}
 use Rattle.lt_law_replies.proofs.ReplyMoves.{IsDone, IsOpen, InTurn}
 use Rattle.lt_law_replies.proofs.ReplySteps.{move_stays}

@@ -1,7 +1,6 @@
 -- Each enabled move of a world that is kept answers the commands of the mover's clients in turn.
-use Rattle.std.proofs.Common.{◌≡◌, ◌≢◌, ℕ, zero, suc, ◌+◌, ◌<◌, inl, inr, List, [], ◌∷◌, ◌++◌, length, Option, Some, None, Bool, true, false, refl, sym, ap, subst, arith, ◌∙◌}
-use Rattle.std.specs.Prelude.{◌==◌, not, nat_lt, if◌then◌else◌, Contains, AllPairs, IsTrue, slice_get, drop as drop_front}
-use Rattle.std.proofs.lemmas.Bool.{and_parts, cases_eq, ltb-true, lt-ltb}
+use Rattle.std.proofs.Common.{◌≡◌, ◌≢◌, ℕ, zero, suc, ◌+◌, ◌<◌, inl, inr, List, [], ◌∷◌, ◌++◌, length, Option, Some, None, Bool, true, false, refl, sym, ap, subst, arith, ◌∙◌, ◌==◌, not, nat_lt, if◌then◌else◌, Contains, AllPairs, IsTrue, slice_get, drop as drop_front, ltb-true, lt-ltb}
+use Rattle.std.proofs.lemmas.Bool.{and_parts, cases_eq}
 use Rattle.std.proofs.lemmas.List.Elements.{All-contains}
 use Rattle.lt_modes.specs.declared.stamp.Stamp.{Stamp}
 use Rattle.lt_modes.specs.declared.ask.Ask.{Ask}
@@ -11,32 +10,20 @@ use Rattle.lt_modes.specs.declared.event.Event.{Event}
 use Rattle.lt_modes.specs.declared.moves.Step.{Step}
 use Rattle.lt_modes.specs.declared.moves.Step.TheVariants.{Act, Take}
 use Rattle.lt_modes.specs.Script.{ScriptData}
-use Rattle.lt_modes.specs.State.{SetState, Body, AskBody, TellBody, CopyBody, TokenBody, FreezeBody, Letter, ParkedAsk, ParkedTell}
-use Rattle.lt_modes.specs.Made.{Made, silent}
-use Rattle.lt_modes.specs.Queue.{without}
-use Rattle.lt_modes.specs.Routing.{learn}
-use Rattle.lt_modes.specs.Taking.{arrive, take_body}
-use Rattle.lt_modes.specs.Telling.{finish}
-use Rattle.lt_modes.specs.SetMove.{drop, take as take_letter}
+use Rattle.lt_modes.specs.State.{SetState, Body, AskBody, TellBody, CopyBody, TokenBody, FreezeBody, Letter, ParkedAsk, ParkedTell, Made, silent, without}
+use Rattle.lt_modes.specs.SetMove.{learn, arrive, take_body, finish, drop, take as take_letter}
 use Rattle.lt_lists.proofs.Puts.{put-same, put-other}
-use Rattle.lt_spec.specs.Families.{home, related, commands_of}
-use Rattle.lt_spec.specs.NodeMove.{NodeState, NodeMade, node_waits, has_command, next_command, act_stamp, take_stamp, at_clock, one_made, node_act, node_take, touched, each_touched, drop_all, obey}
-use Rattle.lt_spec.specs.World.{World, is_enabled, is_waiting, is_some_letter, put_mail, take_front, node_move}
-use Rattle.lt_spec.specs.WholeScripts.{IsWhole}
-use Rattle.lt_model.specs.Invariant.{WorldInvariant}
-use Rattle.lt_model.specs.Standing.{AsksStand}
-use Rattle.lt_model.proofs.Gathered.{copies_are_on_way}
+use Rattle.lt_spec.specs.NodeMove.{home, related, commands_of, NodeState, NodeMade, node_waits, has_command, next_command, act_stamp, take_stamp, at_clock, one_made, node_act, node_take, touched, each_touched, drop_all, obey, IsWhole}
+use Rattle.lt_spec.specs.World.{World, is_enabled, is_waiting, is_some_letter, put_mail, take_front, node_move, replies_of}
+use Rattle.lt_model.specs.Invariant.{WorldInvariant, AsksStand}
+use Rattle.lt_model.proofs.StandingBegins.{copies_are_on_way, stands_arrived, elsewhere, unanswered, only_here}
 use Rattle.lt_model.proofs.HomesMove.{IsMaker, maker, next_targets}
-use Rattle.lt_model.proofs.KeptSets.{kept_stands}
-use Rattle.lt_model.proofs.PathsMove.{has_mail_parts}
-use Rattle.lt_model.proofs.StandingBegins.{stands_arrived, elsewhere, unanswered, only_here}
-use Rattle.lt_model.proofs.TokenComes.{desk_somewhere}
+use Rattle.lt_model.proofs.PathsMove.{kept_stands, has_mail_parts, desk_somewhere}
 use Rattle.lt_law_invariant.proofs.OwnSteps.{route_same}
 use Rattle.lt_law_invariant.proofs.ClientEffects.{Clients}
 use Rattle.lt_law_invariant.proofs.ClientMoves.{at_first}
 use Rattle.lt_law_invariant.proofs.ClientsKept.{sound_clients, clients_arrived}
 use Rattle.lt_law_lines.proofs.LineRules.{route_says}
-use Rattle.lt_spec.specs.OwnLines.{replies_of}
 use Rattle.lt_law_replies.proofs.ReplyRules.{AllReplies, then_all, no_lines, answer_replies, finish_replies}
 use Rattle.lt_law_replies.proofs.ReplyCommands.{ActTurns, act_turns}
 use Rattle.lt_law_replies.proofs.ReplyMoves.{InTurn, put_follows}

@@ -1,5 +1,4 @@
-ghost use Rattle.lt_law_replies.specs.ReplyLaws.{RepliesInTurn, LogInTurn, OneReplyEach, UnansweredWait, AsksAnswerNext};
-ghost use Rattle.lt_law_replies.specs.ReplyRows.{AnswersToOne, NothingHeld, DropsReplied, TriesReplied, ChangeReplied, LastUnanswered};
+ghost use Rattle.lt_law_replies.specs.ReplyLaws.{RepliesInTurn, LogInTurn, OneReplyEach, UnansweredWait, AsksAnswerNext, AnswersToOne, NothingHeld, DropsReplied, TriesReplied, ChangeReplied, LastUnanswered};
 
 /// Each reply to a client answers the command at the same place among its commands, and each command that the client
 /// has made has its reply, but for the last one of a client that waits.

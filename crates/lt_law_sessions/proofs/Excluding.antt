@@ -1,41 +1,87 @@
--- What sessions hold for sure is held, and doesn't conflict.
-use Rattle.std.proofs.Common.{◌≡◌, ◌≢◌, ◌==◌, ◌<◌, ◌≤◌, ℕ, suc, List, [], ◌∷◌, length, Bool, true, false, Option, Some, None, refl, sym, ap, subst, ◌∙◌, arith, slice_get, slice_index_or, if◌then◌else◌, inl, inr}
-use Rattle.std.specs.Prelude.{◌||◌, not, fold}
-use Rattle.std.specs.Option.{option_and_then}
+-- What has_after says of a lock that was granted last, and of one more command.
+use Rattle.std.proofs.Common.{◌≡◌, ◌≤◌, ℕ, List, [], ◌∷◌, ◌++◌, length, Bool, true, false, refl, ap, arith, ◌==◌, ◌<◌, zero, suc, Some, None, sym, subst, ◌∙◌, slice_get, if◌then◌else◌, ◌≢◌, Option, slice_index_or, inl, inr, ◌&&◌, ◌||◌, not, filter_map, fold, eqb-true, eq-eqb, option_and_then}
+use Rattle.std.specs.List.{cons_option}
+use Rattle.std.proofs.lemmas.Bool.{cases_lt, cases_eq, false≢true}
+use Rattle.std.proofs.lemmas.List.Elements.{All-contains}
+use Rattle.std.proofs.lemmas.Option.{slice_get_within, get_or_from_slice_get, slice_get-get_or, same_Some}
 use Rattle.std.proofs.Math.Seq.{take-length}
-use Rattle.std.proofs.lemmas.Bool.{cases_lt, cases_eq, eq-eqb, eqb-true, false≢true}
 use Rattle.std.proofs.lemmas.List.Sums.{sum_by-cons}
-use Rattle.std.proofs.lemmas.Option.{slice_get_within, slice_get-get_or, same_Some}
 use mathlib.Core.List.{IsPrefix}
-use Rattle.lt_modes.specs.declared.mode.Mode.{Mode}
 use Rattle.lt_modes.specs.declared.command.Command.{Command}
 use Rattle.lt_modes.specs.declared.command.Command.TheVariants.{Lock, Try, Unlock, Change, DropAll}
+use Rattle.lt_modes.specs.declared.mode.Mode.{Mode}
+use Rattle.lt_modes.specs.Script.{ScriptData}
 use Rattle.lt_modes.specs.declared.event.Event.{Event}
 use Rattle.lt_modes.specs.Modes.{conflicts}
-use Rattle.lt_modes.specs.Script.{ScriptData}
 use Rattle.lt_modes.proofs.ModeAlgebra.{conflicts-sym}
-use Rattle.lt_script.proofs.RoundTripSets.{get_in_front}
-use Rattle.lt_spec.specs.Families.{commands_of}
 use Rattle.lt_spec.specs.Holdings.{Holding, holding, same_holding, holdings, lines_of, times_held, agree, IsLawful}
-use Rattle.lt_spec.specs.Log.{Logged}
-use Rattle.lt_spec.specs.OwnLines.{replies_of}
-use Rattle.lt_spec.specs.Answers.{AnswersInTurn}
-use Rattle.lt_law_replies.proofs.ReplyRuns.{replies_in_turn}
-use Rattle.lt_law_lines.proofs.LineCounts.{lines_count, count_after, same_holding-true}
+use Rattle.lt_spec.specs.Script.{IsScript, IsRequest, AnswersInTurn}
+use Rattle.lt_spec.specs.NodeMove.{command_if, commands_of, with_commands}
+use Rattle.lt_spec.specs.World.{Logged, replies_of}
+use Rattle.lt_script.proofs.RoundTrips.{get_in_front}
+use Rattle.lt_law_invariant.proofs.FewAsks.{whole}
+use Rattle.lt_law_lines.proofs.LineCounts.{same_holding-itself, lines_count, count_after, same_holding-true}
 use Rattle.lt_law_lines.proofs.KeptLines.{holdings_are_lawful}
-use Rattle.lt_law_invariant.proofs.Within.{whole}
-use Rattle.lt_spec.specs.Commands.{with_commands}
+use Rattle.lt_law_replies.proofs.ReplyRuns.{replies_in_turn}
+use Rattle.lt_live.specs.declared.reply.Reply.{Reply}
+use Rattle.lt_live.specs.declared.reply.Reply.TheVariants.{Granted}
 use Rattle.lt_live.specs.declared.ends.Session.{Session}
-use Rattle.lt_live.specs.Replies.{reply_to, replies_in}
+use Rattle.lt_live.specs.Seats.{reply_to, replies_in}
 use Rattle.lt_live.specs.Words.{submitted, polled}
-use Rattle.lt_live.specs.Finished.{IsServedRun}
-use Rattle.lt_live.proofs.ReplyLemmas.{replies_of_lines}
-use Rattle.lt_law_sessions.specs.StillHeld.{StillHolds, may_take, gives}
-use Rattle.lt_law_sessions.specs.SessionLaws.{StillIsHeld, SessionsExclude}
-use Rattle.lt_law_sessions.proofs.LineEffects.{takes, not_taken, line_given}
+use Rattle.lt_live.specs.Live.{IsServedRun}
+use Rattle.lt_live.proofs.Finished.{replies_of_lines}
+use Rattle.lt_law_sessions.specs.SessionLaws.{may_take, gives, has_after, GrantedIsHad, HadUnlessTaken, StillHolds, StillIsHeld, SessionsExclude}
+use Rattle.lt_law_sessions.proofs.LineEffects.{takes, not_taken, line_given, held_after}
 use Rattle.lt_law_sessions.proofs.GivenLocks.{GivenAt, given_at}
-use Rattle.lt_law_sessions.proofs.StaysHeld.{held_after}
-use Rattle.lt_law_sessions.proofs.Requests.{client_below}
+
+had_at_last : (script : ScriptData) (client set : ℕ) (mode : Mode) (commands : List Command) (replies : List Reply) (has : Bool) → length replies ≡ length commands
+    → has_after script client (holding client set mode) (commands ++ Lock set mode ∷ []) (replies ++ Granted ∷ []) has ≡ true
+had_at_last script client set mode [] [] has same =
+    ap (λ (b : Bool). b || (has && not false)) (same_holding-itself (holding client set mode))
+had_at_last script client set mode [] (r ∷ rs) has same = absurd (omega (arith, same))
+had_at_last script client set mode (c ∷ cs) [] has same = absurd (omega (arith, same))
+had_at_last script client set mode (c ∷ cs) (r ∷ rs) has same =
+    had_at_last script client set mode cs rs
+    (gives client (holding client set mode) c r || (has && not (may_take script client (holding client set mode) c))) (omega (arith, same))
+
+one_more : (script : ScriptData) (client : ℕ) (lock : Holding) (commands : List Command) (replies : List Reply) (command : Command) (has : Bool)
+    → length replies ≤ length commands
+    → has_after script client lock (commands ++ command ∷ []) replies has ≡ (has_after script client lock commands replies has && not (may_take script client lock command))
+one_more script client lock [] [] command has few = refl
+one_more script client lock [] (r ∷ rs) command has few = absurd (omega (arith, few))
+one_more script client lock (c ∷ cs) [] command has few =
+    one_more script client lock cs [] command (has && not (may_take script client lock c)) (omega arith)
+one_more script client lock (c ∷ cs) (r ∷ rs) command has few =
+    one_more script client lock cs rs command (gives client lock c r || (has && not (may_take script client lock c))) (omega (arith, few))
+
+pub granted_is_had : GrantedIsHad
+granted_is_had script client set mode commands replies same = had_at_last script client set mode commands replies false same
+
+pub had_unless_taken : HadUnlessTaken
+had_unless_taken script client lock commands replies command few = one_more script client lock commands replies command false few
+
+-- A client that has a command is one of the script.
+
+below_by : (requests : List (ℕ × Command)) (client n q : ℕ) (command : Command) → slice_get (filter_map (command_if client) requests) q ≡ Some command
+    → ((k : ℕ) (r : ℕ × Command) → slice_get requests k ≡ Some r → r.0 < n) → client < n
+below_by [] client n zero command e all = absurd (cc)
+below_by [] client n (suc q) command e all = absurd (cc)
+below_by (r ∷ rest) client n q command e all =
+    by_test (r.0 == client) refl (λ p f. below_by rest client n p command f (λ k x g. all (suc k) x g))
+  where
+    by_test : (b : Bool) → (r.0 == client) ≡ b → ((p : ℕ) → slice_get (filter_map (command_if client) rest) p ≡ Some command → client < n) → client < n
+    by_test true is again = subst (λ (c : ℕ). c < n) (eqb-true r.0 client is) (all 0 r refl)
+    by_test false is again =
+        again q (sym (ap (λ (b : Bool). slice_get (cons_option (if b then Some r.1 else None) (filter_map (command_if client) rest)) q) is) ∙ e)
+
+pub client_below : (script : ScriptData) → IsScript script → (client q : ℕ) (command : Command) → slice_get (commands_of script client) q ≡ Some command
+    → client < length script.clients
+client_below script is client q command e =
+    below_by script.commands client (length script.clients) q command e
+    (λ k r at. (All-contains (IsRequest script.sets script.clients) script.commands r is.requests
+    (k, slice_get_within script.commands k r at, get_or_from_slice_get script.commands k r r at)).0)
+
+-- What sessions hold for sure is held, and doesn't conflict.
 
 in_prefix : {X : Type 0} (xs ys : List X) → IsPrefix xs ys → (k : ℕ) (x : X) → slice_get xs k ≡ Some x → slice_get ys k ≡ Some x
 in_prefix xs ys h k x at =

@@ -1,12 +1,11 @@
 -- A lock that a client holds still was given by a reply, and none of its later commands may take it.
-use Rattle.std.proofs.Common.{◌≡◌, ◌⊎◌, ◌<◌, ℕ, zero, suc, List, [], ◌∷◌, Bool, true, false, Some, refl, sym, ap, ◌∙◌, arith, slice_get, inl, inr}
-use Rattle.std.specs.Prelude.{◌&&◌, ◌||◌, not}
+use Rattle.std.proofs.Common.{◌≡◌, ◌⊎◌, ◌<◌, ℕ, zero, suc, List, [], ◌∷◌, Bool, true, false, Some, refl, sym, ap, ◌∙◌, arith, slice_get, inl, inr, ◌&&◌, ◌||◌, not}
 use Rattle.std.proofs.lemmas.Bool.{false≢true}
 use Rattle.lt_modes.specs.declared.command.Command.{Command}
 use Rattle.lt_modes.specs.Script.{ScriptData}
 use Rattle.lt_spec.specs.Holdings.{Holding}
 use Rattle.lt_live.specs.declared.reply.Reply.{Reply}
-use Rattle.lt_law_sessions.specs.StillHeld.{may_take, gives, has_after}
+use Rattle.lt_law_sessions.specs.SessionLaws.{may_take, gives, has_after}
 
 -- the reply at this place gave the lock, and no later command may take it
 pub record GivenAt (script : ScriptData) (client : ℕ) (lock : Holding) (commands : List Command) (replies : List Reply) : Type 0 where

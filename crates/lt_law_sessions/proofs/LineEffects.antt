@@ -1,19 +1,20 @@
 -- Which lines give a lock, and which take it away.
-use Rattle.std.proofs.Common.{◌≡◌, ◌≤◌, ◌+◌, ◌-◌, ℕ, Bool, true, false, Option, Some, None, refl, sym, ap, ◌∙◌, arith, if◌then◌else◌, inl, inr}
-use Rattle.std.specs.Prelude.{◌&&◌}
-use Rattle.std.proofs.lemmas.Bool.{eq-eqb, false≢true}
+use Rattle.std.proofs.Common.{◌≡◌, ◌≤◌, ◌+◌, ◌-◌, ℕ, Bool, true, false, Option, Some, None, refl, sym, ap, ◌∙◌, arith, if◌then◌else◌, inl, inr, ◌≢◌, ◌<◌, zero, suc, List, [], ◌∷◌, subst, slice_get, ◌&&◌, fold, eq-eqb}
+use Rattle.std.proofs.lemmas.Bool.{false≢true, cases_eq}
+use Rattle.std.proofs.lemmas.Option.{same_Some}
 use Rattle.lt_modes.specs.declared.command.Command.{Command}
 use Rattle.lt_modes.specs.declared.command.Command.TheVariants as c
 use Rattle.lt_modes.specs.declared.event.Event.{Event}
 use Rattle.lt_modes.specs.declared.event.Event.TheVariants.{Grant, Wait, Try, Unlock, NotHeld, Change, DropAll, Busy, Copy, Freeze, Token}
 use Rattle.lt_modes.specs.Script.{ScriptData}
 use Rattle.lt_spec.specs.Holdings.{Holding, holding, same_holding, is_dropped}
+use Rattle.lt_spec.specs.Script.{AnswersCommand}
+use Rattle.lt_spec.specs.World.{is_reply_to, replies_of}
 use Rattle.lt_law_lines.proofs.LineCounts.{count_after}
-use Rattle.lt_spec.specs.Answers.{AnswersCommand}
 use Rattle.lt_live.specs.declared.reply.Reply.{Reply}
 use Rattle.lt_live.specs.declared.reply.Reply.TheVariants as r
-use Rattle.lt_live.specs.Replies.{told_if, reply_to}
-use Rattle.lt_law_sessions.specs.StillHeld.{may_take, gives}
+use Rattle.lt_live.specs.Seats.{told_if, reply_to}
+use Rattle.lt_law_sessions.specs.SessionLaws.{may_take, gives}
 
 -- the line takes the lock away, or may
 abbrev pub takes : ScriptData → Holding → Event → Bool
@@ -133,3 +134,102 @@ line_given client lock (c.Change set gives_up mode) line reply (inr is) said hol
     let word : r.NotHeld ≡ reply = some_is r.NotHeld reply (sym (ap (reply_to client) is ∙ own_word client r.NotHeld) ∙ said) in
     absurd (false≢true (ap (gives client lock (c.Change set gives_up mode)) word ∙ holds))
 line_given client lock (c.DropAll other set) line reply is said holds = absurd (false≢true holds)
+
+-- A lock that a reply gave stays held while no line takes it.
+
+-- no reply to the client takes the lock
+abbrev pub NoReplyTakes : ScriptData → Holding → ℕ → List Event → Type 0
+NoReplyTakes script lock client lines = (q : ℕ) (line : Event) → slice_get (replies_of client lines) q ≡ Some line → takes script lock line ≡ false
+
+-- none after this place does
+abbrev pub NoneTakesAfter : ScriptData → Holding → ℕ → List Event → ℕ → Type 0
+NoneTakesAfter script lock client lines place =
+    (q : ℕ) (line : Event) → place < q → slice_get (replies_of client lines) q ≡ Some line → takes script lock line ≡ false
+
+-- the first line's client, where it is a reply
+first_reply : (client : ℕ) (line : Event) (rest : List Event) → is_reply_to client line ≡ true → slice_get (replies_of client (line ∷ rest)) 0 ≡ Some line
+first_reply client line rest e = ap (λ (b : Bool). slice_get (if b then line ∷ replies_of client rest else replies_of client rest) 0) e
+
+-- a later reply stands at a place among all
+later_reply : (client : ℕ) (line : Event) (rest : List Event) (q : ℕ) (found : Event) → slice_get (replies_of client rest) q ≡ Some found
+    → (p : ℕ) × (q ≤ p) × (slice_get (replies_of client (line ∷ rest)) p ≡ Some found)
+later_reply client line rest q found e = by_test (is_reply_to client line) refl
+  where
+    by_test : (b : Bool) → is_reply_to client line ≡ b → (p : ℕ) × (q ≤ p) × (slice_get (replies_of client (line ∷ rest)) p ≡ Some found)
+    by_test true is = (suc q, omega arith, ap (λ (b : Bool). slice_get (if b then line ∷ replies_of client rest else replies_of client rest) (suc q)) is ∙ e)
+    by_test false is = (q, omega arith, ap (λ (b : Bool). slice_get (if b then line ∷ replies_of client rest else replies_of client rest) q) is ∙ e)
+
+-- a line takes no lock where no reply to anyone does: what takes one is a reply
+first_takes_not : (script : ScriptData) (lock : Holding) (line : Event) (rest : List Event) → ((client : ℕ) → NoReplyTakes script lock client (line ∷ rest))
+    → takes script lock line ≡ false
+first_takes_not script lock (Unlock client set mode) rest none = none client 0 (Unlock client set mode) (first_reply client (Unlock client set mode) rest (eq-eqb client client refl))
+first_takes_not script lock (Change client set gives_up mode) rest none =
+    none client 0 (Change client set gives_up mode) (first_reply client (Change client set gives_up mode) rest (eq-eqb client client refl))
+first_takes_not script lock (DropAll client other set count) rest none =
+    none client 0 (DropAll client other set count) (first_reply client (DropAll client other set count) rest (eq-eqb client client refl))
+first_takes_not script lock (Grant client set mode) rest none = refl
+first_takes_not script lock (Wait client set mode) rest none = refl
+first_takes_not script lock (Try client set mode got) rest none = refl
+first_takes_not script lock (NotHeld client set mode) rest none = refl
+first_takes_not script lock (Busy client other set) rest none = refl
+first_takes_not script lock (Copy set to client mode) rest none = refl
+first_takes_not script lock (Freeze set to number modes) rest none = refl
+first_takes_not script lock (Token set to epoch) rest none = refl
+
+rest_takes_not : (script : ScriptData) (lock : Holding) (line : Event) (rest : List Event) (client : ℕ) → NoReplyTakes script lock client (line ∷ rest)
+    → NoReplyTakes script lock client rest
+rest_takes_not script lock line rest client none q found e =
+    let at = later_reply client line rest q found e in none at.0 found at.2
+
+-- what is held stays held while no reply takes it
+pub stays_held : (script : ScriptData) (lock : Holding) (n : ℕ) (lines : List Event) → 1 ≤ n → ((client : ℕ) → NoReplyTakes script lock client lines)
+    → 1 ≤ fold (count_after script lock) n lines
+stays_held script lock n [] some none = some
+stays_held script lock n (line ∷ rest) some none =
+    stays_held script lock (count_after script lock n line) rest
+    (stays script lock n line some (first_takes_not script lock line rest none))
+    (λ client. rest_takes_not script lock line rest client (none client))
+
+-- what a reply gave is held after all lines, where no later reply to the client takes it, and no reply to another
+pub held_after : (script : ScriptData) (lock : Holding) (client : ℕ) (lines : List Event) (place n : ℕ) (line : Event)
+    → slice_get (replies_of client lines) place ≡ Some line → line_gives lock line ≡ true
+    → NoneTakesAfter script lock client lines place
+    → ((other : ℕ) → other ≢ client → NoReplyTakes script lock other lines)
+    → 1 ≤ fold (count_after script lock) n lines
+held_after script lock client [] zero n line at gives own others = absurd (cc)
+held_after script lock client [] (suc place) n line at gives own others = absurd (cc)
+held_after script lock client (first ∷ rest) place n line at gives own others =
+    by_test (is_reply_to client first) refl
+    (λ p at_p own_p. held_after script lock client rest p (count_after script lock n first) line at_p gives own_p later)
+  where
+    m : ℕ
+    m = count_after script lock n first
+
+    later : (other : ℕ) → other ≢ client → NoReplyTakes script lock other rest
+    later other apart = rest_takes_not script lock first rest other (others other apart)
+
+    among : (b : Bool) → is_reply_to client first ≡ b → (q : ℕ) → slice_get (replies_of client (first ∷ rest)) q ≡ slice_get (if b then first ∷ replies_of client rest else replies_of client rest) q
+    among b is q = ap (λ (c : Bool). slice_get (if c then first ∷ replies_of client rest else replies_of client rest) q) is
+
+    by_place : (p : ℕ) → place ≡ p → is_reply_to client first ≡ true
+        → ((p : ℕ) → slice_get (replies_of client rest) p ≡ Some line → NoneTakesAfter script lock client rest p → 1 ≤ fold (count_after script lock) m rest)
+        → 1 ≤ fold (count_after script lock) m rest
+    by_place zero is own_line again =
+        let here : Some first ≡ Some line = sym (among true own_line 0) ∙ (ap (λ q. slice_get (replies_of client (first ∷ rest)) q) (sym is) ∙ at) in
+        let same : first ≡ line = same_Some first line here in
+        stays_held script lock m rest (given script lock n first (ap (line_gives lock) same ∙ gives))
+        (λ other. elim (cases_eq other client) [
+          | inl one ↦ subst (λ (j : ℕ). NoReplyTakes script lock j rest) (sym one)
+              (λ q found e. own (suc q) found (omega (arith, is)) (among true own_line (suc q) ∙ e))
+          | inr apart ↦ later other apart
+        ])
+    by_place (suc p) is own_line again =
+        again p (sym (among true own_line (suc p)) ∙ (ap (λ q. slice_get (replies_of client (first ∷ rest)) q) (sym is) ∙ at))
+        (λ q found past e. own (suc q) found (omega (arith, is, past)) (among true own_line (suc q) ∙ e))
+
+    by_test : (b : Bool) → is_reply_to client first ≡ b
+        → ((p : ℕ) → slice_get (replies_of client rest) p ≡ Some line → NoneTakesAfter script lock client rest p → 1 ≤ fold (count_after script lock) m rest)
+        → 1 ≤ fold (count_after script lock) m rest
+    by_test true own_line again = by_place place refl own_line again
+    by_test false not_own again =
+        again place (sym (among false not_own place) ∙ at) (λ q found past e. own q found past (among false not_own q ∙ e))

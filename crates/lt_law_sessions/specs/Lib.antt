@@ -1,2 +1,1 @@
-pub mod StillHeld
 pub mod SessionLaws

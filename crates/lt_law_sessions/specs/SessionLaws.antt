@@ -1,17 +1,49 @@
--- That what clients hold still is held, and doesn't conflict, as laws.
-use Rattle.std.specs.Prelude.{◌≡◌, ◌≢◌, ◌≤◌, ◌&&◌, not, true, false, ℕ, List, [], ◌∷◌, ◌++◌, Some, length, slice_get}
+-- What a client holds still, by what was submitted and polled at the sessions alone.
+use Rattle.std.specs.Prelude.{◌≡◌, ◌≢◌, ◌&&◌, ◌||◌, not, Bool, true, false, ℕ, List, [], ◌∷◌, Some, slice_get, ◌≤◌, ◌++◌, length}
 use Rattle.lt_modes.specs.declared.command.Command.{Command}
-use Rattle.lt_modes.specs.declared.command.Command.TheVariants.{Lock}
+use Rattle.lt_modes.specs.declared.command.Command.TheVariants.{Lock, Try, Unlock, Change, DropAll}
+use Rattle.lt_modes.specs.Script.{ScriptData}
 use Rattle.lt_modes.specs.declared.mode.Mode.{Mode}
 use Rattle.lt_modes.specs.Modes.{conflicts}
-use Rattle.lt_modes.specs.Script.{ScriptData}
-use Rattle.lt_spec.specs.Holdings.{Holding, holding, holdings, lines_of, times_held}
-use Rattle.lt_spec.specs.Log.{Logged}
-use Rattle.lt_live.specs.declared.ends.Session.{Session}
+use Rattle.lt_spec.specs.Holdings.{Holding, holding, same_holding, is_dropped, holdings, lines_of, times_held}
+use Rattle.lt_spec.specs.World.{Logged}
 use Rattle.lt_live.specs.declared.reply.Reply.{Reply}
-use Rattle.lt_live.specs.declared.reply.Reply.TheVariants.{Granted}
-use Rattle.lt_live.specs.Finished.{IsServedRun}
-use Rattle.lt_law_sessions.specs.StillHeld.{StillHolds, has_after, may_take}
+use Rattle.lt_live.specs.declared.reply.Reply.TheVariants.{True, Changed, Granted}
+use Rattle.lt_live.specs.declared.ends.Session.{Session}
+use Rattle.lt_live.specs.Words.{submitted, polled}
+use Rattle.lt_live.specs.Live.{IsServedRun}
+
+-- once it is made, this command of the client may take the lock away
+abbrev pub may_take : ScriptData → ℕ → Holding → Command → Bool
+may_take script client lock (Lock set mode) = false
+may_take script client lock (Try set mode) = false
+may_take script client lock (Unlock set mode) = same_holding lock (holding client set mode)
+may_take script client lock (Change set gives_up mode) = same_holding lock (holding client set gives_up)
+may_take script client lock (DropAll other set) = is_dropped script other set lock
+
+-- this reply to this command of the client says that it has the lock now
+abbrev pub gives : ℕ → Holding → Command → Reply → Bool
+gives client lock (Lock set mode) reply = same_holding lock (holding client set mode)
+gives client lock (Try set mode) True = same_holding lock (holding client set mode)
+gives client lock (Change set gives_up mode) Changed = same_holding lock (holding client set mode)
+gives client lock command reply = false
+
+-- whether the client has the lock after these commands and the replies to the first of them, where it had it before, or not: a
+-- command that has no reply yet counts if it may take the lock, and not if it may give it
+abbrev pub has_after : ScriptData → ℕ → Holding → List Command → List Reply → Bool → Bool
+has_after script client lock [] replies has = has
+has_after script client lock (c ∷ cs) [] has = has_after script client lock cs [] (has && not (may_take script client lock c))
+has_after script client lock (c ∷ cs) (r ∷ rs) has =
+    has_after script client lock cs rs (gives client lock c r || (has && not (may_take script client lock c)))
+
+-- by what was submitted and polled at its session the client has the lock; and no command that was submitted at another session
+-- drops it, whether it was made or not
+pub record StillHolds (script : ScriptData) (sessions : List Session) (client : ℕ) (s : Session) (lock : Holding) : Type 0 where
+  pub has : has_after script client lock (submitted s) (polled s) false ≡ true
+  pub others : (other : ℕ) (t : Session) (k : ℕ) (c : Command) → other ≢ client → slice_get sessions other ≡ Some t
+      → slice_get (submitted t) k ≡ Some c → may_take script other lock c ≡ false
+
+-- That what clients hold still is held, and doesn't conflict, as laws.
 
 -- what a client holds still, by what was submitted and polled at the sessions, it holds after the run that serves them
 abbrev pub StillIsHeld : Type 0

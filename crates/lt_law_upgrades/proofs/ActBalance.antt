@@ -1,7 +1,6 @@
 -- What a client that waits for nothing holds, asks for and gives up in one set, through its command.
-use Rattle.std.proofs.Common.{◌≡◌, ◌≢◌, ℕ, zero, suc, ◌+◌, ◌-◌, ◌≤◌, inl, inr, List, [], ◌∷◌, ◌++◌, Option, Some, None, Bool, true, false, refl, sym, ap, subst, arith, ◌∙◌}
-use Rattle.std.specs.Prelude.{◌⊎◌, ◌==◌, ◌&&◌, if◌then◌else◌, Contains, count_by, slice_index_or}
-use Rattle.std.proofs.lemmas.Bool.{eqb-true, and_parts}
+use Rattle.std.proofs.Common.{◌≡◌, ◌≢◌, ℕ, zero, suc, ◌+◌, ◌-◌, ◌≤◌, inl, inr, List, [], ◌∷◌, ◌++◌, Option, Some, None, Bool, true, false, refl, sym, ap, subst, arith, ◌∙◌, ◌⊎◌, ◌==◌, ◌&&◌, if◌then◌else◌, Contains, count_by, slice_index_or, eqb-true}
+use Rattle.std.proofs.lemmas.Bool.{and_parts}
 use Rattle.std.proofs.lemmas.List.Elements.{Contains-push_cases}
 use Rattle.std.proofs.lemmas.List.Quantifiers.{position-Some}
 use Rattle.lt_modes.specs.declared.mode.Mode.{Mode}
@@ -11,14 +10,13 @@ use Rattle.lt_modes.specs.declared.parts.Row.{Row}
 use Rattle.lt_modes.specs.declared.command.Command.{Command}
 use Rattle.lt_modes.specs.declared.command.Command.TheVariants.{Lock, Try, Unlock, Change, DropAll}
 use Rattle.lt_modes.specs.declared.event.Event.TheVariants.{Try as TryLine, Unlock as UnlockLine, NotHeld, Change as ChangeLine}
-use Rattle.lt_modes.specs.Modes.{same_mode}
+use Rattle.lt_modes.specs.Modes.{same_mode, is_row_of, no_row, row_place, count_at, count_of, add_lock, take_lock}
 use Rattle.lt_modes.specs.Script.{ScriptData}
 use Rattle.lt_modes.specs.State.{SetState, ParkedAsk}
-use Rattle.lt_modes.specs.Held.{is_row_of, no_row, row_place, count_at, count_of, add_lock, take_lock}
-use Rattle.lt_modes.specs.Granting.{can_grant}
+use Rattle.lt_modes.specs.Freezing.{can_grant}
 use Rattle.lt_modes.specs.SetMove.{answers, given, granted, ask_of, asked, locked, tried, unlocked, change_held, changed, dropped}
 use Rattle.lt_spec.specs.Holdings.{holding}
-use Rattle.lt_modes.proofs.EachMode.{same_mode-true}
+use Rattle.lt_modes.proofs.ModeAlgebra.{same_mode-true}
 use Rattle.lt_lists.proofs.Sums.{counted_in, none_found, sum_by-zero}
 use Rattle.lt_law_accounts.proofs.RowTotals.{row_count, total, is_key, total_added, total_taken}
 use Rattle.lt_law_invariant.proofs.OwnSteps.{route_same}
@@ -26,7 +24,7 @@ use Rattle.lt_law_invariant.proofs.ClientCounts.{SomeEach, each_some, asks_pushe
 use Rattle.lt_law_invariant.proofs.ClientCommands.{IsIdle, no_ask_of, count_within}
 use Rattle.lt_law_lines.proofs.LineCounts.{count_after}
 use Rattle.lt_law_lines.proofs.LineRules.{key_is}
-use Rattle.lt_spec.specs.Ordered.{best_answer}
+use Rattle.lt_spec.specs.Script.{best_answer}
 use Rattle.lt_law_ordered.proofs.Loans.{is_for, asks_for}
 use Rattle.lt_law_ordered.proofs.ActLoans.{ActLoans, idle_asks, not_his, locked_loans, tried_loans}
 use Rattle.lt_law_ordered.proofs.ChangeLoans.{unlocked_loans, dropped_loans, aside_loans}

@@ -1,27 +1,24 @@
 -- The desk stays where a mode that excludes itself is held, and who changes one stands first in its queue.
-use Rattle.std.proofs.Common.{◌≡◌, ◌≢◌, ℕ, zero, suc, ◌+◌, ◌<◌, inl, inr, List, [], ◌∷◌, length, Option, Some, None, Bool, true, false, refl, sym, ap, subst, arith, take, ◌∙◌}
-use Rattle.std.specs.Prelude.{◌==◌, ◌&&◌, ◌||◌, not, if◌then◌else◌, fold, Contains, IsTrue, IsFalse, is_some, remove, slice_index_or}
-use Rattle.std.proofs.lemmas.Bool.{cases_eq, eq-eqb, ne_eqb, false≢true}
-use Rattle.std.proofs.lemmas.List.{get_or-set_same, get_or-set_other}
+use Rattle.std.proofs.Common.{◌≡◌, ◌≢◌, ℕ, zero, suc, ◌+◌, ◌<◌, inl, inr, List, [], ◌∷◌, length, Option, Some, None, Bool, true, false, refl, sym, ap, subst, arith, take, ◌∙◌, ◌==◌, ◌&&◌, ◌||◌, not, if◌then◌else◌, fold, Contains, IsTrue, IsFalse, is_some, remove, slice_index_or, eq-eqb, ne_eqb, get_or-set_same, get_or-set_other}
+use Rattle.std.proofs.lemmas.Bool.{cases_eq, false≢true, and_parts, or_cases}
 use Rattle.lt_modes.specs.declared.mode.Mode.{Mode}
 use Rattle.lt_modes.specs.declared.stamp.Stamp.{Stamp}
 use Rattle.lt_modes.specs.declared.ask.Ask.{Ask}
 use Rattle.lt_modes.specs.declared.parts.Row.{Row}
-use Rattle.lt_modes.specs.Modes.{Modes, conflicts, excludes_itself, has, one, bars, covers, union, with_mode, no_modes, same_mode}
-use Rattle.lt_modes.specs.Held.{held_modes}
-use Rattle.lt_modes.specs.Queue.{no_ask, modes_of_asks}
-use Rattle.lt_modes.specs.State.{SetState, Desk, TokenBody, Entry, first_entry}
-use Rattle.lt_modes.specs.Records.{entry_of, record_of, own_owed, modes_at, others_below, others}
-use Rattle.lt_modes.specs.Made.{Post}
-use Rattle.lt_modes.specs.Serving.{queue_of, queue_of_desk, ask_at, is_free, is_local, is_clear_at_home, is_served, next_from, next_at, next_service, next_draw}
-use Rattle.lt_modes.specs.HandingOver.{leaving, settled}
-use Rattle.lt_modes.proofs.ModeAlgebra.{bars_by_table, covers_by_table, conflicts-sym, has-modes_by}
-use Rattle.lt_modes.proofs.EachMode.{same_mode-true}
-use Rattle.lt_law_accounts.specs.RuleLaws.{MayDraw, IsFirstDrawing}
+use Rattle.lt_modes.specs.Modes.{Modes, conflicts, excludes_itself, has, one, bars, covers, union, with_mode, no_modes, same_mode, held_modes, is_within, own_modes, other_modes, add_lock}
+use Rattle.lt_modes.specs.State.{no_ask, modes_of_asks, SetState, Desk, TokenBody, Entry, first_entry, entry_of, record_of, own_owed, modes_at, others_below, others, Post}
+use Rattle.lt_modes.specs.Serving.{queue_of, queue_of_desk, ask_at, is_free, is_local, is_clear_at_home, is_served, next_from, next_at, next_service, next_draw, leaving, settled, give_up}
+use Rattle.lt_modes.proofs.ModeAlgebra.{bars_by_table, covers_by_table, conflicts-sym, has-modes_by, same_mode-true}
+use Rattle.lt_modes.specs.declared.mode.Mode.TheVariants.{Read, Upgrade, IntentionWrite}
+use Rattle.lt_modes.specs.ModeLaws.{BarsBy}
+use Rattle.lt_modes.specs.Freezing.{may_join, can_grant}
+use Rattle.lt_modes.specs.SetMove.{given}
+use Rattle.lt_law_accounts.specs.Account.{MayDraw, IsFirstDrawing}
 use Rattle.lt_law_accounts.proofs.Drawing.{drawn_by_first}
-use Rattle.lt_law_accounts.proofs.ModeMembers.{has-union, has-left, has-right, mode_which}
-use Rattle.lt_law_ordered.proofs.Weaker.{cover_more}
-use Rattle.lt_law_upgrades.proofs.TakingModes.{taking_covers}
+use Rattle.lt_law_accounts.proofs.AccountFacts.{has-union, has-left, has-right, mode_which, has-with_mode}
+use Rattle.lt_law_accounts.proofs.Rows.{AreFewer, held_fewer, held_one_more, rows_granted, own_is_held}
+use Rattle.lt_law_ordered.proofs.ChangeLoans.{cover_more}
+use Rattle.lt_law_upgrades.proofs.TakingModes.{taking_covers, taking_barred, only_read, only_write}
 
 -- the desk has an entry for each node
 abbrev pub HasEntries : ℕ → Option Desk → Type 0
@@ -209,3 +206,76 @@ left_records stamp t desk mode v inside d held c = (
     conflict = c.conflict;
   },
 )
+
+-- The desk stays with a mode that excludes itself as modes are granted and released.
+
+-- what is so as a command begins: between moves the charge bars what the held modes bar, and nobody holds both `read` and
+-- `intention_write`
+pub record Begins (nodes : ℕ) (t : SetState) : Type 0 where
+  pub keeps : KeepsDesk nodes t
+  pub charge : t.desk ≡ None → bars (held_modes t.held) ≡ bars t.charge
+  pub apart : IsTrue (has Read (held_modes t.held)) → IsTrue (has IntentionWrite (held_modes t.held)) → ⊥
+
+pub not_here : {A : Type 0} (o : Option Desk) → o ≡ None → is_some o ≡ true → A
+not_here None e f = cc
+not_here (Some desk) e f = cc
+
+-- away from the desk no mode that excludes itself is granted
+away_granted : (nodes me client : ℕ) (mode : Mode) (t : SetState) → Begins nodes t → t.desk ≡ None → can_grant me t client mode ≡ true → IsTrue (excludes_itself mode) → ⊥
+away_granted nodes me client mode t h away can taking = h.apart
+    (subst (λ (m : Mode). IsTrue (has m held)) (only_read reads.0 (gentle reads.0 reads.2) reads.1) reads.2)
+    (subst (λ (m : Mode). IsTrue (has m held)) (only_write writes.0 (gentle writes.0 writes.2) writes.1) writes.2)
+  where
+    held : Modes
+    held = held_modes t.held
+
+    gentle : (m : Mode) → IsTrue (has m held) → excludes_itself m ≡ false
+    gentle m there = by_test (excludes_itself m) refl
+      where
+        by_test : (b : Bool) → excludes_itself m ≡ b → b ≡ false
+        by_test false e = refl
+        by_test true e = not_here t.desk away (h.keeps.desk m there e)
+
+    barred : (other : Mode) → conflicts other mode ≡ true → BarsBy conflicts held other
+    barred other conflict = elim (or_cases (covers (own_modes t.held client) mode) _ can) [
+      | inl own ↦
+          let bar = covers_by_table (own_modes t.held client) mode own other conflict in
+          (bar.0, bar.1, own_is_held t.held client bar.0 bar.2)
+      | inr joins ↦
+          let joined = (and_parts (not (has mode (bars (other_modes t.held client)))) (may_join me t client mode t.desk) joins).1 in
+          let charged = (and_parts (covers t.charge mode) (not (has mode t.frozen)) (subst (λ (o : Option Desk). may_join me t client mode o ≡ true) away joined)).0 in
+          covers_by_table held mode (subst (λ (b : Modes). is_within (bars (one mode)) b ≡ true) (sym (h.charge away)) charged) other conflict
+    ]
+
+    reads : BarsBy conflicts held IntentionWrite
+    reads = barred IntentionWrite (taking_barred mode taking).0
+
+    writes : BarsBy conflicts held Upgrade
+    writes = barred Upgrade (taking_barred mode taking).1
+
+-- a mode is granted
+pub granted_keeps : (nodes me client : ℕ) (mode : Mode) (gives_up : Option Mode) (t : SetState) → Begins nodes t → can_grant me t client mode ≡ true
+    → KeepsDesk nodes (given client mode gives_up t)
+granted_keeps nodes me client mode gives_up t h can = record {
+  entries = h.keeps.entries;
+  desk = λ m there taking.
+      elim (has-with_mode m mode (held_modes t.held) (held_one_more client mode t.held (add_lock (give_up t.held client gives_up) client mode) (rows_granted t.held client mode gives_up) m there)) [
+        | inl old ↦ h.keeps.desk m old taking
+        | inr same ↦ by_desk t.desk refl (subst (λ (x : Mode). IsTrue (excludes_itself x)) (sym same) taking)
+      ];
+  fresh = h.keeps.fresh;
+  next = λ ask g there e. let n = h.keeps.next ask g there e in record { taking = n.taking; higher = n.higher; holder = n.holder; rest = n.rest; queue = n.queue };
+}
+  where
+    by_desk : (o : Option Desk) → t.desk ≡ o → IsTrue (excludes_itself mode) → is_some o ≡ true
+    by_desk None away taking = absurd (away_granted nodes me client mode t h away can taking)
+    by_desk (Some desk) here taking = refl
+
+-- no row is new
+pub fewer_keeps : (nodes : ℕ) (t : SetState) (rows : List Row) → AreFewer t.held rows → KeepsDesk nodes t → KeepsDesk nodes (record t { held = rows })
+fewer_keeps nodes t rows fewer h = record {
+  entries = h.entries;
+  desk = λ m there taking. h.desk m (held_fewer t.held rows fewer m there) taking;
+  fresh = h.fresh;
+  next = λ ask g there e. let n = h.next ask g there e in record { taking = n.taking; higher = n.higher; holder = n.holder; rest = n.rest; queue = n.queue };
+}

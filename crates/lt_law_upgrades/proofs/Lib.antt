@@ -2,16 +2,11 @@ mod TakingModes
 mod DeskStays
 mod Balance
 mod DeskEffects
-mod DeskGrants
-mod DeskRoutes
 mod DeskAsks
-mod DeskArrives
-mod CommandDesks
 mod ActBalance
 mod MayUpgrade
 mod UpgradeActs
-mod UpgradeTakes
-mod UpgradeWithin
 mod UpgradeReady
+mod UpgradeWithin
 mod UpgradeRuns
 mod UpgradeRest

@@ -1,7 +1,6 @@
 -- What a client of an upgrading script may hold, command by command.
-use Rattle.std.proofs.Common.{◌≡◌, ◌≢◌, ℕ, zero, suc, ◌+◌, ◌≤◌, List, [], ◌∷◌, ◌++◌, length, Option, Some, None, Bool, true, false, refl, sym, ap, subst, arith, take, ◌∙◌}
-use Rattle.std.specs.Prelude.{◌==◌, ◌||◌, not, nat_lt, if◌then◌else◌, IsTrue, fold, filter, position, slice_get, count_by}
-use Rattle.std.proofs.lemmas.Bool.{and_parts, and_from, eq-eqb, eqb-true, ltb-true, false≢true}
+use Rattle.std.proofs.Common.{◌≡◌, ◌≢◌, ℕ, zero, suc, ◌+◌, ◌≤◌, List, [], ◌∷◌, ◌++◌, length, Option, Some, None, Bool, true, false, refl, sym, ap, subst, arith, take, ◌∙◌, ◌==◌, ◌||◌, not, nat_lt, if◌then◌else◌, IsTrue, fold, filter, position, slice_get, count_by, eq-eqb, eqb-true, ltb-true}
+use Rattle.std.proofs.lemmas.Bool.{and_parts, and_from, false≢true}
 use Rattle.std.proofs.lemmas.List.Quantifiers.{position-Some}
 use Rattle.std.proofs.lemmas.List.Sums.{sum_by-cons, sum_by_push, sum_by-remove}
 use Rattle.lt_modes.specs.declared.mode.Mode.{Mode}
@@ -10,13 +9,12 @@ use Rattle.lt_modes.specs.declared.command.Command.TheVariants.{Lock, Try, Unloc
 use Rattle.lt_modes.specs.Script.{ScriptData}
 use Rattle.lt_lists.proofs.Members.{list_any-at}
 use Rattle.lt_lists.proofs.Sums.{counted_in}
-use Rattle.lt_spec.specs.Families.{commands_of}
+use Rattle.lt_spec.specs.NodeMove.{commands_of}
 use Rattle.lt_spec.specs.Holdings.{Holding, holding, same_holding, without_holding, without_one, is_dropped, times_held}
 use Rattle.lt_law_lines.proofs.LineCounts.{same_holding-true}
-use Rattle.lt_spec.specs.Ordered.{may_hold_after, may_hold, keeps_order, is_orderly_from}
-use Rattle.lt_law_ordered.specs.Ranked.{are_ranked_below}
-use Rattle.lt_law_upgrades.specs.Upgrading.{has_of_set, upgrades_in_order, is_upgrading_from}
-use Rattle.lt_law_upgrades.specs.UpgradeLaws.{OrderedIsUpgrading}
+use Rattle.lt_spec.specs.Script.{may_hold_after, may_hold, keeps_order, is_orderly_from}
+use Rattle.lt_law_ordered.specs.OrderedLaws.{are_ranked_below}
+use Rattle.lt_law_upgrades.specs.UpgradeLaws.{has_of_set, upgrades_in_order, is_upgrading_from, OrderedIsUpgrading}
 
 -- each command of a client upgrades in order
 upgrades_from : (script : ScriptData) (rank : ℕ → ℕ) (client : ℕ) (locks : List Holding) (commands : List Command) (k : ℕ) (command : Command)

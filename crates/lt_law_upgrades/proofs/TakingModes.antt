@@ -1,11 +1,10 @@
 -- What the conflict table says of modes that exclude themselves.
-use Rattle.std.proofs.Common.{◌≡◌, Bool, true, false, refl}
-use Rattle.std.specs.Prelude.{◌&&◌, ◌||◌, not}
+use Rattle.std.proofs.Common.{◌≡◌, Bool, true, false, refl, ◌&&◌, ◌||◌, not}
 use Rattle.std.proofs.lemmas.Bool.{and_parts}
 use Rattle.lt_modes.specs.declared.mode.Mode.{Mode}
 use Rattle.lt_modes.specs.declared.mode.Mode.TheVariants.{Read, Upgrade, IntentionWrite}
 use Rattle.lt_modes.specs.Modes.{conflicts, excludes_itself, same_mode, one, covers}
-use Rattle.lt_modes.proofs.EachMode.{each_mode, same_mode-true}
+use Rattle.lt_modes.proofs.ModeAlgebra.{each_mode, same_mode-true}
 
 implies_at : (a b : Bool) → (not a || b) ≡ true → a ≡ true → b ≡ true
 implies_at true b h e = h

@@ -1,6 +1,5 @@
 -- The command of a client, over all sets of its node.
-use Rattle.std.proofs.Common.{◌≡◌, ◌≢◌, ℕ, ◌+◌, ◌<◌, ◌≤◌, inl, inr, List, [], length, Some, Bool, true, false, refl, sym, ap, subst, arith, ◌∙◌}
-use Rattle.std.specs.Prelude.{◌⊎◌, IsTrue, IsFalse, Contains, is_some}
+use Rattle.std.proofs.Common.{◌≡◌, ◌≢◌, ℕ, ◌+◌, ◌<◌, ◌≤◌, inl, inr, List, [], length, Some, Bool, true, false, refl, sym, ap, subst, arith, ◌∙◌, ◌⊎◌, IsTrue, IsFalse, Contains, is_some}
 use Rattle.std.specs.List.{AllByRecursion}
 use Rattle.std.proofs.lemmas.Bool.{cases_eq, false≢true}
 use Rattle.std.proofs.lemmas.List.Elements.{Contains-append_left}
@@ -9,29 +8,22 @@ use Rattle.lt_modes.specs.declared.stamp.Stamp.{Stamp}
 use Rattle.lt_modes.specs.declared.ask.Ask.{Ask}
 use Rattle.lt_modes.specs.declared.command.Command.{Command}
 use Rattle.lt_modes.specs.declared.command.Command.TheVariants.{Lock, Unlock, Try, Change, DropAll}
-use Rattle.lt_modes.specs.Modes.{excludes_itself, one, covers}
+use Rattle.lt_modes.specs.Modes.{excludes_itself, one, covers, without_client}
 use Rattle.lt_modes.specs.Script.{ScriptData}
-use Rattle.lt_modes.specs.State.{SetState}
-use Rattle.lt_modes.specs.Held.{without_client}
-use Rattle.lt_modes.specs.Made.{Made, Post, then_do}
-use Rattle.lt_modes.specs.Granting.{is_holder}
+use Rattle.lt_modes.specs.State.{SetState, Made, Post, then_do}
+use Rattle.lt_modes.specs.Freezing.{is_holder}
 use Rattle.lt_modes.specs.Serving.{queue_of}
-use Rattle.lt_modes.specs.SetMove.{locked, tried, unlocked, changed, dropped, drop}
-use Rattle.lt_modes.specs.Telling.{finish}
+use Rattle.lt_modes.specs.SetMove.{locked, tried, unlocked, changed, dropped, drop, finish}
 use Rattle.lt_lists.specs.Below.{put}
 use Rattle.lt_lists.proofs.Puts.{put-same, put-other}
-use Rattle.lt_spec.specs.Families.{related, is_related}
+use Rattle.lt_spec.specs.NodeMove.{related, is_related, NodeState, node_waits, act_stamp, at_clock, one_made, drop_all, obey, HasTargetsAt}
 use Rattle.lt_spec.specs.Holdings.{holding}
-use Rattle.lt_spec.specs.NodeMove.{NodeState, node_waits, act_stamp, at_clock, one_made, drop_all, obey}
 use Rattle.lt_spec.specs.World.{World}
-use Rattle.lt_spec.specs.WholeScripts.{HasTargetsAt}
-use Rattle.lt_model.specs.Standing.{AsksStand}
+use Rattle.lt_model.specs.Invariant.{AsksStand}
 use Rattle.lt_model.proofs.Effects.{Fact, HoldsOf, ends_by_effects, finish_by_effects, both}
-use Rattle.lt_model.proofs.NodeEffects.{IsOfSet, IsOnce, once_or_aside, each_by_effects, both_of_set}
-use Rattle.lt_model.proofs.NodeMoves.{each-beside}
-use Rattle.lt_model.proofs.SentInMove.{finish-sent, drop-sent}
+use Rattle.lt_model.proofs.NodeEffects.{IsOfSet, IsOnce, once_or_aside, each_by_effects, both_of_set, each-beside}
+use Rattle.lt_model.proofs.SentInMove.{finish-sent, drop-sent, Stands, stands}
 use Rattle.lt_model.proofs.StandingEffects.{stands_later}
-use Rattle.lt_model.proofs.StandingParts.{Stands, stands}
 use Rattle.lt_model.proofs.StandingBegins.{elsewhere, unanswered, only_here, stands_before, none_in_hand, stands_of_set}
 use Rattle.lt_law_accounts.proofs.Rows.{rows_dropped}
 use Rattle.lt_law_accounts.proofs.RowTotals.{total}
@@ -40,15 +32,14 @@ use Rattle.lt_law_invariant.proofs.ClientCommands.{one_for, IsIdle, idle, client
 use Rattle.lt_law_invariant.proofs.ClientMoves.{SoundClients, at_first, idle_in}
 use Rattle.lt_law_lines.proofs.LineCounts.{count_after}
 use Rattle.lt_law_lines.proofs.HeldMoves.{some_set, related_aside}
-use Rattle.lt_spec.specs.Ordered.{best_answer}
+use Rattle.lt_spec.specs.Script.{best_answer}
 use Rattle.lt_law_ordered.proofs.ActLoans.{grant_more}
 use Rattle.lt_law_ordered.proofs.ChangeLoans.{change_aside, unlock_aside, drop_aside, drop_other}
 use Rattle.lt_law_upgrades.proofs.Balance.{Balance, even, with_balance}
 use Rattle.lt_law_upgrades.proofs.ActBalance.{ActBalance, balance_then, locked_balance, tried_balance, unlocked_balance, changed_balance, dropped_balance, aside_balance}
-use Rattle.lt_law_upgrades.proofs.DeskStays.{KeepsDesk, HasLeft}
+use Rattle.lt_law_upgrades.proofs.DeskStays.{KeepsDesk, HasLeft, Begins, fewer_keeps}
 use Rattle.lt_law_upgrades.proofs.DeskEffects.{keeps_desk, keeps_or_left, desk_ends}
-use Rattle.lt_law_upgrades.proofs.DeskGrants.{Begins, fewer_keeps}
-use Rattle.lt_law_upgrades.proofs.CommandDesks.{locked_desk, tried_desk, unlocked_desk, changed_desk}
+use Rattle.lt_law_upgrades.proofs.DeskAsks.{locked_desk, tried_desk, unlocked_desk, changed_desk}
 
 -- what is so of each set of a node as one of its clients makes the command
 pub record Ready (script : ScriptData) (n : NodeState) (client : ℕ) (command : Command) : Type 0 where

@@ -1,7 +1,5 @@
 -- At rest nobody waits in an upgrading script.
-use Rattle.std.proofs.Common.{◌≡◌, ℕ, zero, suc, ◌+◌, ◌<◌, ◌≤◌, inl, inr, List, [], ◌∷◌, length, Option, Some, None, Bool, true, false, refl, sym, ap, subst, arith, take, ◌∙◌}
-use Rattle.std.specs.Prelude.{◌==◌, Contains, IsTrue}
-use Rattle.std.proofs.lemmas.Bool.{eqb-true}
+use Rattle.std.proofs.Common.{◌≡◌, ℕ, zero, suc, ◌+◌, ◌<◌, ◌≤◌, inl, inr, List, [], ◌∷◌, length, Option, Some, None, Bool, true, false, refl, sym, ap, subst, arith, take, ◌∙◌, ◌==◌, Contains, IsTrue, eqb-true}
 use Rattle.std.proofs.lemmas.List.Elements.{All-contains}
 use Rattle.lt_modes.specs.declared.mode.Mode.{Mode}
 use Rattle.lt_modes.specs.declared.ask.Ask.{Ask}
@@ -12,31 +10,28 @@ use Rattle.lt_lists.specs.Below.{sum_below}
 use Rattle.lt_lists.proofs.Members.{list_any-which, nothing_in}
 use Rattle.lt_lists.proofs.Searches.{any_below_none}
 use Rattle.lt_lists.proofs.Sums.{sum_below-at, counted_some}
-use Rattle.lt_spec.specs.Families.{home}
+use Rattle.lt_spec.specs.NodeMove.{home, IsWhole}
 use Rattle.lt_spec.specs.Facts.{state_at, IsFirstWaiter, LeadsBy, IsLedToQueue}
 use Rattle.lt_spec.specs.Holdings.{Holding, holding, same_holding, holdings, lines_of, times_held}
 use Rattle.lt_spec.specs.World.{World, world_after, made_by, is_waiting, is_at_rest, anyone_waits}
 use Rattle.lt_model.specs.Homes.{Homes, IsRowAtHome}
-use Rattle.lt_spec.specs.WholeScripts.{IsWhole}
-use Rattle.lt_model.specs.Invariant.{WorldInvariant}
-use Rattle.lt_model.specs.Paths.{Paths}
+use Rattle.lt_model.specs.Invariant.{WorldInvariant, Paths}
 use Rattle.lt_model.proofs.HomesMove.{homes_in_runs}
 use Rattle.lt_law_accounts.proofs.Rows.{held-at}
 use Rattle.lt_law_accounts.proofs.RowTotals.{total}
 use Rattle.lt_law_invariant.proofs.OneDesk.{one_desk}
-use Rattle.lt_law_invariant.specs.RestLaws.{IsBarred}
+use Rattle.lt_law_invariant.specs.InvariantLaws.{IsBarred}
 use Rattle.lt_law_invariant.proofs.FirstWaiter.{first_waiter_conflicts}
-use Rattle.lt_law_invariant.proofs.LedAtRest.{asks_are_led}
+use Rattle.lt_law_invariant.proofs.MidMove.{asks_are_led}
 use Rattle.lt_law_invariant.proofs.ClientMoves.{idle_in}
-use Rattle.lt_law_invariant.proofs.KeptRuns.{kept_in_runs}
+use Rattle.lt_law_invariant.proofs.SoundStates.{kept_in_runs}
 use Rattle.lt_law_lines.proofs.KeptLines.{lines_kept_in_runs}
-use Rattle.lt_law_lines.proofs.HeldRuns.{held_in_runs}
+use Rattle.lt_law_lines.proofs.OwnerRuns.{held_in_runs}
 use Rattle.lt_law_lines.proofs.LineCounts.{same_holding-itself}
-use Rattle.lt_law_waiting.proofs.Finds.{any_below_which}
+use Rattle.lt_law_waiting.proofs.KeptAsks.{any_below_which}
 use Rattle.lt_law_waiting.proofs.WaitsAtRest.{row_counts}
 use Rattle.lt_law_ordered.proofs.OrderedRest.{made_all}
-use Rattle.lt_law_upgrades.specs.Upgrading.{IsUpgrading}
-use Rattle.lt_law_upgrades.specs.UpgradeLaws.{UpgradingFinish, UpgradingRelease, HolderHasDesk, ChangeIsNext}
+use Rattle.lt_law_upgrades.specs.UpgradeLaws.{IsUpgrading, UpgradingFinish, UpgradingRelease, HolderHasDesk, ChangeIsNext}
 use Rattle.lt_law_upgrades.proofs.ActBalance.{idle_gives}
 use Rattle.lt_law_upgrades.proofs.MayUpgrade.{upgrading_none}
 use Rattle.lt_law_upgrades.proofs.UpgradeWithin.{waits_above}

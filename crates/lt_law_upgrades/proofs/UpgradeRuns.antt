@@ -1,7 +1,6 @@
 -- Each move of a run of an upgrading script keeps the desk where a lock that excludes itself is, and what clients may hold.
-use Rattle.std.proofs.Common.{◌≡◌, ℕ, zero, suc, ◌+◌, ◌<◌, inl, inr, List, [], ◌∷◌, length, Option, Some, None, Bool, true, false, refl, sym, ap, subst, arith, take, ◌∙◌}
-use Rattle.std.specs.Prelude.{◌⊎◌, ◌==◌, not, nat_lt, if◌then◌else◌, filter_map, IsTrue, Contains, slice_get}
-use Rattle.std.proofs.lemmas.Bool.{cases_eq, and_parts, eq-eqb, ltb-true, lt-ltb}
+use Rattle.std.proofs.Common.{◌≡◌, ℕ, zero, suc, ◌+◌, ◌<◌, inl, inr, List, [], ◌∷◌, length, Option, Some, None, Bool, true, false, refl, sym, ap, subst, arith, take, ◌∙◌, ◌⊎◌, ◌==◌, not, nat_lt, if◌then◌else◌, filter_map, IsTrue, Contains, slice_get, eq-eqb, ltb-true, lt-ltb}
+use Rattle.std.proofs.lemmas.Bool.{cases_eq, and_parts}
 use Rattle.std.proofs.lemmas.List.{length-replicate}
 use Rattle.std.proofs.lemmas.List.Elements.{Contains-append_right}
 use Rattle.lt_modes.specs.declared.mode.Mode.{Mode}
@@ -9,42 +8,33 @@ use Rattle.lt_modes.specs.declared.command.Command.{Command}
 use Rattle.lt_modes.specs.declared.command.Command.TheVariants.{Lock, Try, Unlock, Change, DropAll}
 use Rattle.lt_modes.specs.declared.moves.Step.{Step}
 use Rattle.lt_modes.specs.declared.moves.Step.TheVariants.{Act, Take}
-use Rattle.lt_modes.specs.Modes.{has}
-use Rattle.lt_modes.specs.Held.{held_modes}
-use Rattle.lt_modes.specs.Made.{Made}
+use Rattle.lt_modes.specs.Modes.{has, held_modes}
+use Rattle.lt_modes.specs.State.{Made, SetState, Letter, first_entry, first_desk}
 use Rattle.lt_modes.specs.Script.{ScriptData}
-use Rattle.lt_modes.specs.State.{SetState, Letter, first_entry, first_desk}
-use Rattle.lt_modes.specs.SetMove.{drop}
-use Rattle.lt_modes.specs.Telling.{finish}
-use Rattle.lt_modes.proofs.EachMode.{none_in_none}
+use Rattle.lt_modes.specs.SetMove.{drop, finish}
+use Rattle.lt_modes.proofs.ModeAlgebra.{none_in_none}
 use Rattle.lt_lists.proofs.Members.{filter_map-at}
 use Rattle.lt_lists.proofs.Puts.{put-same, put-other}
-use Rattle.lt_spec.specs.Facts.{state_at}
-use Rattle.lt_spec.specs.Families.{home, commands_of, related}
-use Rattle.lt_spec.specs.Log.{Logged}
-use Rattle.lt_spec.specs.NodeMove.{NodeState, NodeMade, node_waits, has_command, next_command, act_stamp, at_clock, one_made, node_act, node_take, touched, each_touched, drop_all, obey}
-use Rattle.lt_spec.specs.World.{World, start, is_enabled, is_waiting, is_some_letter, opened, letter_for, take_front, node_move, after, world_after, IsRun}
+use Rattle.lt_spec.specs.Facts.{state_at, OnWay, DeskIs}
+use Rattle.lt_spec.specs.NodeMove.{home, commands_of, related, NodeState, NodeMade, node_waits, has_command, next_command, act_stamp, at_clock, one_made, node_act, node_take, touched, each_touched, drop_all, obey, IsWhole}
+use Rattle.lt_spec.specs.World.{Logged, World, start, is_enabled, is_waiting, is_some_letter, opened, letter_for, take_front, node_move, after, world_after, IsRun}
 use Rattle.lt_model.specs.Homes.{Homes}
-use Rattle.lt_spec.specs.WholeScripts.{IsWhole}
 use Rattle.lt_model.specs.Invariant.{WorldInvariant}
-use Rattle.lt_spec.specs.Desks.{OnWay, DeskIs}
 use Rattle.lt_model.proofs.HomesMove.{IsMaker, maker, next_targets}
-use Rattle.lt_model.proofs.KeptSets.{kept_stands}
-use Rattle.lt_model.proofs.NodeMoves.{after_node}
-use Rattle.lt_model.proofs.PathsMove.{has_mail_parts}
+use Rattle.lt_model.proofs.PathsMove.{kept_stands, has_mail_parts}
+use Rattle.lt_model.proofs.NodeEffects.{after_node}
 use Rattle.lt_law_invariant.proofs.HeldUpMoves.{other_state}
 use Rattle.lt_law_invariant.proofs.ClientCommands.{no_ask_of}
 use Rattle.lt_law_invariant.proofs.ClientMoves.{idle_in}
 use Rattle.lt_law_invariant.proofs.ClientsKept.{sound_clients}
-use Rattle.lt_law_invariant.proofs.KeptMoves.{kept_stays}
-use Rattle.lt_law_lines.proofs.AlongRuns.{along_runs}
-use Rattle.lt_law_upgrades.specs.Upgrading.{IsUpgrading}
+use Rattle.lt_law_invariant.proofs.SoundStates.{kept_stays}
+use Rattle.lt_law_lines.proofs.OwnerRuns.{along_runs}
+use Rattle.lt_law_upgrades.specs.UpgradeLaws.{IsUpgrading}
 use Rattle.lt_law_upgrades.proofs.ActBalance.{idle_gives}
 use Rattle.lt_law_upgrades.proofs.DeskStays.{HasEntries, KeepsDesk, HasLeft}
 use Rattle.lt_law_upgrades.proofs.UpgradeWithin.{IsWithin, stays_in, makes_command}
 use Rattle.lt_law_upgrades.proofs.UpgradeActs.{Acted, act_sets}
-use Rattle.lt_law_upgrades.proofs.UpgradeTakes.{Taken, take_sets}
-use Rattle.lt_law_upgrades.proofs.UpgradeReady.{IsSteadfast, ready_so}
+use Rattle.lt_law_upgrades.proofs.UpgradeReady.{Taken, take_sets, IsSteadfast, ready_so}
 
 -- the token can't have left
 left_never : (script : ScriptData) (w : World) (q : ℕ) (step : Step) (s : ℕ) → WorldInvariant script (after script w q step) → q < script.nodes → s < length script.sets

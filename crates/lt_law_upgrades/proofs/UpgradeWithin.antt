@@ -1,8 +1,7 @@
 -- A client of an upgrading script holds and asks for no more than it may, and waits for a set above all that it holds, or to
 -- change a lock.
-use Rattle.std.proofs.Common.{◌≡◌, ◌≢◌, ℕ, zero, suc, ◌+◌, ◌-◌, ◌<◌, ◌≤◌, inl, inr, List, [], length, Option, Some, None, Bool, true, false, refl, sym, ap, arith, ◌∙◌}
-use Rattle.std.specs.Prelude.{◌⊎◌, ◌==◌, not, if◌then◌else◌, IsTrue, Contains, slice_get}
-use Rattle.std.proofs.lemmas.Bool.{cases_eq, and_parts, and_from, or_cases, eq-eqb, ne_eqb, eqb-true, and_left, and_right, false≢true}
+use Rattle.std.proofs.Common.{◌≡◌, ◌≢◌, ℕ, zero, suc, ◌+◌, ◌-◌, ◌<◌, ◌≤◌, inl, inr, List, [], length, Option, Some, None, Bool, true, false, refl, sym, ap, arith, ◌∙◌, ◌⊎◌, ◌==◌, not, if◌then◌else◌, IsTrue, Contains, slice_get, eq-eqb, ne_eqb, eqb-true}
+use Rattle.std.proofs.lemmas.Bool.{cases_eq, and_parts, and_from, or_cases, and_left, and_right, false≢true}
 use Rattle.lt_modes.specs.declared.mode.Mode.{Mode}
 use Rattle.lt_modes.specs.declared.ask.Ask.{Ask}
 use Rattle.lt_modes.specs.declared.command.Command.{Command}
@@ -11,16 +10,15 @@ use Rattle.lt_modes.specs.Modes.{same_mode, excludes_itself, one, covers}
 use Rattle.lt_modes.specs.Script.{ScriptData}
 use Rattle.lt_modes.proofs.ModeAlgebra.{has-itself}
 use Rattle.lt_lists.proofs.Sums.{counted_in, counted_some}
-use Rattle.lt_spec.specs.Families.{commands_of}
+use Rattle.lt_spec.specs.NodeMove.{commands_of, NodeState}
 use Rattle.lt_spec.specs.Holdings.{Holding, holding, same_holding, without_one, is_dropped, times_held}
-use Rattle.lt_spec.specs.NodeMove.{NodeState}
 use Rattle.lt_law_accounts.proofs.RowTotals.{total}
 use Rattle.lt_law_lines.proofs.LineCounts.{count_after, line_counts, same_holding-true}
-use Rattle.lt_spec.specs.Ordered.{best_answer, may_hold}
-use Rattle.lt_law_ordered.specs.Ranked.{are_ranked_below}
+use Rattle.lt_spec.specs.Script.{best_answer, may_hold}
+use Rattle.lt_law_ordered.specs.OrderedLaws.{are_ranked_below}
 use Rattle.lt_law_ordered.proofs.Loans.{is_for, asks_for}
 use Rattle.lt_law_ordered.proofs.MayHold.{may_hold_more, may_count, ranked_lock}
-use Rattle.lt_law_upgrades.specs.Upgrading.{has_of_set, is_upgrading_from}
+use Rattle.lt_law_upgrades.specs.UpgradeLaws.{has_of_set, is_upgrading_from}
 use Rattle.lt_law_upgrades.proofs.Balance.{gives, is_giving, given_up}
 use Rattle.lt_law_upgrades.proofs.ActBalance.{command_by, command_of, ActBalance}
 use Rattle.lt_law_upgrades.proofs.DeskStays.{KeepsDesk}

@@ -1,3 +1,1 @@
-pub mod Upgrading
 pub mod UpgradeLaws
-pub mod UpgradeRows

@@ -1,18 +1,53 @@
--- What holds of runs of scripts whose clients upgrade in order, as statements.
-use Rattle.std.specs.Prelude.{◌≡◌, ◌<◌, ℕ, List, [], Some, ◌∷◌, length, take, Contains, IsTrue, IsFalse, is_some}
+-- Scripts whose clients ask for sets in order and change locks that exclude themselves.
+use Rattle.std.specs.Prelude.{Bool, true, ◌&&◌, ◌||◌, ◌==◌, not, ℕ, List, [], ◌∷◌, length, IsTrue, ◌<◌, ◌≡◌, Some, take, Contains, IsFalse, is_some, false, map, codes}
+use Rattle.std.specs.List.{list_any, range_with_len}
 use Rattle.lt_modes.specs.declared.mode.Mode.{Mode}
+use Rattle.lt_modes.specs.declared.command.Command.{Command}
+use Rattle.lt_modes.specs.declared.command.Command.TheVariants.{Lock, Try, Change, Unlock, DropAll}
+use Rattle.lt_modes.specs.Modes.{one, covers, excludes_itself}
+use Rattle.lt_modes.specs.Script.{ScriptData}
 use Rattle.lt_modes.specs.declared.ask.Ask.{Ask}
 use Rattle.lt_modes.specs.declared.parts.Row.{Row}
-use Rattle.lt_modes.specs.Modes.{excludes_itself}
-use Rattle.lt_modes.specs.Script.{ScriptData}
 use Rattle.lt_modes.specs.Serving.{queue_of}
+use Rattle.lt_modes.specs.declared.mode.Mode.TheVariants.{Read, Upgrade, IntentionWrite, ReadIntentionWrite, Write}
+use Rattle.lt_spec.specs.NodeMove.{commands_of, IsWhole}
+use Rattle.lt_spec.specs.Holdings.{Holding, holding, without_one, holdings, lines_of}
+use Rattle.lt_spec.specs.Script.{may_hold_after, holds_none, IsOrdered}
 use Rattle.lt_spec.specs.Facts.{state_at}
-use Rattle.lt_spec.specs.Log.{Logged}
-use Rattle.lt_spec.specs.Holdings.{holdings, lines_of}
-use Rattle.lt_spec.specs.World.{world_after, IsRun, is_at_rest, anyone_waits}
-use Rattle.lt_spec.specs.WholeScripts.{IsWhole}
-use Rattle.lt_spec.specs.Ordered.{IsOrdered}
-use Rattle.lt_law_upgrades.specs.Upgrading.{IsUpgrading}
+use Rattle.lt_spec.specs.World.{Logged, world_after, IsRun, is_at_rest, anyone_waits}
+use Rattle.lt_law_examples.specs.Worked.{declared_set, declared_client}
+use Rattle.lt_law_ordered.specs.OrderedLaws.{are_ranked_below}
+
+-- one of the locks is of the set
+abbrev pub has_of_set : ℕ → List Holding → Bool
+has_of_set s locks = list_any (λ (lock : Holding). lock.set == s) locks
+
+-- a lock of the set, the only one of it beside these others, is changed to a mode that the old one covers; or the old mode
+-- excludes itself, and the others are of sets with smaller ranks
+abbrev pub changes_in_order : (ℕ → ℕ) → ℕ → Mode → Mode → List Holding → Bool
+changes_in_order rank s gives_up mode others =
+    not (has_of_set s others) && (covers (one gives_up) mode || (excludes_itself gives_up && are_ranked_below rank s others))
+
+-- a client that may hold these locks asks for a set only while it may hold none of it, so it holds one lock of a set at most;
+-- it waits only for a set with a greater rank than theirs, or to change a lock of the set with the greatest rank
+abbrev pub upgrades_in_order : (ℕ → ℕ) → ℕ → List Holding → Command → Bool
+upgrades_in_order rank client locks (Lock s mode) = are_ranked_below rank s locks
+upgrades_in_order rank client locks (Try s mode) = not (has_of_set s locks)
+upgrades_in_order rank client locks (Change s gives_up mode) = changes_in_order rank s gives_up mode (without_one locks (holding client s gives_up))
+upgrades_in_order rank client locks other = true
+
+-- from these locks on each command upgrades in order, and after the last one none may be held
+abbrev pub is_upgrading_from : ScriptData → (ℕ → ℕ) → ℕ → List Holding → List Command → Bool
+is_upgrading_from script rank client locks [] = holds_none locks
+is_upgrading_from script rank client locks (command ∷ rest) =
+    upgrades_in_order rank client locks command && is_upgrading_from script rank client (may_hold_after script client locks command) rest
+
+-- each client asks for sets in the order of their ranks, changes what excludes itself, and releases all that it may hold
+abbrev pub IsUpgrading : ScriptData → (ℕ → ℕ) → Type 0
+IsUpgrading script rank = (client : ℕ) → client < length script.clients
+    → IsTrue (is_upgrading_from script rank client [] (commands_of script client))
+
+-- What holds of runs of scripts whose clients upgrade in order, as statements.
 
 -- a run that is at rest has no waiting client
 abbrev pub UpgradingFinish : Type 0
@@ -43,3 +78,113 @@ ChangeIsNext = (script : ScriptData) (run : List Logged) (rank : ℕ → ℕ) �
 -- an ordered script is upgrading, by the numbers of its sets
 abbrev pub OrderedIsUpgrading : Type 0
 OrderedIsUpgrading = (script : ScriptData) → IsOrdered script → IsUpgrading script (λ s. s)
+
+-- Small scripts, and whether each client of them upgrades in order, by the numbers of the sets.
+
+-- of each client, whether it upgrades in order, by the numbers of the sets
+abbrev pub upgrading_clients : ScriptData → List Bool
+upgrading_clients script = map (λ client. is_upgrading_from script (λ s. s) client [] (commands_of script client)) (range_with_len 0 (length script.clients))
+
+-- Two clients upgrade a set in turn, and one reads it.
+abbrev pub upgrade_in_turn : ScriptData
+upgrade_in_turn = record {
+  version = 1;
+  nodes = 2;
+  sets = declared_set (codes "counter") 0 ∷ [];
+  clients = declared_client (codes "ann") 0 ∷ declared_client (codes "ben") 1 ∷ declared_client (codes "reader") 1 ∷ [];
+  commands =
+      (0, Lock 0 Upgrade) ∷
+      (0, Change 0 Upgrade Write) ∷
+      (0, Unlock 0 Write) ∷
+      (2, Lock 0 Read) ∷
+      (2, Unlock 0 Read) ∷
+      (1, Lock 0 Upgrade) ∷
+      (1, Change 0 Upgrade Write) ∷
+      (1, Unlock 0 Write) ∷
+      [];
+}
+
+abbrev pub UpgradeInTurnRow : Type 0
+UpgradeInTurnRow = upgrading_clients upgrade_in_turn ≡ true ∷ true ∷ true ∷ []
+
+-- A change to `upgrade` comes too late: the client holds `read` by then, which excludes nobody who reads.
+abbrev pub read_to_upgrade : ScriptData
+read_to_upgrade = record {
+  version = 1;
+  nodes = 4;
+  sets = declared_set (codes "s") 0 ∷ [];
+  clients = declared_client (codes "c0") 3 ∷ declared_client (codes "c1") 0 ∷ declared_client (codes "c2") 1 ∷ [];
+  commands =
+      (0, Lock 0 Read) ∷
+      (2, Lock 0 Write) ∷
+      (2, Unlock 0 Write) ∷
+      (1, Lock 0 Read) ∷
+      (0, Change 0 Read Upgrade) ∷
+      (1, Change 0 Read Upgrade) ∷
+      (1, Unlock 0 Upgrade) ∷
+      (0, Unlock 0 Upgrade) ∷
+      [];
+}
+
+abbrev pub ReadToUpgradeRow : Type 0
+ReadToUpgradeRow = upgrading_clients read_to_upgrade ≡ false ∷ false ∷ true ∷ []
+
+-- A lock of an earlier set is changed while one of a later set is held, as it may be to a mode that it covers.
+abbrev pub changed_while_later : ScriptData
+changed_while_later = record {
+  version = 1;
+  nodes = 1;
+  sets = declared_set (codes "s") 0 ∷ declared_set (codes "r") 1 ∷ [];
+  clients = declared_client (codes "a") 0 ∷ declared_client (codes "b") 0 ∷ [];
+  commands =
+      (0, Lock 0 Upgrade) ∷
+      (0, Lock 1 Read) ∷
+      (0, Change 0 Upgrade Write) ∷
+      (0, Unlock 1 Read) ∷
+      (0, Unlock 0 Write) ∷
+      (1, Lock 0 Upgrade) ∷
+      (1, Lock 1 Read) ∷
+      (1, Change 0 Upgrade Read) ∷
+      (1, Unlock 1 Read) ∷
+      (1, Unlock 0 Read) ∷
+      [];
+}
+
+abbrev pub ChangedWhileLaterRow : Type 0
+ChangedWhileLaterRow = upgrading_clients changed_while_later ≡ false ∷ true ∷ []
+
+-- A set is tried while a lock of it is held.
+abbrev pub tried_again : ScriptData
+tried_again = record {
+  version = 1;
+  nodes = 1;
+  sets = declared_set (codes "s") 0 ∷ [];
+  clients = declared_client (codes "a") 0 ∷ [];
+  commands =
+      (0, Lock 0 Read) ∷
+      (0, Try 0 IntentionWrite) ∷
+      (0, DropAll 0 0) ∷
+      [];
+}
+
+abbrev pub TriedAgainRow : Type 0
+TriedAgainRow = upgrading_clients tried_again ≡ false ∷ []
+
+-- A lock that is tried, changed twice and dropped.
+abbrev pub changed_twice : ScriptData
+changed_twice = record {
+  version = 2;
+  nodes = 2;
+  sets = declared_set (codes "s") 0 ∷ declared_set (codes "r") 0 ∷ [];
+  clients = declared_client (codes "a") 1 ∷ [];
+  commands =
+      (0, Lock 0 Read) ∷
+      (0, Try 1 Upgrade) ∷
+      (0, Change 1 Upgrade ReadIntentionWrite) ∷
+      (0, Change 1 ReadIntentionWrite Write) ∷
+      (0, DropAll 0 0) ∷
+      [];
+}
+
+abbrev pub ChangedTwiceRow : Type 0
+ChangedTwiceRow = upgrading_clients changed_twice ≡ true ∷ []

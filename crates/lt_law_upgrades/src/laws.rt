@@ -1,5 +1,4 @@
-ghost use Rattle.lt_law_upgrades.specs.UpgradeLaws.{UpgradingFinish, UpgradingRelease, HolderHasDesk, ChangeIsNext, OrderedIsUpgrading};
-ghost use Rattle.lt_law_upgrades.specs.UpgradeRows.{UpgradeInTurnRow, ReadToUpgradeRow, ChangedWhileLaterRow, TriedAgainRow, ChangedTwiceRow};
+ghost use Rattle.lt_law_upgrades.specs.UpgradeLaws.{UpgradingFinish, UpgradingRelease, HolderHasDesk, ChangeIsNext, OrderedIsUpgrading, UpgradeInTurnRow, ReadToUpgradeRow, ChangedWhileLaterRow, TriedAgainRow, ChangedTwiceRow};
 
 /// A run of a script whose clients ask for sets in the order of their ranks, and change locks that exclude themselves, has no
 /// waiting client at rest, and nothing is held then. Meanwhile the desk stays where such a lock is held, and a change is

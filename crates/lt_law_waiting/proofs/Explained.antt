@@ -1,28 +1,21 @@
 -- Who waits at rest, and why; and what the report tells of it.
-use Rattle.std.proofs.Common.{◌≡◌, ℕ, ◌<◌, inl, inr, List, [], ◌∷◌, length, Bool, true, false, refl, sym, subst, take, ◌∙◌}
-use Rattle.std.specs.Prelude.{◌⊎◌, Contains, IsTrue}
+use Rattle.std.proofs.Common.{◌≡◌, ℕ, ◌<◌, inl, inr, List, [], ◌∷◌, length, Bool, true, false, refl, sym, subst, take, ◌∙◌, ◌⊎◌, Contains, IsTrue}
 use Rattle.std.proofs.lemmas.Bool.{false≢true}
 use Rattle.lt_modes.specs.declared.event.Event.{Event}
 use Rattle.lt_modes.specs.Script.{ScriptData}
 use Rattle.lt_modes.specs.Serving.{waits}
 use Rattle.lt_lists.proofs.Searches.{any_below_at}
-use Rattle.lt_spec.specs.Holdings.{Holding, holdings, lines_of}
-use Rattle.lt_spec.specs.Log.{Logged}
-use Rattle.lt_spec.specs.World.{World, world_after, IsRun, is_waiting, is_at_rest, anyone_waits}
-use Rattle.lt_spec.specs.WholeScripts.{IsWhole}
+use Rattle.lt_spec.specs.Holdings.{Holding, holdings, lines_of, waits_for}
+use Rattle.lt_spec.specs.World.{Logged, World, world_after, IsRun, is_waiting, is_at_rest, anyone_waits}
+use Rattle.lt_spec.specs.NodeMove.{IsWhole}
 use Rattle.lt_law_lines.proofs.KeptLines.{lines_kept_in_runs}
-use Rattle.lt_spec.specs.Rings.{Graph, ring_set, walk_end}
-use Rattle.lt_spec.specs.Waiting.{waits_for}
+use Rattle.lt_spec.specs.Rings.{Graph, ring_set, walk_end, EndsLine, waits_report}
 use Rattle.lt_law_waiting.specs.WaitingLaws.{EndedHoldsUp, WaitersAreExplained, PairsAreReported, EndsAreReported, WaitersAreReported}
-use Rattle.lt_spec.specs.Ended.{WaitInRing}
-use Rattle.lt_spec.specs.Reports.{EndsLine, waits_report}
-use Rattle.lt_law_waiting.proofs.RingWalks.{cons_some, ring_in_set, ring_some, ring_waits}
-use Rattle.lt_law_waiting.proofs.WalkEnds.{walks_end}
-use Rattle.lt_law_waiting.proofs.Finds.{any_below_which}
+use Rattle.lt_spec.specs.Promised.{WaitInRing}
+use Rattle.lt_law_waiting.proofs.RingWalks.{cons_some, ring_in_set, ring_some, ring_waits, walks_end}
+use Rattle.lt_law_waiting.proofs.KeptAsks.{any_below_which, ask_waits, only_waiters_wait}
 use Rattle.lt_law_waiting.proofs.Reports.{waits_are_told, ends_are_told, ends_are_all}
-use Rattle.lt_law_waiting.proofs.KeptAsks.{ask_waits, only_waiters_wait}
-use Rattle.lt_law_waiting.proofs.WaitsAtRest.{each_waits_for_some}
-use Rattle.lt_law_waiting.proofs.Ended.{ended_hold}
+use Rattle.lt_law_waiting.proofs.WaitsAtRest.{each_waits_for_some, ended_hold}
 
 -- who ends a walk doesn't wait
 end_waits_not : (script : ScriptData) (run : List Logged) → IsWhole script → IsRun script run → (k last : ℕ) → IsTrue (is_at_rest script (world_after script (take k run))) → last < length script.clients

@@ -1,19 +1,58 @@
--- What it means that a client waits for another one: an ask of it, which that one keeps.
-use Rattle.std.proofs.Common.{◌≡◌, ◌≢◌, ℕ, ◌<◌, length, Option, Some, None, true, refl, ap, ◌∙◌}
-use Rattle.std.specs.Prelude.{◌==◌, not, Contains}
-use Rattle.std.proofs.lemmas.Bool.{eq-eqb, ne_eqb, eqb-true, and_parts, and_from, false≢true}
+-- What a search among clients finds.
+use Rattle.std.proofs.Common.{◌≡◌, ℕ, zero, suc, ◌<◌, inl, inr, List, [], ◌∷◌, Some, None, Bool, true, false, refl, sym, ap, arith, ◌∙◌, ◌≢◌, length, Option, ◌||◌, if◌then◌else◌, Contains, ◌==◌, not, find, eq-eqb, ne_eqb, eqb-true}
+use Rattle.std.specs.List.{list_any}
+use Rattle.std.proofs.lemmas.Bool.{or_cases, false≢true, and_parts, and_from}
 use Rattle.lt_modes.specs.declared.ask.Ask.{Ask}
 use Rattle.lt_modes.specs.Script.{ScriptData}
 use Rattle.lt_modes.specs.Serving.{waits}
-use Rattle.lt_lists.proofs.Members.{list_any-at}
+use Rattle.lt_modes.specs.Waiting.{pending_ask}
+use Rattle.lt_lists.specs.Below.{any_below}
+use Rattle.lt_lists.proofs.Members.{contains_first, contains_later, list_any-at}
 use Rattle.lt_lists.proofs.Searches.{any_below_at}
-use Rattle.lt_spec.specs.Families.{home}
+use Rattle.lt_spec.specs.NodeMove.{home}
 use Rattle.lt_spec.specs.Facts.{state_at}
 use Rattle.lt_spec.specs.World.{World, is_waiting}
-use Rattle.lt_modes.specs.Waiting.{pending_ask}
-use Rattle.lt_spec.specs.Waiting.{is_kept_by, kept_if, waits_for}
+use Rattle.lt_spec.specs.Holdings.{is_kept_by, kept_if, waits_for}
 use Rattle.lt_law_waiting.specs.WaitingLaws.{OnlyWaitersWait}
-use Rattle.lt_law_waiting.proofs.Finds.{any_below_which, find_is}
+
+-- a search that finds something finds it at some number
+pub any_below_which : (n : ℕ) (test : ℕ → Bool) → any_below n test ≡ true → (k : ℕ) × (k < n) × (test k ≡ true)
+any_below_which zero test e = cc
+any_below_which (suc n) test e = elim (or_cases (any_below n test) (test n) e) [
+  | inl before ↦ let found = any_below_which n test before in (found.0, omega (arith, found.1), found.2)
+  | inr last ↦ (n, omega arith, last)
+]
+
+-- a search that may find something finds it
+pub find_some : {X : Type 0} (test : X → Bool) (xs : List X) → list_any test xs ≡ true → (x : X) × (find test xs ≡ Some x) × Contains xs x × (test x ≡ true)
+find_some test [] e = absurd (false≢true e)
+find_some test (x ∷ rest) e = by_test (test x) refl e (λ f. find_some test rest f)
+  where
+    by_test : (t : Bool) → test x ≡ t → list_any test (x ∷ rest) ≡ true → (list_any test rest ≡ true → (y : _) × (find test rest ≡ Some y) × Contains rest y × (test y ≡ true))
+        → (y : _) × ((if t then Some x else find test rest) ≡ Some y) × Contains (x ∷ rest) y × (test y ≡ true)
+    by_test true e any again = (x, refl, contains_first x x rest refl, e)
+    by_test false e any again = let found = again (ap (λ (b : Bool). b || list_any test rest) (sym e) ∙ any) in (found.0, found.1, contains_later x found.0 rest found.2, found.3)
+
+-- and finds nothing only where nothing passes
+pub find_none : {X : Type 0} (test : X → Bool) (xs : List X) → find test xs ≡ None → list_any test xs ≡ false
+find_none test [] e = refl
+find_none test (x ∷ rest) e = by_test (test x) e (λ f. find_none test rest f)
+  where
+    by_test : (t : Bool) → (if t then Some x else find test rest) ≡ None → (find test rest ≡ None → list_any test rest ≡ false) → (t || list_any test rest) ≡ false
+    by_test true e again = cc
+    by_test false e again = again e
+
+-- what is found passes, and is there
+pub find_is : {X : Type 0} (test : X → Bool) (xs : List X) (d : X) → find test xs ≡ Some d → Contains xs d × (test d ≡ true)
+find_is test [] d e = cc
+find_is test (x ∷ rest) d e = by_test (test x) refl e (λ f. find_is test rest d f)
+  where
+    by_test : (t : Bool) → test x ≡ t → (if t then Some x else find test rest) ≡ Some d → (find test rest ≡ Some d → Contains rest d × (test d ≡ true))
+        → Contains (x ∷ rest) d × (test d ≡ true)
+    by_test true f g again = let same : x ≡ d = cc in (contains_first x d rest same, sym (ap test same) ∙ f)
+    by_test false f g again = let found = again g in (contains_later x d rest found.0, found.1)
+
+-- What it means that a client waits for another one: an ask of it, which that one keeps.
 
 -- an ask that is kept by another client
 pub kept_waits : (script : ScriptData) (w : World) (s c d : ℕ) (ask : Ask) → s < length script.sets

@@ -1,9 +1,5 @@
-pub mod Finds
-pub mod RingSets
-pub mod RingWalks
-pub mod WalkEnds
-pub mod Reports
 pub mod KeptAsks
+pub mod RingWalks
+pub mod Reports
 pub mod WaitsAtRest
-pub mod Ended
 pub mod Explained

@@ -1,14 +1,11 @@
 -- What the lines of a report tell.
-use Rattle.std.proofs.Common.{◌≡◌, ℕ, ◌<◌, inl, inr, List, [], ◌∷◌, ◌++◌, true, refl, sym, ap, subst, ◌∙◌}
+use Rattle.std.proofs.Common.{◌≡◌, ℕ, ◌<◌, inl, inr, List, [], ◌∷◌, ◌++◌, true, refl, sym, ap, subst, ◌∙◌, ◌==◌, map, filter, flat_map, Contains}
 use Rattle.std.specs.List.{IsDistinct}
-use Rattle.std.specs.Prelude.{◌==◌, map, filter, flat_map, Contains}
 use Rattle.std.proofs.lemmas.List.Elements.{Contains-append_cases, Contains-append_left, Contains-append_right}
 use Rattle.lt_lists.proofs.Members.{contains_first, contains_later, contains_cases, contains_filter, contains_filtered, contains_map, contains_mapped, list_any-at, list_any-which, none_in}
-use Rattle.lt_spec.specs.Rings.{Graph, numbers_below, AreBelow, IsRing, ring_set, ring_of, walk_end, waits_for_some}
-use Rattle.lt_spec.specs.Reports.{ReportLine, WaitsLine, CycleLine, NoCycleLine, EndsLine, waits_lines, ends_lines, last_lines, report}
+use Rattle.lt_spec.specs.Rings.{Graph, numbers_below, AreBelow, IsRing, ring_set, ring_of, walk_end, waits_for_some, ReportLine, WaitsLine, CycleLine, NoCycleLine, EndsLine, waits_lines, ends_lines, last_lines, report}
 use Rattle.lt_law_waiting.specs.ReportLaws.{CyclesAreRings, RingsAreTold, NoCycleIsTold, EndsAreTold, WaitsAreTold, EndsAreAll}
-use Rattle.lt_law_waiting.proofs.RingSets.{in_below, below_in, remaining_below}
-use Rattle.lt_law_waiting.proofs.RingWalks.{walk_finds_ring, no_ring, cons_some, ring_in_set}
+use Rattle.lt_law_waiting.proofs.RingWalks.{in_below, below_in, remaining_below, walk_finds_ring, no_ring, cons_some, ring_in_set}
 
 flat_map-which : {X Y : Type 0} (f : X → List Y) (xs : List X) (y : Y) → Contains (flat_map f xs) y → (x : X) × Contains (f x) y
 flat_map-which f [] y there = none_in y there

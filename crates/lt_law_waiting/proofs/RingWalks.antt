@@ -1,18 +1,89 @@
--- The walk in the ring set finds a ring.
-use Rattle.std.proofs.Common.{◌≡◌, ◌≢◌, ℕ, zero, suc, ◌+◌, ◌<◌, inl, inr, List, [], ◌∷◌, ◌++◌, length, Option, Some, Bool, true, false, refl, sym, subst, arith, ◌∙◌}
-use Rattle.std.specs.Prelude.{◌⊎◌, ◌||◌, ◌==◌, if◌then◌else◌, Contains}
+-- The ring set: the clients that remain when those that wait for none that remains are taken away.
+use Rattle.std.proofs.Common.{◌≡◌, ℕ, zero, suc, ◌+◌, ◌<◌, ◌≤◌, inl, inr, List, [], ◌∷◌, length, Bool, true, false, refl, sym, ap, subst, arith, ◌≢◌, ◌++◌, Option, Some, ◌∙◌, None, ◌⊎◌, if◌then◌else◌, filter, Contains, ◌||◌, ◌==◌, eqb-true, eq-eqb}
 use Rattle.std.specs.List.{list_any, IsDistinct}
-use Rattle.std.proofs.lemmas.Bool.{eqb-true, eq-eqb, false≢true}
+use Rattle.std.proofs.lemmas.List.FromFn.{length-range_with_len, get_or-range_with_len}
+use Rattle.std.proofs.lemmas.Bool.{false≢true}
 use Rattle.std.proofs.lemmas.List.{length_push}
 use Rattle.std.proofs.lemmas.List.Elements.{Contains-push_cases}
 use Rattle.std.proofs.lemmas.Map.Keys.{IsDistinct-push, IsDistinct-tail}
 use Rattle.std.proofs.lemmas.Map.Steps.{length-le_from_distinct_below}
 use Rattle.std.proofs.lemmas.Cmp.{nat_eq_equiv}
-use Rattle.lt_lists.proofs.Members.{contains_first, contains_later, contains_cases, list_any-which, none_in}
-use Rattle.lt_spec.specs.Rings.{Graph, AreBelow, first_or, IsPath, IsRing, ring_set, next_among, has_come, from_coming, ring_from, ring_of}
-use Rattle.lt_law_waiting.specs.RingLaws.{WalkFindsRing, NoRing}
-use Rattle.lt_law_waiting.proofs.RingSets.{remaining_below, ring_next, ring_set_is_greatest}
-use Rattle.lt_law_waiting.proofs.Finds.{find_some}
+use Rattle.lt_lists.proofs.Members.{contains_filter, contains_filtered, list_any-at, list_any-which, contains_first, contains_later, contains_cases, none_in}
+use Rattle.lt_spec.specs.Rings.{Graph, numbers_below, still_waiting, remaining, ring_set, AreBelow, first_or, IsPath, IsRing, next_among, has_come, from_coming, ring_from, ring_of, walk_on, walk_end_from}
+use Rattle.lt_law_waiting.specs.ReportLaws.{RingSetWaits, RingSetIsGreatest, WalkFindsRing, NoRing, WalksEnd}
+use Rattle.lt_law_waiting.proofs.KeptAsks.{find_some, find_none, find_is}
+
+-- the numbers (numbers_below n)
+pub in_below : (n c : ℕ) → c < n → Contains (numbers_below n) c
+in_below n c h = (c, omega (arith, h, length-range_with_len 0 n), omega (arith, get_or-range_with_len 0 n c c h))
+
+pub below_in : (n c : ℕ) → Contains (numbers_below n) c → c < n
+below_in n c (i, within, is) =
+    let short : i < n = omega (arith, within, length-range_with_len 0 n) in
+    omega (arith, short, is, get_or-range_with_len 0 n i c short)
+
+-- what is left
+pub remaining_below : (graph : Graph) (n k c : ℕ) → Contains (remaining graph (numbers_below n) k) c → c < n
+remaining_below graph n zero c there = below_in n c there
+remaining_below graph n (suc k) c there =
+    remaining_below graph n k c (contains_filtered (λ x. list_any (graph x) (remaining graph (numbers_below n) k)) (remaining graph (numbers_below n) k) c there).0
+
+-- all pass, or the list gets shorter
+filtered : {X : Type 0} (test : X → Bool) (xs : List X) → (filter test xs ≡ xs) ⊎ (length (filter test xs) < length xs)
+filtered test [] = inl refl
+filtered test (x ∷ rest) = by_test (test x) (filtered test rest)
+  where
+    by_test : (t : Bool) → (filter test rest ≡ rest) ⊎ (length (filter test rest) < length rest)
+        → ((if t then x ∷ filter test rest else filter test rest) ≡ x ∷ rest) ⊎ (length (if t then x ∷ filter test rest else filter test rest) < length (x ∷ rest))
+    by_test true (inl e) = inl (ap (λ (l : List _). x ∷ l) e)
+    by_test true (inr less) = inr (omega (arith, less))
+    by_test false (inl e) = inr (omega (arith, ap length e))
+    by_test false (inr less) = inr (omega (arith, less))
+
+settles : (graph : Graph) (clients : List ℕ) (k : ℕ) → (still_waiting graph (remaining graph clients k) ≡ remaining graph clients k) ⊎ (length (remaining graph clients k) + k ≤ length clients)
+settles graph clients zero = inr (omega arith)
+settles graph clients (suc k) = by_cases (settles graph clients k) (filtered (λ c. list_any (graph c) (remaining graph clients k)) (remaining graph clients k))
+  where
+    now : List ℕ
+    now = remaining graph clients k
+
+    by_cases : (still_waiting graph now ≡ now) ⊎ (length now + k ≤ length clients) → (still_waiting graph now ≡ now) ⊎ (length (still_waiting graph now) < length now)
+        → (still_waiting graph (still_waiting graph now) ≡ still_waiting graph now) ⊎ (length (still_waiting graph now) + suc k ≤ length clients)
+    by_cases (inl e) other = inl (ap (still_waiting graph) e)
+    by_cases (inr few) (inl e) = inl (ap (still_waiting graph) e)
+    by_cases (inr few) (inr less) = inr (omega (arith, few, less))
+
+settled : (n : ℕ) (graph : Graph) → still_waiting graph (ring_set n graph) ≡ ring_set n graph
+settled n graph = by_cases (settles graph (numbers_below n) n)
+  where
+    empty : (xs : List ℕ) → length xs ≡ 0 → still_waiting graph xs ≡ xs
+    empty [] e = refl
+    empty (x ∷ rest) e = absurd (omega (arith, e))
+
+    by_cases : (still_waiting graph (ring_set n graph) ≡ ring_set n graph) ⊎ (length (ring_set n graph) + n ≤ length (numbers_below n)) → still_waiting graph (ring_set n graph) ≡ ring_set n graph
+    by_cases (inl e) = e
+    by_cases (inr few) = empty (ring_set n graph) (omega (arith, few, length-range_with_len 0 n))
+
+pub ring_next : (n : ℕ) (graph : Graph) (c : ℕ) → Contains (ring_set n graph) c → list_any (graph c) (ring_set n graph) ≡ true
+ring_next n graph c there =
+    (contains_filtered (λ x. list_any (graph x) (ring_set n graph)) (ring_set n graph) c (subst (λ (l : List ℕ). Contains l c) (sym (settled n graph)) there)).1
+
+pub ring_set_waits : RingSetWaits
+ring_set_waits n graph c there =
+    let next = list_any-which (graph c) (ring_set n graph) (ring_next n graph c there) in
+    (remaining_below graph n n c there, next.0, next.1, next.2)
+
+pub ring_set_is_greatest : RingSetIsGreatest
+ring_set_is_greatest n graph clients under waits c there = stays n c there
+  where
+    stays : (k c : ℕ) → Contains clients c → Contains (remaining graph (numbers_below n) k) c
+    stays zero c there = in_below n c (under c there)
+    stays (suc k) c there =
+        let next = waits c there in
+        contains_filter (λ x. list_any (graph x) (remaining graph (numbers_below n) k)) (remaining graph (numbers_below n) k) c (stays k c there)
+        (list_any-at (graph c) (remaining graph (numbers_below n) k) next.0 (stays k next.0 next.1) next.2)
+
+-- The walk in the ring set finds a ring.
 
 -- a path that goes one client further
 path_further : (graph : Graph) (walk : List ℕ) (c d : ℕ) → IsPath graph walk c → graph c d ≡ true → IsPath graph (walk ++ c ∷ []) d
@@ -138,3 +209,62 @@ pub ring_in_set : (n : ℕ) (graph : Graph) → ring_set n graph ≢ [] → (rin
 ring_in_set n graph some =
     let found = walk_finds_ring n graph some in
     (ring_of n graph (ring_set n graph), λ c among. remaining_below graph n n c (found.1 c among), found.0)
+
+-- Where no clients wait in a ring, each walk ends.
+
+-- a walk from c that ends at d
+record WalkEnds (n : ℕ) (graph : Graph) (c d : ℕ) : Type 0 where
+  under : d < n
+  ended : (e : ℕ) → e < n → graph d e ≡ false
+  last : (c ≡ d) ⊎ ((p : ℕ) × (p < n) × (graph p d ≡ true))
+
+none_of : (n : ℕ) (graph : Graph) (c : ℕ) → list_any (graph c) (numbers_below n) ≡ false → (e : ℕ) → e < n → graph c e ≡ false
+none_of n graph c none e h = by_test (graph c e) refl
+  where
+    by_test : (t : Bool) → graph c e ≡ t → t ≡ false
+    by_test false f = refl
+    by_test true f = absurd (false≢true (sym none ∙ list_any-at (graph c) (numbers_below n) e (in_below n e h) f))
+
+-- a client that isn't left after k rounds ends within k steps
+ends_within : (n : ℕ) (graph : Graph) (k fuel c : ℕ) → k ≤ fuel → c < n → (Contains (remaining graph (numbers_below n) k) c → ⊥) → WalkEnds n graph c (walk_end_from fuel n graph c)
+ends_within n graph zero fuel c enough h gone = absurd (gone (in_below n c h))
+ends_within n graph (suc k) zero c enough h gone = absurd (omega (arith, enough))
+ends_within n graph (suc k) (suc fuel) c enough h gone = by_left (list_any (λ x. x == c) left) refl
+    (λ away. ends_within n graph k (suc fuel) c (omega (arith, enough)) h away)
+    (λ d under away. ends_within n graph k fuel d (omega (arith, enough)) under away)
+  where
+    left : List ℕ
+    left = remaining graph (numbers_below n) k
+
+    by_next : Contains left c → (o : Option ℕ) → next_among graph (numbers_below n) c ≡ o → ((d : ℕ) → d < n → (Contains left d → ⊥) → WalkEnds n graph d (walk_end_from fuel n graph d))
+        → WalkEnds n graph c (walk_on (walk_end_from fuel n graph) c o)
+    by_next there None e again = record { under = h; ended = none_of n graph c (find_none (graph c) (numbers_below n) e); last = inl refl }
+    by_next there (Some d) e again =
+        let found = find_is (graph c) (numbers_below n) d e in
+        let later = again d (below_in n d found.0) (λ among. gone (contains_filter (λ x. list_any (graph x) left) left c there (list_any-at (graph c) left d among found.1))) in
+        record {
+          under = later.under;
+          ended = later.ended;
+          last = elim later.last [
+            | inl same ↦ inr (c, h, subst (λ (x : ℕ). graph c x ≡ true) same found.1)
+            | inr before ↦ inr before
+          ];
+        }
+
+    by_left : (here : Bool) → list_any (λ x. x == c) left ≡ here → ((Contains left c → ⊥) → WalkEnds n graph c (walk_end_from (suc fuel) n graph c))
+        → ((d : ℕ) → d < n → (Contains left d → ⊥) → WalkEnds n graph d (walk_end_from fuel n graph d)) → WalkEnds n graph c (walk_end_from (suc fuel) n graph c)
+    by_left false e away later = away (λ there. false≢true (sym e ∙ list_any-at (λ x. x == c) left c there (eq-eqb c c refl)))
+    by_left true e away later =
+        let which = list_any-which (λ x. x == c) left e in
+        by_next (subst (Contains left) (eqb-true which.0 c which.2) which.1) (next_among graph (numbers_below n) c) refl later
+
+pub walks_end : WalksEnd
+walks_end n graph none c h =
+    let ends = ends_within n graph n n c (omega arith) h (λ there. none_in c (subst (λ (l : List ℕ). Contains l c) none there)) in (
+      ends.under,
+      ends.ended,
+      λ d under on. elim ends.last [
+        | inl same ↦ absurd (false≢true (sym (ends.ended d under) ∙ subst (λ (x : ℕ). graph x d ≡ true) same on))
+        | inr before ↦ before
+      ],
+    )

@@ -1,48 +1,46 @@
 -- At rest each waiting client waits for some client.
-use Rattle.std.proofs.Common.{◌≡◌, ◌≢◌, ℕ, zero, suc, ◌<◌, ◌≤◌, inl, inr, List, [], ◌∷◌, ◌++◌, length, Some, Bool, true, false, refl, sym, ap, subst, arith, take, ◌∙◌}
-use Rattle.std.specs.Prelude.{◌==◌, ◌&&◌, ◌||◌, not, if◌then◌else◌, nat_lt, Contains, IsTrue}
-use Rattle.std.proofs.lemmas.Bool.{or_cases, or_left, or_right, eq-eqb, eqb-true, and_parts, and_from, lt-ltb, ltb-true, false≢true}
+use Rattle.std.proofs.Common.{◌≡◌, ◌≢◌, ℕ, zero, suc, ◌<◌, ◌≤◌, inl, inr, List, [], ◌∷◌, ◌++◌, length, Some, Bool, true, false, refl, sym, ap, subst, arith, take, ◌∙◌, ◌==◌, ◌&&◌, ◌||◌, not, if◌then◌else◌, nat_lt, Contains, IsTrue, eq-eqb, eqb-true, lt-ltb, ltb-true}
+use Rattle.std.proofs.lemmas.Bool.{or_cases, or_left, or_right, and_parts, and_from, false≢true}
 use Rattle.std.proofs.lemmas.List.Elements.{All-contains}
 use Rattle.std.proofs.lemmas.List.Sums.{get_or-le-sum_by}
 use Rattle.lt_modes.specs.declared.mode.Mode.{Mode}
 use Rattle.lt_modes.specs.declared.ask.Ask.{Ask}
 use Rattle.lt_modes.specs.declared.parts.Row.{Row}
 use Rattle.lt_modes.specs.declared.stamp.Stamp.{Stamp}
-use Rattle.lt_modes.specs.Modes.{conflicts, excludes_itself}
-use Rattle.lt_modes.specs.Held.{count_of}
+use Rattle.lt_modes.specs.Modes.{conflicts, excludes_itself, count_of}
 use Rattle.lt_modes.specs.Fits.{ask_if, parked_asks, has_client, are_apart}
 use Rattle.lt_modes.specs.Script.{ScriptData}
-use Rattle.lt_modes.specs.Serving.{queue_of, waits}
+use Rattle.lt_modes.specs.Serving.{queue_of, waits, is_newer}
 use Rattle.lt_modes.specs.State.{ParkedAsk}
-use Rattle.lt_modes.specs.Tells.{is_newer}
-use Rattle.lt_modes.proofs.ModeAlgebra.{has-itself, any_mode-at}
-use Rattle.lt_lists.proofs.Members.{contains_first, list_any-at, filter_map-at}
-use Rattle.lt_lists.proofs.Searches.{any_below_at}
-use Rattle.lt_lists.proofs.Sums.{sum_below-at}
-use Rattle.lt_spec.specs.Families.{home}
+use Rattle.lt_modes.proofs.ModeAlgebra.{has-itself, any_mode-at, any_mode-which}
+use Rattle.lt_modes.specs.Waiting.{pending_ask, is_before, stands_before, has_older, parked_behind}
+use Rattle.lt_lists.proofs.Members.{contains_first, list_any-at, filter_map-at, contains_later, list_any-which}
+use Rattle.lt_lists.proofs.Searches.{any_below_at, any_below_none}
+use Rattle.lt_lists.proofs.Sums.{sum_below-at, counted_in}
+use Rattle.lt_lists.specs.Below.{any_below}
+use Rattle.lt_spec.specs.NodeMove.{home, IsWhole}
 use Rattle.lt_spec.specs.Facts.{state_at, places_in_state, LeadsBy, IsLedToQueue}
-use Rattle.lt_spec.specs.World.{World, world_after, is_waiting, is_at_rest}
-use Rattle.lt_model.specs.Homes.{Homes, IsRowAtHome, IsAskAtHome, IsAskOf}
-use Rattle.lt_spec.specs.WholeScripts.{IsWhole}
-use Rattle.lt_model.specs.Invariant.{WorldInvariant}
-use Rattle.lt_model.proofs.HomesMove.{homes_in_runs}
-use Rattle.lt_model.proofs.KeptSets.{kept_stands}
-use Rattle.lt_model.proofs.StandingInRuns.{stands_once}
+use Rattle.lt_spec.specs.World.{World, world_after, is_waiting, is_at_rest, is_runnable}
+use Rattle.lt_spec.specs.Holdings.{holds_against, waits_for, Holding, holding, same_holding, holdings, lines_of, WaitsFor, is_kept_by}
+use Rattle.lt_spec.specs.Promised.{HasEnded}
 use Rattle.lt_law_accounts.proofs.Asks.{times_in-some}
 use Rattle.lt_law_accounts.proofs.RowTotals.{row_count, total}
-use Rattle.lt_law_invariant.specs.RestLaws.{IsBarred}
+use Rattle.lt_model.specs.Homes.{Homes, IsRowAtHome, IsAskAtHome, IsAskOf}
+use Rattle.lt_model.specs.Invariant.{WorldInvariant}
+use Rattle.lt_model.proofs.HomesMove.{homes_in_runs}
+use Rattle.lt_model.proofs.PathsMove.{kept_stands}
+use Rattle.lt_model.proofs.Runs.{stands_once}
+use Rattle.lt_law_invariant.specs.InvariantLaws.{IsBarred}
 use Rattle.lt_law_invariant.proofs.FirstWaiter.{first_waiter_conflicts}
-use Rattle.lt_law_invariant.proofs.LedAtRest.{asks_are_led}
+use Rattle.lt_law_invariant.proofs.MidMove.{asks_are_led}
 use Rattle.lt_law_invariant.proofs.ClientEffects.{one_of_client}
 use Rattle.lt_law_invariant.proofs.ClientMoves.{at_first}
 use Rattle.lt_law_invariant.proofs.ClientsKept.{sound_clients}
-use Rattle.lt_law_invariant.proofs.KeptRuns.{kept_in_runs}
-use Rattle.lt_law_lines.proofs.KeptLines.{counted_all}
-use Rattle.lt_modes.specs.Waiting.{pending_ask, is_before, stands_before, has_older, parked_behind}
-use Rattle.lt_spec.specs.Waiting.{holds_against, waits_for}
-use Rattle.lt_law_waiting.specs.WaitingLaws.{EachWaitsForSome}
-use Rattle.lt_law_waiting.proofs.Finds.{any_below_which, find_some}
-use Rattle.lt_law_waiting.proofs.KeptAsks.{kept_waits}
+use Rattle.lt_law_invariant.proofs.SoundStates.{kept_in_runs}
+use Rattle.lt_law_lines.proofs.KeptLines.{counted_all, lines_tell_held}
+use Rattle.lt_law_lines.proofs.LineCounts.{same_holding-true}
+use Rattle.lt_law_waiting.specs.WaitingLaws.{EachWaitsForSome, EndedHold}
+use Rattle.lt_law_waiting.proofs.KeptAsks.{any_below_which, find_some, kept_waits, KeptAsk, waits_kept, ask_waits}
 
 -- a row that conflicts keeps the ask
 row_keeps : (script : ScriptData) (w : World) (s : ℕ) (mode : Mode) (row : Row) → 1 ≤ count_of (state_at w s (home script row.client)).held row.client row.mode
@@ -171,3 +169,95 @@ pub each_waits_for_some : EachWaitsForSome
 each_waits_for_some script run whole is_run k client known rest waiting =
     let one = waits_for_one script (world_after script (take k run)) whole (kept_in_runs script run whole is_run k) (homes_in_runs script run whole is_run k) rest client known waiting in
     (one.other, one.known, one.waits)
+
+-- At rest a client that keeps an ask and doesn't wait itself has ended, and holds a lock.
+
+-- who doesn't wait at rest has ended
+pub has_ended : (script : ScriptData) (w : World) (c : ℕ) → IsTrue (is_at_rest script w) → c < length script.clients → is_waiting script w c ≡ false → HasEnded script w c
+has_ended script w c rest known waits_not =
+    let parts = and_parts (not (any_below (length script.clients) (is_runnable script w))) _ rest in
+    record {
+      waits = waits_not;
+      commands = second_false _ _ (ap not waits_not) (any_below_none (length script.clients) (is_runnable script w) (not_true _ parts.0) c known);
+    }
+  where
+    not_true : (b : Bool) → not b ≡ true → b ≡ false
+    not_true true e = cc
+    not_true false e = refl
+
+    second_false : (a b : Bool) → a ≡ true → (a && b) ≡ false → b ≡ false
+    second_false true b e f = f
+    second_false false b e f = cc
+
+-- an ask that stands before another one is in the queue
+before_there : (first second : ℕ) (queue : List Ask) → is_before first second queue ≡ true → (ask : Ask) × Contains queue ask × (ask.client ≡ first)
+before_there first second [] e = absurd (false≢true e)
+before_there first second (ask ∷ rest) e = elim (or_cases (ask.client == first && has_client second rest) (is_before first second rest) e) [
+  | inl here ↦ (ask, contains_first ask ask rest refl, eqb-true ask.client first (and_parts (ask.client == first) _ here).0)
+  | inr later ↦ let found = before_there first second rest later in (found.0, contains_later ask found.0 rest found.1, found.2)
+]
+
+-- a client that keeps an ask of another one and doesn't wait holds a lock with which it conflicts
+kept_by_lock : (script : ScriptData) (w : World) (s c d : ℕ) (ask : Ask) → WorldInvariant script w → Homes script w → s < length script.sets → is_kept_by script w s d ask ≡ true → is_waiting script w d ≡ false
+    → holds_against script w s ask.mode d ≡ true
+kept_by_lock script w s c d ask kept homes in_sets keeps waits_not = elim (or_cases (holds_against script w s ask.mode d) _ keeps) [
+  | inl lock ↦ lock
+  | inr other ↦
+      let at = any_below_which script.nodes (λ q. stands_before (state_at w s q) d ask.client || parked_behind (state_at w s q) d ask.client) other in
+      absurd (elim (or_cases (stands_before (state_at w s at.0) d ask.client) _ at.2) [
+        | inl before ↦
+            let found = before_there d ask.client (queue_of (state_at w s at.0)) before in
+            let at_home = All-contains (IsAskAtHome script) (queue_of (state_at w s at.0)) found.0 (homes.states at.0 s).queue found.1 in
+            let same : found.0.node ≡ home script d = sym at_home.home ∙ ap (home script) found.2 in
+            false≢true (sym waits_not ∙ ask_waits script w s d found.0 in_sets
+            (subst (λ (q : ℕ). Contains (state_at w s q).pending found.0) same (queue_waits script w s at.0 found.0 kept in_sets at.1 found.1)) found.2)
+        | inr parked ↦
+            let mine = list_any-which (λ (a : Ask). a.client == ask.client && has_older (state_at w s at.0) d a) (parked_asks (state_at w s at.0)) parked in
+            let older = list_any-which (λ (a : Ask). a.client == d && (excludes_itself a.mode && is_newer mine.0.stamp a.stamp)) (state_at w s at.0).pending (and_parts (mine.0.client == ask.client) _ mine.2).1 in
+            let own = eqb-true older.0.client d (and_parts (older.0.client == d) _ older.2).0 in
+            let at_home = All-contains (IsAskOf script at.0) (state_at w s at.0).pending older.0 (homes.states at.0 s).pending older.1 in
+            let same : at.0 ≡ home script d = sym at_home.1 ∙ sym at_home.0.home ∙ ap (home script) own in
+            false≢true (sym waits_not ∙ ask_waits script w s d older.0 in_sets (subst (λ (q : ℕ). Contains (state_at w s q).pending older.0) same older.1) own)
+      ])
+]
+
+pub ended_hold : EndedHold
+ended_hold script run whole is_run k waiter client in_clients known rest waits_on waits_not = (
+  has_ended script w client rest known waits_not,
+  record {
+    lock = lock.0;
+    mode = kept.ask.mode;
+    held = lock.1;
+    holder = ap (λ (x : Holding). x.client) (sym is);
+    wanted = subst (λ (s : ℕ). WaitsFor script w waiter s kept.ask.mode) (ap (λ (x : Holding). x.set) is) (kept.ask, kept.there, kept.own, refl);
+    conflict = subst (λ (m : Mode). conflicts kept.ask.mode m ≡ true) (ap (λ (x : Holding). x.mode) is) parts.0;
+  },
+)
+  where
+    w : World
+    w = world_after script (take k run)
+
+    kept : KeptAsk script w waiter client
+    kept = waits_kept script w waiter client waits_on
+
+    against : holds_against script w kept.set kept.ask.mode client ≡ true
+    against = kept_by_lock script w kept.set waiter client kept.ask (kept_in_runs script run whole is_run k) (homes_in_runs script run whole is_run k) kept.in_sets kept.kept waits_not
+
+    mode : (m : Mode) × ((conflicts kept.ask.mode m && nat_lt 0 (count_of (state_at w kept.set (home script client)).held client m)) ≡ true)
+    mode = any_mode-which (λ m. conflicts kept.ask.mode m && nat_lt 0 (count_of (state_at w kept.set (home script client)).held client m)) against
+
+    parts : (conflicts kept.ask.mode mode.0 ≡ true) × (nat_lt 0 (count_of (state_at w kept.set (home script client)).held client mode.0) ≡ true)
+    parts = and_parts (conflicts kept.ask.mode mode.0) _ mode.1
+
+    key : Holding
+    key = holding client kept.set mode.0
+
+    lock : (x : Holding) × Contains (holdings script (lines_of (take k run))) x × (same_holding key x ≡ true)
+    lock = counted_in (same_holding key) (holdings script (lines_of (take k run))) (omega (
+      arith,
+      ltb-true 0 (count_of (state_at w kept.set (home script client)).held client mode.0) parts.1,
+      lines_tell_held script run whole is_run k client kept.set mode.0 known kept.in_sets,
+    ))
+
+    is : key ≡ lock.0
+    is = same_holding-true key lock.0 lock.2

@@ -1,4 +1,2 @@
-pub mod RingLaws
 pub mod ReportLaws
 pub mod WaitingLaws
-pub mod ReportRows

@@ -2,13 +2,11 @@
 use Rattle.std.specs.Prelude.{◌⊎◌, ◌↔◌, ◌<◌, ℕ, List, length, take, Contains, IsTrue, IsFalse}
 use Rattle.lt_modes.specs.declared.event.Event.{Event}
 use Rattle.lt_modes.specs.Script.{ScriptData}
-use Rattle.lt_spec.specs.Holdings.{lines_of}
-use Rattle.lt_spec.specs.Log.{Logged}
-use Rattle.lt_spec.specs.Waiting.{waits_for}
-use Rattle.lt_spec.specs.World.{World, world_after, IsRun, is_waiting, is_at_rest, anyone_waits}
-use Rattle.lt_spec.specs.WholeScripts.{IsWhole}
-use Rattle.lt_spec.specs.Reports.{WaitsLine, EndsLine, waits_report}
-use Rattle.lt_spec.specs.Ended.{HasEnded, HoldsUp, WaitInRing}
+use Rattle.lt_spec.specs.Holdings.{lines_of, waits_for}
+use Rattle.lt_spec.specs.World.{Logged, World, world_after, IsRun, is_waiting, is_at_rest, anyone_waits}
+use Rattle.lt_spec.specs.NodeMove.{IsWhole}
+use Rattle.lt_spec.specs.Rings.{WaitsLine, EndsLine, waits_report}
+use Rattle.lt_spec.specs.Promised.{HasEnded, HoldsUp, WaitInRing}
 
 -- in any world a client that waits for another one has an unanswered ask
 abbrev pub OnlyWaitersWait : Type 0

@@ -1,7 +1,5 @@
-ghost use Rattle.lt_law_waiting.specs.RingLaws.{RingSetWaits, RingSetIsGreatest, WalkFindsRing, NoRing, WalksEnd};
-ghost use Rattle.lt_law_waiting.specs.ReportLaws.{WaitsAreTold, CyclesAreRings, RingsAreTold, NoCycleIsTold, EndsAreTold, EndsAreAll};
+ghost use Rattle.lt_law_waiting.specs.ReportLaws.{RingSetWaits, RingSetIsGreatest, WalkFindsRing, NoRing, WalksEnd, WaitsAreTold, CyclesAreRings, RingsAreTold, NoCycleIsTold, EndsAreTold, EndsAreAll, ChangesReport, KeptReport, ParkedReport, RingBehindLeast, LongWalk, RingOfThree, RingOfFour, RingAndEnded};
 ghost use Rattle.lt_law_waiting.specs.WaitingLaws.{OnlyWaitersWait, EachWaitsForSome, EndedHold, WaitersAreExplained, PairsAreReported, EndsAreReported, WaitersAreReported};
-ghost use Rattle.lt_law_waiting.specs.ReportRows.{ChangesReport, KeptReport, ParkedReport, RingBehindLeast, LongWalk, RingOfThree, RingOfFour, RingAndEnded};
 
 /// Of any graph of who waits for whom: the ring set, the ring that a walk in it finds, and where walks end if no clients wait
 /// in a ring.

@@ -1,6 +1,5 @@
 -- What holds of all items of a list, by recursion.
-use Rattle.std.proofs.Common.{ℕ, suc, List, [], ◌∷◌, ◌++◌, map, take as take_first, drop as drop_front}
-use Rattle.std.specs.Prelude.{All, remove}
+use Rattle.std.proofs.Common.{ℕ, suc, List, [], ◌∷◌, ◌++◌, map, take as take_first, drop as drop_front, All, remove}
 use Rattle.std.specs.List.{AllByRecursion}
 use Rattle.std.proofs.lemmas.List.Elements.{All-append, All-take, All-drop}
 

@@ -1,6 +1,5 @@
 -- What is gathered from lists by number is what they have.
-use Rattle.std.proofs.Common.{◌≡◌, ℕ, zero, suc, ◌<◌, inl, inr, List, [], refl, ap, subst, arith, ◌∙◌, ◌++◌}
-use Rattle.std.specs.Prelude.{Contains}
+use Rattle.std.proofs.Common.{◌≡◌, ℕ, zero, suc, ◌<◌, inl, inr, List, [], refl, ap, subst, arith, ◌∙◌, ◌++◌, Contains}
 use Rattle.std.proofs.lemmas.Bool.{cases_eq}
 use Rattle.std.proofs.lemmas.List.Elements.{Contains-append_left, Contains-append_right, Contains-append_cases}
 use Rattle.lt_lists.specs.Below.{gather_below}

@@ -1,7 +1,6 @@
 pub mod Sums
-pub mod EditedLists
-pub mod Searches
 pub mod Members
+pub mod Searches
 pub mod Gathering
 pub mod AllLemmas
 pub mod Puts

@@ -1,7 +1,6 @@
 -- What is in a list, and in what a filter or a map makes of it.
-use Rattle.std.proofs.Common.{◌≡◌, ℕ, zero, suc, ◌<◌, inl, inr, List, [], ◌∷◌, length, Bool, true, false, refl, sym, ap, arith, ◌∙◌, Option, Some, None}
-use Rattle.std.specs.Prelude.{◌⊎◌, if◌then◌else◌, All, Contains, filter, map, slice_index_or}
-use Rattle.std.specs.List.{list_any, filter_map, cons_option}
+use Rattle.std.proofs.Common.{◌≡◌, ℕ, zero, suc, ◌<◌, inl, inr, List, [], ◌∷◌, length, Bool, true, false, refl, sym, ap, arith, ◌∙◌, Option, Some, None, ◌⊎◌, if◌then◌else◌, All, Contains, filter, map, slice_index_or, remove, slice_set, filter_map}
+use Rattle.std.specs.List.{list_any, cons_option}
 use Rattle.std.proofs.lemmas.Bool.{or_cases, or_left, or_right}
 use Rattle.std.proofs.lemmas.List.Elements.{Contains-get_or}
 
@@ -117,3 +116,42 @@ nothing_in (x ∷ rest) none = absurd (none x (0, omega arith, refl))
 -- what holds of each member holds of all
 pub all_of : {X : Type 0} (P : X → Type 0) (xs : List X) → ((x : X) → Contains xs x → P x) → All P xs
 all_of P xs h k d within = h (slice_index_or xs k d) (Contains-get_or xs k d within)
+
+-- What stands in a list in which one place was written or left out.
+
+pub contains_set : {X : Type 0} (xs : List X) (k : ℕ) (y x : X) → Contains (slice_set xs k y) x → Contains xs x ⊎ (y ≡ x)
+contains_set [] zero y x h = absurd (omega (arith, h.1))
+contains_set [] (suc k) y x h = absurd (omega (arith, h.1))
+contains_set (first ∷ rest) zero y x h = elim (contains_cases y x rest h) [
+  | inl same ↦ inr same
+  | inr later ↦ inl (contains_later first x rest later)
+]
+contains_set (first ∷ rest) (suc k) y x h = elim (contains_cases first x (slice_set rest k y) h) [
+  | inl same ↦ inl (contains_first first x rest same)
+  | inr later ↦ elim (contains_set rest k y x later) [
+    | inl old ↦ inl (contains_later first x rest old)
+    | inr new ↦ inr new
+  ]
+]
+
+pub contains_removed : {X : Type 0} (xs : List X) (k : ℕ) (x : X) → Contains (remove xs k) x → Contains xs x
+contains_removed [] zero x h = absurd (omega (arith, h.1))
+contains_removed [] (suc k) x h = absurd (omega (arith, h.1))
+contains_removed (first ∷ rest) zero x h = contains_later first x rest h
+contains_removed (first ∷ rest) (suc k) x h = elim (contains_cases first x (remove rest k) h) [
+  | inl same ↦ contains_first first x rest same
+  | inr later ↦ contains_later first x rest (contains_removed rest k x later)
+]
+
+-- what doesn't stand at the place stays
+pub contains_left : {X : Type 0} (xs : List X) (k : ℕ) (x : X) → Contains xs x → (k < length xs → slice_index_or xs k x ≡ x → ⊥)
+    → Contains (remove xs k) x
+contains_left [] k x h other = absurd (omega (arith, h.1))
+contains_left (first ∷ rest) zero x h other = elim (contains_cases first x rest h) [
+  | inl same ↦ absurd (other (omega arith) same)
+  | inr later ↦ later
+]
+contains_left (first ∷ rest) (suc k) x h other = elim (contains_cases first x rest h) [
+  | inl same ↦ contains_first first x (remove rest k) same
+  | inr later ↦ contains_later first x (remove rest k) (contains_left rest k x later (λ within e. other (omega (arith, within)) e))
+]

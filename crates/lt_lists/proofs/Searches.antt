@@ -1,6 +1,5 @@
 -- What a search below a bound finds.
-use Rattle.std.proofs.Common.{◌≡◌, ◌≢◌, Bool, true, false, ℕ, zero, suc, ◌<◌, ◌+◌, Option, Some, None, inl, inr, refl, subst, sym, ap, ◌∙◌, arith}
-use Rattle.std.specs.Prelude.{◌||◌, if◌then◌else◌}
+use Rattle.std.proofs.Common.{◌≡◌, ◌≢◌, Bool, true, false, ℕ, zero, suc, ◌<◌, ◌+◌, Option, Some, None, inl, inr, refl, subst, sym, ap, ◌∙◌, arith, ◌||◌, if◌then◌else◌}
 use Rattle.std.proofs.lemmas.Bool.{cases_eq, cases_lt, or_left, or_right, false≢true}
 use Rattle.lt_lists.specs.Below.{any_below, count_below, first_below, earlier}
 

@@ -1,36 +1,97 @@
--- The run that stations made is one in which all sessions were served.
-use Rattle.std.proofs.Common.{◌≡◌, ◌<◌, ◌≤◌, ◌+◌, ◌*◌, ℕ, zero, suc, List, length, map, Some, filter, sym, ap, subst, arith, ◌∙◌}
-use Rattle.std.specs.Prelude.{slice_get}
-use Rattle.std.specs.Option.{option_map}
-use Rattle.std.proofs.Math.Nat.{mul-div-le, suc-mul}
-use Rattle.std.proofs.lemmas.List.{length-append}
+-- Replies and the lines that say them.
+use Rattle.std.proofs.Common.{◌≡◌, ◌==◌, ℕ, zero, suc, List, [], ◌∷◌, Bool, true, false, Option, Some, None, refl, sym, ap, ◌∙◌, slice_get, if◌then◌else◌, ◌<◌, ◌≤◌, ◌+◌, ◌*◌, length, map, filter, subst, arith, option_and_then, option_map, suc-mul, length-append}
+use Rattle.std.specs.List.{cons_option}
+use Rattle.std.proofs.Math.Nat.{mul-div-le}
 use Rattle.std.proofs.lemmas.Option.{same_Some, slice_get-map, slice_get_within}
 use mathlib.Core.List.{IsPrefix}
+use Rattle.lt_modes.specs.declared.event.Event.{Event}
+use Rattle.lt_modes.specs.declared.event.Event.TheVariants.{Grant, Wait, Try, Unlock, NotHeld as NoLock, Change, DropAll, Busy as Waiting, Copy, Freeze, Token}
 use Rattle.lt_modes.specs.declared.command.Command.{Command}
 use Rattle.lt_modes.specs.Script.{ScriptData}
-use Rattle.lt_spec.specs.declared.limits.TheConstants.{MAX_COMMANDS}
-use Rattle.lt_script.proofs.NameLemmas.{element_at}
 use Rattle.lt_lists.specs.Below.{sum_below}
-use Rattle.lt_spec.specs.Families.{commands_of, home}
 use Rattle.lt_spec.specs.Holdings.{lines_of}
-use Rattle.lt_spec.specs.Log.{Logged}
-use Rattle.lt_spec.specs.World.{is_of_node}
-use Rattle.lt_spec.specs.Commands.{with_commands}
+use Rattle.lt_spec.specs.World.{is_reply_to, replies_of, Logged, is_of_node}
+use Rattle.lt_spec.specs.declared.limits.TheConstants.{MAX_COMMANDS}
+use Rattle.lt_spec.specs.NodeMove.{commands_of, home, with_commands}
+use Rattle.lt_script.proofs.NameLemmas.{element_at}
+use Rattle.lt_law_invariant.proofs.FewAsks.{whole}
+use Rattle.lt_law_own_lines.proofs.OwnRuns.{replies_of_log}
+use Rattle.lt_law_plays.specs.Merged.{Part, logs_of, part_at, merged}
+use Rattle.lt_law_merged.specs.JoinedRun.{IsJoinedRun}
+use Rattle.lt_law_merged.proofs.PartLogs.{joined_merges, part_is}
+use Rattle.lt_mail.specs.Words.{Alike}
 use Rattle.lt_runner.specs.declared.parts.Parts.{Parts}
-use Rattle.lt_threads.specs.Shares.{AreShares, ShareScript, AreTooMany, IsSharedRun, commands_in}
-use Rattle.lt_threads.proofs.Shares.{same_in_joined}
+use Rattle.lt_runner.specs.Kept.{SameRunner, AsSeen}
+use Rattle.lt_threads.specs.Meeting.{AreShares, ShareScript, AreTooMany, IsSharedRun, commands_in, part_of, IsCrew, crew_run, IsJoined}
+use Rattle.lt_threads.proofs.Shares.{same_in_joined, joined_crew}
+use Rattle.lt_threads.proofs.Each.{each_weaker}
+use Rattle.lt_threads.proofs.Logs.{crew_last, SameLog, same_run}
+use Rattle.lt_threads.proofs.Joined.{joined}
+use Rattle.lt_threads.proofs.Shown.{part_here}
 use Rattle.lt_live.specs.declared.reply.Reply.{Reply}
+use Rattle.lt_live.specs.declared.reply.Reply.TheVariants.{Granted, True, False, Unlocked, NotHeld, Changed, Dropped, Busy}
+use Rattle.lt_live.specs.Seats.{told_if, reply_to, replies_in, IsServedSession}
+use Rattle.lt_live.specs.Live.{RepliesOfLines, RepliesInLog, AreLive, LiveScript, IsServedRun, ServedBy, SaysSame, Settled, SharedNow, ServedNow}
 use Rattle.lt_live.specs.declared.ends.Session.{Session}
-use Rattle.lt_live.specs.Replies.{replies_in}
 use Rattle.lt_live.specs.Words.{submitted, polled}
-use Rattle.lt_live.specs.Seats.{IsServedSession}
-use Rattle.lt_live.specs.Stations.{StationData}
-use Rattle.lt_live.specs.Opened.{equal_share, runner_of}
-use Rattle.lt_live.specs.Live.{AreLive, LiveScript}
-use Rattle.lt_live.specs.Finished.{IsServedRun, ServedBy, SaysSame, Settled}
-use Rattle.lt_law_invariant.proofs.Within.{whole}
-use Rattle.lt_live.proofs.AlikeLists.{alike_after, alike_len}
-use Rattle.lt_live.proofs.ReplyLemmas.{replies_in_log}
+use Rattle.lt_live.specs.Stations.{StationData, equal_share, runner_of}
+use Rattle.lt_live.proofs.SeatLists.{alike_after, alike_len}
+
+-- the line is no reply to the client, and says nothing to it; or it is one, and says this
+abbrev Says : Bool → Option Reply → Type 0
+Says false said = said ≡ None
+Says true said = (reply : Reply) × (said ≡ Some reply)
+
+says_if : (client other : ℕ) (reply : Reply) → Says (other == client) (told_if client other reply)
+says_if client other reply = by_test (other == client)
+  where
+    by_test : (t : Bool) → Says t (if t then Some reply else None)
+    by_test true = (reply, refl)
+    by_test false = refl
+
+says : (client : ℕ) (line : Event) → Says (is_reply_to client line) (reply_to client line)
+says client (Grant other s mode) = says_if client other Granted
+says client (Wait other s mode) = refl
+says client (Try other s mode got) = says_if client other (if got then True else False)
+says client (Unlock other s mode) = says_if client other Unlocked
+says client (NoLock other s mode) = says_if client other NotHeld
+says client (Change other s gives_up mode) = says_if client other Changed
+says client (DropAll other whose s count) = says_if client other (Dropped count)
+says client (Waiting other whose s) = says_if client other Busy
+says client (Copy s to other mode) = refl
+says client (Freeze s to number modes) = refl
+says client (Token s to epoch) = refl
+
+pub replies_of_lines : RepliesOfLines
+replies_of_lines client [] k = refl
+replies_of_lines client (line ∷ rest) k =
+    by_test (is_reply_to client line) (reply_to client line) refl (says client line) (λ j. replies_of_lines client rest j) k
+  where
+    by_test : (t : Bool) (said : Option Reply) → reply_to client line ≡ said → Says t said
+        → ((j : ℕ) → slice_get (replies_in client rest) j ≡ option_and_then (reply_to client) (slice_get (replies_of client rest) j))
+        → (j : ℕ) → slice_get (cons_option said (replies_in client rest)) j
+        ≡ option_and_then (reply_to client) (slice_get (if t then line ∷ replies_of client rest else replies_of client rest) j)
+    by_test true None e h again j = absurd (cc)
+    by_test true (Some reply) e h again zero = sym e
+    by_test true (Some reply) e h again (suc j) = again j
+    by_test false None e h again j = again j
+    by_test false (Some reply) e h again j = absurd (cc)
+
+-- only the lines of replies say something
+of_replies : (client : ℕ) (lines : List Event) → replies_in client (replies_of client lines) ≡ replies_in client lines
+of_replies client [] = refl
+of_replies client (line ∷ rest) = by_test (is_reply_to client line) (says client line) (of_replies client rest)
+  where
+    by_test : (t : Bool) → Says t (reply_to client line) → replies_in client (replies_of client rest) ≡ replies_in client rest
+        → replies_in client (if t then line ∷ replies_of client rest else replies_of client rest) ≡ cons_option (reply_to client line) (replies_in client rest)
+    by_test true h again = ap (λ (list : List Reply). cons_option (reply_to client line) list) again
+    by_test false h again = again ∙ sym (ap (λ (said : Option Reply). cons_option said (replies_in client rest)) h)
+
+pub replies_in_log : RepliesInLog
+replies_in_log script run log whole is_run client own =
+    sym (of_replies client (lines_of run)) ∙ ap (replies_in client) (replies_of_log script run log whole is_run client own) ∙ of_replies client (lines_of log)
+
+-- The run that stations made is one in which all sessions were served.
 
 -- so many numbers, each of which is at most this one
 sum_few : (n most : ℕ) (f : ℕ → ℕ) → ((k : ℕ) → k < n → f k ≤ most) → sum_below n f ≤ n * most
@@ -154,3 +215,42 @@ pub finishes : (stations later : List StationData) (sessions after : List Sessio
     → (script : ScriptData) → AreLive script stations sessions → IsServedRun script sessions made run
 finishes stations later sessions after rs made run settled taken shared script live =
     served_run script stations later sessions after rs (settled script live) taken made run shared
+
+-- The run that stations have made so far, though nobody merged their logs.
+
+pub shared_now : SharedNow
+shared_now script rs looked shares is_script seen met kept = record {
+  joined = whole;
+  is_run = run.is_run;
+  rising = run.is_merged.rising;
+  is_crew_run = same_run made rs looked (each_weaker AsSeen SameLog (λ a b s. s.log) rs looked seen);
+  moves = λ k p e. run.is_merged.parts k ∙ own k p e;
+}
+  where
+    made : ScriptData
+    made = with_commands script (commands_in rs)
+
+    whole : IsJoined rs made
+    whole = joined_crew script made rs shares refl is_script
+
+    crew : IsCrew made looked
+    crew = crew_last made rs looked (each_weaker AsSeen SameRunner (λ a b s. s.same) rs looked seen) whole.crew
+
+    run : IsJoinedRun made (map part_of looked) (merged made.nodes (logs_of made (map part_of looked)).log)
+    run = joined_merges made (map part_of looked) (joined made looked crew kept met)
+
+    own : (k : ℕ) (p : Parts) → slice_get rs k ≡ Some p → (part_at made (map part_of looked) k).log ≡ p.log.entries
+    own k p e = by_place (slice_get looked k) refl (subst (λ (o : Option Parts). Alike AsSeen o (slice_get looked k)) e (seen k))
+      where
+        by_place : (o : Option Parts) → slice_get looked k ≡ o → Alike AsSeen (Some p) (slice_get looked k) → (part_at made (map part_of looked) k).log ≡ p.log.entries
+        by_place None f a = absurd (subst (λ (o : Option Parts). Alike AsSeen (Some p) o) f a)
+        by_place (Some q) f a =
+            let seen_too : AsSeen p q = subst (λ (o : Option Parts). Alike AsSeen (Some p) o) f a in
+            ap (λ (part : Part). part.log) (part_is made (map part_of looked) k (part_of q) (part_here looked k q f)) ∙ seen_too.log
+
+pub served_now : ServedNow
+served_now script stations later sessions after looked settled is_script seen met kept =
+    let rs = map runner_of later in
+    let made = with_commands script (commands_in rs) in
+    let shared = shared_now script rs looked settled.live.runners is_script seen met kept in
+    (made, crew_run made looked, served_run script stations later sessions after rs settled refl made (crew_run made looked) shared)

@@ -1,25 +1,121 @@
--- A station stays one.
-use Rattle.std.proofs.Common.{◌≡◌, ◌≢◌, ◌<◌, ℕ, List, [], ◌∷◌, ◌++◌, length, Some, None, refl, sym, ap, subst, ◌∙◌, inl, inr, Bool, if◌then◌else◌}
-use Rattle.std.specs.Prelude.{slice_get, slice_set}
-use Rattle.std.proofs.lemmas.Bool.{cases_eq, eq-eqb, ne_eqb}
-use Rattle.std.proofs.lemmas.List.{append-nil}
+-- A station gets its seats.
+use Rattle.std.proofs.Common.{◌≡◌, ℕ, List, [], ◌∷◌, ◌++◌, length, Some, sym, ap, subst, ◌∙◌, inl, inr, ◌<◌, zero, suc, take, refl, arith, ◌≢◌, None, Bool, if◌then◌else◌, ◌⊎◌, slice_get, slice_set, append_assoc, append-nil, eq-eqb, ne_eqb}
+use Rattle.std.proofs.lemmas.Bool.{cases_eq}
 use Rattle.std.proofs.lemmas.Option.{same_Some, slice_get_within}
-use Rattle.lt_lists.proofs.AllLemmas.{all_append}
+use mathlib.Core.List.{IsPrefix}
 use Rattle.lt_modes.specs.declared.command.Command.{Command}
+use Rattle.lt_modes.specs.declared.event.Event.{Event}
 use Rattle.lt_modes.specs.Script.{ScriptData}
-use Rattle.lt_spec.specs.Families.{commands_of, home}
-use Rattle.lt_spec.specs.Commands.{AreAt, appended}
+use Rattle.lt_lists.proofs.AllLemmas.{all_append}
+use Rattle.lt_spec.specs.NodeMove.{AreAt, commands_of, home, appended}
+use Rattle.lt_spec.specs.Holdings.{lines_of}
+use Rattle.lt_spec.specs.World.{Logged}
 use Rattle.lt_law_plays.proofs.Appending.{appended_commands}
 use Rattle.lt_runner.specs.declared.parts.Parts.{Parts}
-use Rattle.lt_runner.specs.Kept.{Grew}
-use Rattle.lt_runner.specs.Appended.{with_appended}
+use Rattle.lt_runner.specs.Kept.{Grew, with_appended}
 use Rattle.lt_live.specs.declared.ends.Seat.{Seat}
+use Rattle.lt_live.specs.Stations.{IsSeatOf, IsStation, AreOthers, EachSeat, MayHandOver, HandMayGo}
+use Rattle.lt_live.proofs.SeatLists.{pushed, none_here, set_here, set_other, each_before}
+use Rattle.lt_live.specs.Seats.{replies_in, lines_at, lines_up_to, IsCursor, TakesIn, TellsSeat, IsSeat}
 use Rattle.lt_live.specs.Words.{command_held}
-use Rattle.lt_live.specs.Seats.{TakesIn, TellsSeat}
-use Rattle.lt_live.specs.Stations.{IsSeatOf, IsStation, EachSeat, MayHandOver, HandMayGo}
-use Rattle.lt_live.proofs.Places.{set_here, set_other}
-use Rattle.lt_live.proofs.SeatLists.{each_before}
-use Rattle.lt_live.proofs.KeptSeats.{seat_of_grew, seat_of_taken, seat_of_told}
+
+-- before the first seat
+pub station_first : (p : Parts) → AreAt p.node.script p.node.me p.node.script.commands → IsStation p []
+station_first p own = record {
+  each = λ k seat e. none_here k seat e;
+  apart = λ j k x y e f same. none_here j x e;
+  own = own;
+}
+
+-- one seat more
+pub station_more : (p : Parts) (seats : List Seat) (seat : Seat) → IsStation p seats → IsSeatOf p seat → AreOthers seat.client seats → IsStation p (seats ++ seat ∷ [])
+station_more p seats seat h here others = record {
+  each = λ k x e. each k x (pushed seats seat k x e);
+  apart = λ j k x y e f same. apart j k x y (pushed seats seat j x e) (pushed seats seat k y f) same;
+  own = h.own;
+}
+  where
+    each : (k : ℕ) (x : Seat) → (slice_get seats k ≡ Some x) ⊎ ((k ≡ length seats) × (seat ≡ x)) → IsSeatOf p x
+    each k x (inl old) = h.each k x old
+    each k x (inr new) = subst (λ (s : Seat). IsSeatOf p s) new.1 here
+
+    apart : (j k : ℕ) (x y : Seat) → (slice_get seats j ≡ Some x) ⊎ ((j ≡ length seats) × (seat ≡ x))
+        → (slice_get seats k ≡ Some y) ⊎ ((k ≡ length seats) × (seat ≡ y)) → x.client ≡ y.client → j ≡ k
+    apart j k x y (inl e) (inl f) same = h.apart j k x y e f same
+    apart j k x y (inl e) (inr f) same = absurd (others j x e (same ∙ ap (λ (s : Seat). s.client) (sym f.1)))
+    apart j k x y (inr e) (inl f) same = absurd (others k y f (sym same ∙ ap (λ (s : Seat). s.client) (sym e.1)))
+    apart j k x y (inr e) (inr f) same = e.0 ∙ sym f.0
+
+-- A seat stays one of its runner's.
+
+-- what a client was told of a log is what it was told of a longer one
+pub more_lines : (log more : List Logged) (moves lines : ℕ) → IsCursor log moves lines
+    → (lines_up_to (log ++ more) moves lines ≡ lines_up_to log moves lines) × IsCursor (log ++ more) moves lines
+more_lines [] more zero zero h = (refl, record { inside = omega arith; within = omega arith })
+more_lines [] more zero (suc lines) h = let within = h.within in absurd (omega (arith, within))
+more_lines [] more (suc moves) lines h = let inside = h.inside in absurd (omega (arith, inside))
+more_lines (entry ∷ rest) more zero lines h = (refl, record { inside = omega arith; within = h.within })
+more_lines (entry ∷ rest) more (suc moves) lines h =
+    let inside = h.inside in
+    let (same, cursor) = more_lines rest more moves lines (record { inside = omega (arith, inside); within = h.within }) in
+    let inside_too = cursor.inside in (
+      append_assoc entry.events (lines_of (take moves (rest ++ more))) (take lines (lines_at (rest ++ more) moves))
+          ∙ ap (λ (list : List Event). entry.events ++ list) same
+          ∙ sym (append_assoc entry.events (lines_of (take moves rest)) (take lines (lines_at rest moves))),
+      record { inside = omega (arith, inside_too); within = cursor.within },
+    )
+
+pub seat_grew : (list : List Command) (log later : List Logged) (client : ℕ) (seat : Seat) → IsPrefix log later → IsSeat list log client seat → IsSeat list later client seat
+seat_grew list log later client seat goes h =
+    let (same, cursor) = more_lines log goes.0 seat.moves seat.lines h.cursor in
+    subst (λ (entries : List Logged). IsSeat list entries client seat) goes.1
+    (record { client_is = h.client_is; taken = h.taken; told = h.told ∙ ap (replies_in client) (sym same); cursor = cursor })
+
+pub seat_of_grew : (a b : Parts) (seat : Seat) → b.node.script ≡ a.node.script → b.node.me ≡ a.node.me → IsPrefix a.log.entries b.log.entries
+    → IsSeatOf a seat → IsSeatOf b seat
+seat_of_grew a b seat same me goes h = record {
+  client = subst (λ (s : ScriptData). seat.client < length s.clients) (sym same) h.client;
+  home = ap (λ (s : ScriptData). home s seat.client) same ∙ h.home ∙ sym me;
+  kept = subst (λ (s : ScriptData). IsSeat (commands_of s seat.client) b.log.entries seat.client seat) (sym same)
+      (seat_grew (commands_of a.node.script seat.client) a.log.entries b.log.entries seat.client seat goes h.kept);
+  places = h.places;
+}
+
+-- the seat of the same client, with the same rings
+pub seat_of : (p : Parts) (s t : Seat) → IsSeatOf p s → t.client ≡ s.client → t.replies.capacity ≡ s.replies.capacity
+    → IsSeat (commands_of p.node.script s.client) p.log.entries s.client t → IsSeatOf p t
+seat_of p s t h client capacity kept = record {
+  client = subst (λ (c : ℕ). c < length p.node.script.clients) (sym client) h.client;
+  home = ap (home p.node.script) client ∙ h.home;
+  kept = subst (λ (c : ℕ). IsSeat (commands_of p.node.script c) p.log.entries c t) (sym client) kept;
+  places = subst (λ (n : ℕ). 0 < n) (sym capacity) h.places;
+}
+
+pub seat_of_taken : (p : Parts) (s t : Seat) → IsSeatOf p s → TakesIn s t → IsSeatOf p t
+seat_of_taken p s t h takes =
+    seat_of p s t h takes.same.client takes.same.replies.1
+    (record {
+      client_is = takes.same.client;
+      taken = takes.taken (commands_of p.node.script s.client) h.kept.taken;
+      told = takes.told ∙ h.kept.told
+          ∙ sym (ap (λ (k : ℕ). replies_in s.client (lines_up_to p.log.entries k t.lines)) takes.cursor.0
+          ∙ ap (λ (k : ℕ). replies_in s.client (lines_up_to p.log.entries s.moves k)) takes.cursor.1);
+      cursor = subst (λ (k : ℕ). IsCursor p.log.entries k t.lines) (sym takes.cursor.0)
+          (subst (λ (k : ℕ). IsCursor p.log.entries s.moves k) (sym takes.cursor.1) h.kept.cursor);
+    })
+
+pub seat_of_told : (p : Parts) (s t : Seat) → IsSeatOf p s → TellsSeat p.log.entries s t → IsSeatOf p t
+seat_of_told p s t h tells =
+    let rest = tells.on.rest in
+    seat_of p s t h rest.same.client rest.same.replies.1
+    (record {
+      client_is = rest.same.client;
+      taken = rest.taken ∙ (h.kept.taken ∙ ap (λ hand. commands_of p.node.script s.client ++ command_held hand) (sym rest.hand));
+      told = tells.on.told h.kept.told;
+      cursor = tells.on.cursor;
+    })
+
+-- A station stays one.
 
 -- the seat at this place was one of the runner's, and is one of a runner's
 pub record Stays (a b : Parts) (old : List Seat) (k : ℕ) (seat : Seat) : Type 0 where

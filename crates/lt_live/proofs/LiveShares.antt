@@ -1,18 +1,15 @@
 -- Runners that each append commands stay runners of one script.
-use Rattle.std.proofs.Common.{◌≡◌, ◌≤◌, ℕ, List, [], Option, Some, None, refl, sym, ap, subst, ◌∙◌}
-use Rattle.std.specs.Prelude.{◌<◌, slice_get}
+use Rattle.std.proofs.Common.{◌≡◌, ◌≤◌, ℕ, List, [], Option, Some, None, refl, sym, ap, subst, ◌∙◌, ◌<◌, slice_get}
 use Rattle.lt_modes.specs.declared.command.Command.{Command}
 use Rattle.lt_modes.specs.Script.{ScriptData}
-use Rattle.lt_spec.specs.Commands.{with_commands, AreAt}
+use Rattle.lt_spec.specs.NodeMove.{with_commands, AreAt}
 use Rattle.lt_spec.specs.declared.moves.TheConstants.{MAX_MOVES}
-use Rattle.lt_mail.specs.Lanes.{OutLane}
+use Rattle.lt_mail.specs.Words.{OutLane, out_at, in_at, Alike, Both, IsOpenLink, SameOut, SameIn}
 use Rattle.lt_mail.specs.declared.lane.InLane.{InLane}
-use Rattle.lt_mail.proofs.MailLemmas.{ends_join}
-use Rattle.lt_mail.specs.Words.{out_at, in_at, Alike, Both, IsOpenLink, SameOut, SameIn}
+use Rattle.lt_mail.proofs.LookLemmas.{ends_join}
 use Rattle.lt_runner.specs.declared.parts.Parts.{Parts}
-use Rattle.lt_threads.specs.Together.{EachIs}
-use Rattle.lt_threads.specs.Starting.{IsFirstCrew}
-use Rattle.lt_threads.specs.Shares.{AreShares, InShares}
+use Rattle.lt_threads.specs.Meeting.{EachIs, AreShares, InShares}
+use Rattle.lt_threads.specs.Pushes.{IsFirstCrew}
 use Rattle.lt_threads.proofs.Each.{ends_same, each_before, each_len}
 use Rattle.lt_live.specs.Live.{GoesOn}
 

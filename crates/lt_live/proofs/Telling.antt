@@ -1,18 +1,117 @@
--- Replies go into a ring line by line.
-use Rattle.std.proofs.Common.{◌≡◌, ℕ, zero, suc, ◌+◌, ◌<◌, List, [], ◌∷◌, ◌++◌, Some, None, Option, refl, sym, ap, arith, rules, ◌∙◌, length, take, slice_get, slice_index_or}
-use Rattle.std.specs.Option.{option_map}
-use Rattle.std.proofs.lemmas.List.{append-nil, append_assoc, take_more, take_all}
+-- What a session polled answers what was submitted there.
+use Rattle.std.proofs.Common.{◌≡◌, ◌<◌, ◌≤◌, ℕ, suc, List, [], ◌∷◌, length, Option, Some, None, refl, sym, ap, subst, ◌∙◌, arith, zero, ◌++◌, take, drop, ◌+◌, rules, slice_index_or, inl, inr, slice_get, option_and_then, option_map, append_assoc, take-append-drop, append-nil, take_all}
+use Rattle.std.proofs.Math.Seq.{take-length}
+use Rattle.std.proofs.lemmas.Option.{slice_get_within}
+use Rattle.std.proofs.lemmas.List.{take_more}
 use Rattle.std.proofs.lemmas.List.Elements.{filter_map-append}
+use mathlib.Core.List.{IsPrefix}
+use Rattle.lt_modes.specs.declared.command.Command.{Command}
 use Rattle.lt_modes.specs.declared.event.Event.{Event}
+use Rattle.lt_spec.specs.NodeMove.{commands_of}
 use Rattle.lt_spec.specs.Holdings.{lines_of}
-use Rattle.lt_spec.specs.Log.{Logged}
-use Rattle.lt_merge.specs.Run.{events_at}
+use Rattle.lt_spec.specs.World.{Logged, replies_of}
+use Rattle.lt_spec.specs.Script.{AnswersInTurn}
+use Rattle.lt_script.proofs.RoundTrips.{get_in_front}
+use Rattle.lt_merge.specs.Merging.{events_at}
+use Rattle.lt_law_invariant.proofs.FewAsks.{whole}
+use Rattle.lt_law_replies.proofs.ReplyRuns.{replies_in_turn}
+use Rattle.lt_runner.specs.declared.parts.Parts.{Parts}
+use Rattle.lt_runner.specs.declared.turning.Turned.{Turned}
 use Rattle.lt_live.specs.declared.reply.Reply.{Reply}
+use Rattle.lt_live.specs.Seats.{reply_to, replies_in, lines_at, lines_up_to, IsSeat, KnowAll, LooksBeside, IsSettledSeat, lines_if, OnlyTells, TellsMove, TellsOn}
+use Rattle.lt_live.specs.Words.{submitted, polled, known_commands, known_replies, command_held, SameSeat, IsLink, SameSession}
+use Rattle.lt_live.specs.Live.{IsReplyTo, PolledInTurn, NoMoreThanSubmitted}
+use Rattle.lt_live.proofs.Finished.{replies_of_lines}
+use Rattle.lt_live.specs.declared.ends.Session.{Session}
 use Rattle.lt_live.specs.declared.ends.Seat.{Seat}
-use Rattle.lt_live.specs.Replies.{reply_to, replies_in}
-use Rattle.lt_live.specs.Words.{SameSeat}
-use Rattle.lt_live.specs.Cursor.{lines_if, lines_at, lines_up_to}
-use Rattle.lt_live.specs.Seats.{OnlyTells, TellsMove, TellsOn}
+use Rattle.lt_live.specs.Stations.{HandMayGo, SeatTurns, StationTurns, IsSeated, StaySeated, SeatLooks}
+use Rattle.lt_live.proofs.SeatLists.{each_after}
+
+in_prefix : {X : Type 0} (xs ys : List X) → IsPrefix xs ys → (k : ℕ) (x : X) → slice_get xs k ≡ Some x → slice_get ys k ≡ Some x
+in_prefix xs ys h k x at =
+    ap (λ list. slice_get list k) (sym h.1) ∙ get_in_front xs h.0 k (slice_get_within xs k x at) ∙ at
+
+-- a reply is told by a line at its place
+module _ (client : ℕ) (commands given : List Command) (lines : List Event) (k : ℕ) (reply : Reply)
+    (in_turn : AnswersInTurn client commands (replies_of client lines)) (made : IsPrefix commands given) where
+  by_line : (found : Option Event) → slice_get (replies_of client lines) k ≡ found → option_and_then (reply_to client) found ≡ Some reply
+      → (command : Command) × (slice_get given k ≡ Some command) × IsReplyTo client command reply
+  by_line None at said = absurd (cc)
+  by_line (Some line) at said =
+      let answers = in_turn k line at in
+      (answers.0, in_prefix commands given made k answers.0 answers.1, (line, answers.2, said))
+
+pub polled_in_turn : PolledInTurn
+polled_in_turn first script sessions run served client s here k reply at =
+    let one = served.each client s here in
+    let turn : AnswersInTurn client (commands_of script client) (replies_of client (lines_of run)) =
+    subst (λ (list : List Logged). AnswersInTurn client (commands_of script client) (replies_of client (lines_of list))) (take-length run)
+    (replies_in_turn script run (whole script served.is_script) served.is_run (length run) client) in
+    let told : slice_get (replies_in client (lines_of run)) k ≡ Some reply = in_prefix (polled s) (replies_in client (lines_of run)) one.replies k reply at in
+    by_line client (commands_of script client) (submitted s) (lines_of run) k reply turn one.commands
+    (slice_get (replies_of client (lines_of run)) k) refl (sym (replies_of_lines client (lines_of run) k) ∙ told)
+
+-- a list that is no longer than another has at each of its places something of the other
+no_longer : {X Y : Type 0} (xs : List X) (ys : List Y) → ((k : ℕ) (x : X) → slice_get xs k ≡ Some x → k < length ys) → length xs ≤ length ys
+no_longer [] ys h = omega arith
+no_longer (x ∷ xs) [] h = let none = h 0 x refl in omega (arith, none)
+no_longer (x ∷ xs) (y ∷ ys) h =
+    let less = no_longer xs ys (λ k z at. let below = h (suc k) z at in omega (arith, below)) in omega (arith, less)
+
+pub no_more_than_submitted : NoMoreThanSubmitted
+no_more_than_submitted first script sessions run served client s here =
+    no_longer (polled s) (submitted s) (λ k reply at.
+    let answered = polled_in_turn first script sessions run served client s here k reply at in
+    slice_get_within (submitted s) k answered.0 answered.1)
+
+-- What the two ends of a session say of commands and replies.
+
+-- the lines so far are the first ones of the log
+pub first_lines : (log : List Logged) (moves lines : ℕ) → IsPrefix (lines_up_to log moves lines) (lines_of log)
+first_lines [] zero lines = (drop lines [], take-append-drop lines [])
+first_lines [] (suc moves) lines = (drop lines [], take-append-drop lines [])
+first_lines (entry ∷ rest) zero lines = (
+  drop lines entry.events ++ lines_of rest,
+  sym (append_assoc (take lines entry.events) (drop lines entry.events) (lines_of rest))
+      ∙ ap (λ (list : List Event). list ++ lines_of rest) (take-append-drop lines entry.events),
+)
+first_lines (entry ∷ rest) (suc moves) lines =
+    let more = first_lines rest moves lines in
+    let first = lines_of (take moves rest) in
+    let next = take lines (lines_at rest moves) in (
+      more.0,
+      ap (λ (list : List Event). list ++ more.0) (append_assoc entry.events first next)
+          ∙ append_assoc entry.events (first ++ next) more.0
+          ∙ ap (λ (list : List Event). entry.events ++ list) more.1,
+    )
+
+-- what was told are the first ones of the client's replies in the log
+told_first : (client : ℕ) (log : List Logged) (moves lines : ℕ) → IsPrefix (replies_in client (lines_up_to log moves lines)) (replies_in client (lines_of log))
+told_first client log moves lines =
+    let first = first_lines log moves lines in
+    (replies_in client first.0, sym (filter_map-append (reply_to client) (lines_up_to log moves lines) first.0) ∙ ap (replies_in client) first.1)
+
+pub is_settled : (list : List Command) (log : List Logged) (s t : Session) (a b : Seat) → IsSeat list log a.client a → LooksBeside log s t a b → KnowAll t b
+    → IsSettledSeat list (lines_of log) a.client s t b
+is_settled list log s t a b kept looks beside =
+    let all : submitted t ≡ (list ++ command_held b.hand) ++ known_commands b =
+    sym beside.commands
+    ∙ ap (λ (commands : List Command). commands ++ known_commands b) (looks.taken.0 ∙ (kept.taken ∙ ap (λ hand. list ++ command_held hand) (sym looks.taken.1))) in
+    let told = told_first a.client log b.moves b.lines in
+    record {
+      served = record {
+        commands = (command_held b.hand ++ known_commands b, sym (append_assoc list (command_held b.hand) (known_commands b)) ∙ sym all);
+        replies = (
+          known_replies t ++ told.0,
+          sym (append_assoc (polled t) (known_replies t) told.0)
+              ∙ (ap (λ (replies : List Reply). replies ++ told.0) (beside.replies ∙ looks.told kept.told) ∙ told.1),
+        );
+      };
+      all = all;
+      same = looks.submitted.0;
+    }
+
+-- Replies go into a ring line by line.
 
 pub same_seats : (a b d : Seat) → SameSeat a b → SameSeat b d → SameSeat a d
 same_seats a b d first second = record {
@@ -100,3 +199,44 @@ tells_next log lines a d on inside e done = record {
         ∙ sym (lines_more log d.moves lines e)
         ∙ sym (append-nil (lines_of (take (suc d.moves) log)))
         ∙ ap (λ (k : ℕ). lines_of (take k log) ++ []) next
+
+-- The two ends of a session stay the ends of one.
+
+pub link_seat : (s : Session) (x y : Seat) → SameSeat x y → IsLink s x → IsLink s y
+link_seat s x y same link = (same.client ∙ link.0, search rules, search rules)
+
+link_session : (s t : Session) (x : Seat) → SameSession s t → IsLink s x → IsLink t x
+link_session s t x same link = (link.0 ∙ sym same.client, search rules, search rules)
+
+same_gone : (x y : Seat) → HandMayGo x y → SameSeat x y
+same_gone x y (inl gone) =
+    subst (λ (seat : Seat). SameSeat x seat) (sym gone)
+    (record { client = refl; commands = ((refl, refl, refl, refl), refl); replies = ((refl, refl, refl, refl), refl) })
+same_gone x y (inr still) =
+    subst (λ (seat : Seat). SameSeat x seat) (sym still)
+    (record { client = refl; commands = ((refl, refl, refl, refl), refl); replies = ((refl, refl, refl, refl), refl) })
+
+same_turned : (log : List Logged) (x y : Seat) → SeatTurns log x y → SameSeat x y
+same_turned log x y h = same_seats x h.held y h.takes.same (same_seats h.held h.left y (same_gone h.held h.left h.hand) h.tells.on.rest.same)
+
+-- a turn leaves them so
+pub seats_stay : (turned : Turned) (a : Parts) (seats : List Seat) (b : Parts) (later : List Seat) → StationTurns turned a seats b later → StaySeated seats later
+seats_stay turned a seats b later h s seated =
+    let (y, here, one) = each_after (SeatTurns b.log.entries) seats later h.each s.place seated.seat seated.here in
+    record { seat = y; here = here; link = link_seat s seated.seat y (same_turned b.log.entries seated.seat y one) seated.link }
+
+-- and so does what its caller does
+pub session_stays : (s t : Session) (seats : List Seat) → SameSession s t → IsSeated s seats → IsSeated t seats
+session_stays s t seats same seated = record {
+  seat = seated.seat;
+  here = ap (slice_get seats) same.place ∙ seated.here;
+  link = link_session s t seated.seat same seated.link;
+}
+
+-- and a look at both
+pub looked_stays : (log : List Logged) (s t : Session) (old new : List Seat) → SeatLooks log s t old new → IsSeated t new
+looked_stays log s t old new h = record {
+  seat = h.y;
+  here = ap (slice_get new) h.looks.session.place ∙ h.now;
+  link = h.link;
+}

@@ -1,15 +1,4 @@
-pub mod Replies
-pub mod Asking
-pub mod Words
-pub mod Cursor
 pub mod Seats
-pub mod ReplyLaws
 pub mod Stations
-pub mod Opened
+pub mod Words
 pub mod Live
-pub mod LiveLaws
-pub mod Finished
-pub mod NowLaws
-pub mod Same
-pub mod Visits
-pub mod Answered

@@ -1,16 +1,60 @@
--- What a station keeps of a session, and what it does with it.
-use Rattle.std.specs.Prelude.{◌≡◌, ◌≤◌, ◌+◌, ◌⊎◌, Bool, true, false, ℕ, List, [], ◌∷◌, ◌++◌, Some, None, length, take}
+-- How far a client was told of a log.
+use Rattle.std.specs.Prelude.{◌≤◌, ℕ, List, [], ◌++◌, Option, Some, None, length, take, slice_get, ◌==◌, if◌then◌else◌, ◌≡◌, ◌+◌, ◌⊎◌, Bool, true, false, ◌∷◌, filter_map}
 use mathlib.Core.List.{IsPrefix}
 use Rattle.rtrb.specs.Ring.{known_free}
-use Rattle.lt_modes.specs.declared.command.Command.{Command}
 use Rattle.lt_modes.specs.declared.event.Event.{Event}
-use Rattle.lt_spec.specs.Log.{Logged}
+use Rattle.lt_modes.specs.declared.event.Event.TheVariants.{Grant, Wait, Try, Unlock, NotHeld as NoLock, Change, DropAll, Busy as Waiting, Copy, Freeze, Token}
+use Rattle.lt_modes.specs.declared.command.Command.{Command}
+use Rattle.lt_spec.specs.Holdings.{lines_of}
+use Rattle.lt_spec.specs.World.{Logged}
 use Rattle.lt_live.specs.declared.reply.Reply.{Reply}
+use Rattle.lt_live.specs.declared.reply.Reply.TheVariants.{Granted, True, False, Unlocked, NotHeld, Changed, Dropped, Busy}
 use Rattle.lt_live.specs.declared.ends.Session.{Session}
 use Rattle.lt_live.specs.declared.ends.Seat.{Seat}
-use Rattle.lt_live.specs.Replies.{replies_in}
 use Rattle.lt_live.specs.Words.{submitted, polled, known_replies, taken, known_commands, told_to, command_held, SameSession, SameSeat}
-use Rattle.lt_live.specs.Cursor.{lines_up_to, IsCursor}
+
+abbrev pub lines_if : Option Logged → List Event
+lines_if None = []
+lines_if (Some entry) = entry.events
+
+-- the lines of the move at this place; none where the log has no such move
+abbrev pub lines_at : List Logged → ℕ → List Event
+lines_at log k = lines_if (slice_get log k)
+
+-- the lines of the first moves, and so many of the next one
+abbrev pub lines_up_to : List Logged → ℕ → ℕ → List Event
+lines_up_to log moves lines = lines_of (take moves log) ++ take lines (lines_at log moves)
+
+-- the log has so many moves, and the next one so many lines
+pub record IsCursor (log : List Logged) (moves lines : ℕ) : Type 0 where
+  pub inside : moves ≤ length log
+  pub within : lines ≤ length (lines_at log moves)
+
+-- What lines say to a client.
+
+-- the reply, where the client is this one
+abbrev pub told_if : ℕ → ℕ → Reply → Option Reply
+told_if client other reply = if other == client then Some reply else None
+
+-- what the line says to the client: of a drop and of a busy one, to the first client that it names; to wait is no reply
+abbrev pub reply_to : ℕ → Event → Option Reply
+reply_to client (Grant other s mode) = told_if client other Granted
+reply_to client (Wait other s mode) = None
+reply_to client (Try other s mode got) = told_if client other (if got then True else False)
+reply_to client (Unlock other s mode) = told_if client other Unlocked
+reply_to client (NoLock other s mode) = told_if client other NotHeld
+reply_to client (Change other s gives_up mode) = told_if client other Changed
+reply_to client (DropAll other whose s count) = told_if client other (Dropped count)
+reply_to client (Waiting other whose s) = told_if client other Busy
+reply_to client (Copy s to other mode) = None
+reply_to client (Freeze s to number modes) = None
+reply_to client (Token s to epoch) = None
+
+-- the client's replies in these lines, in order
+abbrev pub replies_in : ℕ → List Event → List Reply
+replies_in client lines = filter_map (reply_to client) lines
+
+-- What a station keeps of a session, and what it does with it.
 
 -- nothing happened but that replies may have gone into the ring
 pub record OnlyTells (a b : Seat) : Type 0 where

@@ -1,25 +1,49 @@
--- What a station keeps, and what a turn of it does.
-use Rattle.std.specs.Prelude.{◌≡◌, ◌≢◌, ◌<◌, ◌⊎◌, Bool, true, false, ℕ, List, Some, None, length, slice_get}
+-- Which commands a client may submit.
+use Rattle.std.specs.Prelude.{◌==◌, ◌&&◌, Bool, ℕ, nat_lt, length, ◌≡◌, ◌≢◌, ◌<◌, ◌⊎◌, true, false, List, Some, None, slice_get, ◌/◌, [], map}
 use mathlib.Core.List.{IsPrefix}
 use Rattle.rtrb.specs.Ring.{producer_capacity}
+use Rattle.lt_modes.specs.FiveModes.{is_of_version}
 use Rattle.lt_modes.specs.declared.command.Command.{Command}
-use Rattle.lt_spec.specs.Families.{commands_of, home}
-use Rattle.lt_spec.specs.Log.{Logged}
-use Rattle.lt_spec.specs.Commands.{with_commands, AreAt}
+use Rattle.lt_modes.specs.declared.command.Command.TheVariants.{Lock, Try, Unlock, Change, DropAll}
+use Rattle.lt_modes.specs.Script.{ScriptData, home_at}
+use Rattle.lt_spec.specs.declared.limits.TheConstants.{MAX_COMMANDS}
+use Rattle.lt_spec.specs.NodeMove.{commands_of, home, with_commands, AreAt}
+use Rattle.lt_spec.specs.World.{Logged}
 use Rattle.lt_mail.specs.Words.{Alike}
 use Rattle.lt_runner.specs.declared.choice.Choice.TheVariants as choices
 use Rattle.lt_runner.specs.declared.parts.Parts.{Parts}
 use Rattle.lt_runner.specs.declared.turning.Turned.{Turned}
 use Rattle.lt_runner.specs.declared.turning.Turned.TheVariants.{Moved, Quiet, Full, NoMemory}
 use Rattle.lt_runner.specs.Choices.{next_choice}
-use Rattle.lt_runner.specs.Kept.{AsSeen, CouldMove, Grew, TurnEnds}
-use Rattle.lt_runner.specs.Appended.{with_appended}
+use Rattle.lt_runner.specs.Kept.{AsSeen, CouldMove, Grew, TurnEnds, with_appended}
+use Rattle.lt_threads.specs.Pushes.{IsFirstCrew}
 use Rattle.lt_live.specs.declared.ends.Session.{Session}
 use Rattle.lt_live.specs.declared.ends.Seat.{Seat}
-use Rattle.lt_live.specs.Asking.{may_append}
-use Rattle.lt_live.specs.Cursor.{IsCursor}
-use Rattle.lt_live.specs.Words.{known_replies, IsLink}
-use Rattle.lt_live.specs.Seats.{TakesIn, TellsSeat, IsSeat, KnowAll, LooksBeside}
+use Rattle.lt_live.specs.Seats.{IsCursor, TakesIn, TellsSeat, IsSeat, KnowAll, LooksBeside}
+use Rattle.lt_live.specs.Words.{known_replies, IsLink, submitted, polled, known_commands, places}
+use Rattle.lt_live.specs.declared.limits.TheConstants.{LETTER_PLACES}
+
+abbrev pub has_set : ScriptData → ℕ → Bool
+has_set script set = nat_lt set (length script.sets)
+
+-- the other client is of the script, and of the client's node
+abbrev pub is_neighbour : ScriptData → ℕ → ℕ → Bool
+is_neighbour script client other = nat_lt other (length script.clients) && home_at script.clients other == home_at script.clients client
+
+-- all that the command names is of the script and of its version, and so is the client whose locks it drops, of the same node
+abbrev pub may_ask : ScriptData → ℕ → Command → Bool
+may_ask script client (Lock set mode) = has_set script set && is_of_version script.version mode
+may_ask script client (Try set mode) = has_set script set && is_of_version script.version mode
+may_ask script client (Unlock set mode) = has_set script set && is_of_version script.version mode
+may_ask script client (Change set gives_up mode) =
+    has_set script set && (is_of_version script.version gives_up && is_of_version script.version mode)
+may_ask script client (DropAll other set) = has_set script set && is_neighbour script client other
+
+-- and there is a place for a command more
+abbrev pub may_append : ScriptData → ℕ → Command → Bool
+may_append script client command = nat_lt (length script.commands) MAX_COMMANDS && may_ask script client command
+
+-- What a station keeps, and what a turn of it does.
 
 -- what runs a node, and its ends of the sessions of the node's clients
 pub record StationData : Type 0 where
@@ -153,3 +177,54 @@ pub record SeatLooks (log : List Logged) (s t : Session) (old new : List Seat) :
   pub looks : LooksBeside log s t x y
   pub moves : (y.moves ≡ length log) ⊎ (0 < length (known_replies t))
   pub others : (k : ℕ) → k ≢ s.place → slice_get new k ≡ slice_get old k
+
+-- Stations and sessions as they are opened.
+
+-- how many commands each session may submit: all together no more than a script may have
+abbrev pub equal_share : ScriptData → ℕ
+equal_share script = MAX_COMMANDS / length script.clients
+
+-- the client's session, which has its whole share: nothing was submitted and no reply came
+pub record IsNewSession (script : ScriptData) (capacity client : ℕ) (s : Session) : Type 0 where
+  pub script_is : s.script ≡ script
+  pub client_is : s.client ≡ client
+  pub share : (s.share ≡ equal_share script) × (s.left ≡ equal_share script)
+  pub places : places s ≡ capacity
+  pub commands : submitted s ≡ []
+  pub replies : (polled s ≡ []) × (known_replies s ≡ [])
+
+-- its other end is at the station of the client's node
+pub record HasSeat (script : ScriptData) (capacity : ℕ) (stations : List StationData) (s : Session) : Type 0 where
+  pub station : StationData
+  pub here : slice_get stations (home script s.client) ≡ Some station
+  pub seated : IsSeated s station.seats
+  pub places : producer_capacity seated.seat.replies ≡ capacity
+  pub commands : known_commands seated.seat ≡ []
+
+abbrev pub runner_of : StationData → Parts
+runner_of station = station.runner
+
+-- the stations' seats are of clients before this one
+abbrev pub SeatsBefore : ℕ → List StationData → Type 0
+SeatsBefore client stations = (q : ℕ) (station : StationData) → slice_get stations q ≡ Some station
+    → (k : ℕ) (seat : Seat) → slice_get station.seats k ≡ Some seat → seat.client < client
+
+-- a station for each node, whose runner made no move, and a session for each of the first n clients, which alone have seats
+pub record Opens (script : ScriptData) (limit capacity n : ℕ) (stations : List StationData) (sessions : List Session) : Type 0 where
+  pub runners : IsFirstCrew script LETTER_PLACES limit (map runner_of stations)
+  pub count : length sessions ≡ n
+  pub each : (client : ℕ) (s : Session) → slice_get sessions client ≡ Some s → IsNewSession script capacity client s × HasSeat script capacity stations s
+  pub before : SeatsBefore n stations
+
+-- and for each client
+abbrev pub IsOpen : ScriptData → ℕ → ℕ → List StationData → List Session → Type 0
+IsOpen script limit capacity stations sessions = Opens script limit capacity (length script.clients) stations sessions
+
+-- these stations have these runners, and no seats
+pub record AreSeatless (runners : List Parts) (stations : List StationData) : Type 0 where
+  pub same : map runner_of stations ≡ runners
+  pub none : (q : ℕ) (station : StationData) → slice_get stations q ≡ Some station → station.seats ≡ []
+
+-- the runners' scripts have no commands
+abbrev pub HaveNoCommands : List Parts → Type 0
+HaveNoCommands runners = (k : ℕ) (p : Parts) → slice_get runners k ≡ Some p → p.node.script.commands ≡ []

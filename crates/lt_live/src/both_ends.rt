@@ -4,8 +4,7 @@ ghost use Rattle.lt_modes.specs.declared.command.Command.{Command};
 ghost use Rattle.lt_spec.specs.Holdings.{lines_of};
 ghost use Rattle.rtrb.specs.Ring.{producer_capacity};
 ghost use Rattle.lt_live.specs.Words.{known_replies, IsLink};
-ghost use Rattle.lt_live.specs.Cursor.{IsCursor};
-ghost use Rattle.lt_live.specs.Seats.{KnowAll, LooksBeside, IsSeat, IsSettledSeat};
+ghost use Rattle.lt_live.specs.Seats.{IsCursor, KnowAll, LooksBeside, IsSeat, IsSettledSeat};
 
 use crate::ends::{Seat, Session};
 use lt_merge::Log;

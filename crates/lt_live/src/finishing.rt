@@ -1,10 +1,9 @@
 // The run that stations made, and what their sessions were told.
 ghost use Rattle.std.specs.Prelude.{◌≡◌, ◌≤◌, ◌<◌, [], length, map, vec_capacity, IfOk};
 ghost use Rattle.lt_modes.specs.Script.{ScriptData};
-ghost use Rattle.lt_spec.specs.Families.{home};
-ghost use Rattle.lt_live.specs.Opened.{runner_of};
-ghost use Rattle.lt_live.specs.Live.{AreLive, LiveScript};
-ghost use Rattle.lt_live.specs.Finished.{IsServedRun, SettlesAt, Settled};
+ghost use Rattle.lt_spec.specs.NodeMove.{home};
+ghost use Rattle.lt_live.specs.Stations.{runner_of};
+ghost use Rattle.lt_live.specs.Live.{AreLive, LiveScript, IsServedRun, SettlesAt, Settled};
 
 use crate::ends::Session;
 use crate::station::Station;

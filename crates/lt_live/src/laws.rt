@@ -1,7 +1,4 @@
-ghost use Rattle.lt_live.specs.LiveLaws.{OpenedAreLive, LiveLasts, OneStationLasts, OneSessionLasts};
-ghost use Rattle.lt_live.specs.ReplyLaws.{RepliesOfLines, RepliesInLog};
-ghost use Rattle.lt_live.specs.Answered.{PolledInTurn, NoMoreThanSubmitted};
-ghost use Rattle.lt_live.specs.NowLaws.{SharedNow, ServedNow};
+ghost use Rattle.lt_live.specs.Live.{OpenedAreLive, LiveLasts, OneStationLasts, OneSessionLasts, RepliesOfLines, RepliesInLog, PolledInTurn, NoMoreThanSubmitted, SharedNow, ServedNow};
 
 /// What sessions are told are the replies of the run: a station tells them from the log of its node alone.
 pub fn law_told()

@@ -1,6 +1,6 @@
 // What clients are told.
 ghost use Rattle.std.specs.Prelude.{◌≡◌, ◌==◌, Some, None, if◌then◌else◌};
-ghost use Rattle.lt_live.specs.Replies.{reply_to, told_if};
+ghost use Rattle.lt_live.specs.Seats.{reply_to, told_if};
 
 use lt_modes::Event;
 

@@ -3,8 +3,7 @@ use crate::station::Station;
 use lt_pool::Same;
 
 impl Same for Station {
-    ghost use Rattle.lt_live.specs.Live.{StationGoesOn};
-    ghost use Rattle.lt_live.specs.Same.{station_goes_on_itself};
+    ghost use Rattle.lt_live.specs.Live.{StationGoesOn, station_goes_on_itself};
 
     ghost continues = { StationGoesOn };
 

@@ -1,7 +1,6 @@
 // What a station does with the end of one session.
 ghost use Rattle.std.specs.Prelude.{◌≡◌, ◌≤◌, ◌<◌, ◌+◌, ◌^◌, length, None, slice_get};
-ghost use Rattle.lt_live.specs.Cursor.{IsCursor};
-ghost use Rattle.lt_live.specs.Seats.{TakesIn, TellsSeat, TellsMove, ToldNext};
+ghost use Rattle.lt_live.specs.Seats.{IsCursor, TakesIn, TellsSeat, TellsMove, ToldNext};
 
 use crate::ends::Seat;
 use crate::reply::reply_to;

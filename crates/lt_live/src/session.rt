@@ -44,7 +44,7 @@ impl Session {
 
     /// Whether the command may be submitted here: all that it names is of the script and of its version, and the client whose
     /// locks it drops is of the same node as this one.
-    #[tactic(auto, using(crate::proofs::AskLemmas::has_targets, crate::proofs::AskLemmas::has_modes, crate::proofs::AskLemmas::asks))]
+    #[tactic(auto, using(crate::proofs::TurnParts::has_targets, crate::proofs::TurnParts::has_modes, crate::proofs::TurnParts::asks))]
     pub fn may_submit(&self, command: Command) -> bool
         ensures targets { result ≡ true → HasTargets self.now.script.sets self.now.script.clients self.now.client command }
         ensures modes { result ≡ true → HasModesOf self.now.script.version command }

@@ -2,7 +2,7 @@
 ghost use Rattle.std.specs.Prelude.{◌≡◌, ◌<◌, ◌≤◌, ◌+◌, [], length, IfOk, OnOk};
 ghost use Rattle.lt_spec.specs.declared.moves.TheConstants.{MAX_MOVES};
 ghost use Rattle.lt_spec.specs.declared.limits.TheConstants.{MAX_COMMANDS};
-ghost use Rattle.lt_live.specs.Opened.{Opens, IsOpen, AreSeatless, HaveNoCommands};
+ghost use Rattle.lt_live.specs.Stations.{Opens, IsOpen, AreSeatless, HaveNoCommands};
 
 use crate::ends::Session;
 use crate::limits::LETTER_PLACES;

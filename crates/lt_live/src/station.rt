@@ -1,10 +1,8 @@
 ghost use Rattle.std.specs.Prelude.{◌≡◌, [], ◌∷◌, ◌++◌, length, OnOk};
-ghost use Rattle.lt_spec.specs.Commands.{AreAt};
-ghost use Rattle.lt_spec.specs.NodeMove.{node_waits};
+ghost use Rattle.lt_spec.specs.NodeMove.{AreAt, node_waits};
 ghost use Rattle.lt_node.specs.NodeData.{state_of};
 ghost use Rattle.lt_live.specs.Stations.{AreOthers, IsSeatOf, IsSeated, StaySeated, SeatLooks, StationTurns};
-ghost use Rattle.lt_live.specs.Live.{GoesOn};
-ghost use Rattle.lt_live.specs.Finished.{ServedBy};
+ghost use Rattle.lt_live.specs.Live.{GoesOn, ServedBy};
 
 use crate::ends::{Seat, Session};
 use crate::looking::beside_at;
@@ -33,7 +31,7 @@ impl Model for Station {
 
 impl Station {
     /// A station with this runner, and no seats yet.
-    #[tactic(auto, using(crate::proofs::FirstSeats::station_first))]
+    #[tactic(auto, using(crate::proofs::KeptStations::station_first))]
     pub(crate) fn new(alloc: Global, runner: Runner) -> Station
         requires { AreAt runner.node.script runner.node.me runner.node.script.commands }
         ensures { result ≡ record { runner = runner; seats = [] } }

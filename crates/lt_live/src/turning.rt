@@ -1,6 +1,6 @@
 // One turn of a station.
 ghost use Rattle.std.specs.Prelude.{◌≡◌, ◌≢◌, ◌<◌, ℕ, true, false, Some, length, slice_get};
-ghost use Rattle.lt_spec.specs.Families.{home};
+ghost use Rattle.lt_spec.specs.NodeMove.{home};
 ghost use Rattle.lt_runner.specs.declared.choice.Choice.TheVariants as choices;
 ghost use Rattle.lt_runner.specs.declared.turning.Turned.TheVariants as turns;
 ghost use Rattle.lt_runner.specs.Choices.{next_choice};
@@ -88,7 +88,7 @@ fn append_at(seats: &mut Vec<Seat>, runner: &mut Runner, place: usize) -> bool
 }
 
 // Appends the command in hand, where it can be; false where memory ran out, and then it stays in hand.
-#[tactic(auto, using(crate::proofs::AskLemmas::can_append))]
+#[tactic(auto, using(crate::proofs::TurnParts::can_append))]
 fn append(seat: &mut Seat, runner: &mut Runner) -> bool
     requires client { seat.old.client < length runner.old.node.script.clients }
     requires home { home runner.old.node.script seat.old.client ≡ runner.old.node.me }

@@ -1,6 +1,6 @@
 // Stations in a pool, which workers share.
 ghost use Rattle.std.specs.Prelude.{◌≡◌, ◌<◌, [], length, None, IfSome, OnSome};
-ghost use Rattle.lt_live.specs.Visits.{IsVisit, IsRefusedVisit};
+ghost use Rattle.lt_live.specs.Live.{IsVisit, IsRefusedVisit};
 
 use crate::station::Station;
 use lt_pool::{Badge, Pool};

@@ -1,9 +1,8 @@
 -- The journal of the run that was made is that of the service.
 use Rattle.std.specs.Prelude.{List}
 use Rattle.lt_modes.specs.Script.{ScriptData}
-use Rattle.lt_spec.specs.Log.{Logged}
-use Rattle.lt_live.specs.Live.{AreLive}
-use Rattle.lt_live.specs.Finished.{IsServedRun}
+use Rattle.lt_spec.specs.World.{Logged}
+use Rattle.lt_live.specs.Live.{AreLive, IsServedRun}
 use Rattle.lt_live_c.specs.declared.journal.Journal.{Journal}
 use Rattle.lt_live_c.specs.declared.service.Service.{Service}
 use Rattle.lt_live_c.specs.Journals.{TellsOf, IsJournalOfService}

@@ -2,7 +2,7 @@
 ghost use Rattle.std.specs.Prelude.{◌≡◌};
 ghost use Rattle.lt_live.specs.Words.{SameSession};
 ghost use Rattle.lt_live.specs.Live.{StationGoesOn};
-ghost use Rattle.lt_live_c.specs.Contents.{ContentGoesOn, OnStation, OnSession};
+ghost use Rattle.lt_live_c.specs.Taking.{ContentGoesOn, OnStation, OnSession};
 ghost use Rattle.lt_live_c.specs.Calls.{TurnsStation, Submits, Polls, left_in, client_of, home_of_content};
 
 use crate::code::{
@@ -31,7 +31,7 @@ fn turn_of(station: &mut Station) -> u32
     number_of_turn(station.turn(&Open))
 }
 
-#[tactic(auto, using(lt_live::specs::Same::station_goes_on_itself))]
+#[tactic(auto, using(lt_live::specs::Live::station_goes_on_itself))]
 pub fn submit(content: &mut Content, command: Option<Command>) -> u32
     ensures goes_on { ContentGoesOn content.old content.new }
     ensures submits { OnSession result (Submits result command) content.old content.new }
@@ -62,7 +62,7 @@ fn submit_to(session: &mut Session, command: Option<Command>) -> u32
     }
 }
 
-#[tactic(auto, using(lt_live::specs::Same::station_goes_on_itself))]
+#[tactic(auto, using(lt_live::specs::Live::station_goes_on_itself))]
 pub fn poll(content: &mut Content, count: &mut u32) -> u32
     ensures goes_on { ContentGoesOn content.old content.new }
     ensures polls { OnSession result (Polls result count.old count.new) content.old content.new }

@@ -1,6 +1,6 @@
 // Numbers for C: how a call ended, replies, modes and commands.
 ghost use Rattle.std.specs.Prelude.{◌≡◌};
-ghost use Rattle.lt_live_c.specs.Numbers.{number_of_reply, count_for_c, number_of_turn, mode_numbered, command_numbered, command_with_mode, with_modes, drop_of};
+ghost use Rattle.lt_live_c.specs.Calls.{number_of_reply, count_for_c, number_of_turn, mode_numbered, command_numbered, command_with_mode, with_modes, drop_of};
 ghost use Rattle.lt_modes.specs.declared.command.Command.TheVariants as commands;
 
 use lt_live::Reply;

@@ -2,10 +2,9 @@
 ghost use Rattle.std.specs.Prelude.{◌≡◌, ◌≢◌, ◌<◌, ◌≤◌, ◌∷◌, ◌++◌, [], drop, slice_get, IfOk, IfErr, IfSome, IfNone, OnOk};
 ghost use Rattle.lt_spec.specs.declared.moves.TheConstants.{MAX_MOVES};
 ghost use Rattle.lt_spec.specs.declared.limits.TheConstants.{MAX_COMMANDS};
-ghost use Rattle.lt_live.specs.Opened.{IsOpen};
+ghost use Rattle.lt_live.specs.Stations.{IsOpen};
 ghost use Rattle.lt_live.specs.Live.{LiveScript};
-ghost use Rattle.lt_live_c.specs.Opening.{IsOpenedFrom, OpenRefused, fits_for_c};
-ghost use Rattle.lt_live_c.specs.Journals.{IsJournalOfService};
+ghost use Rattle.lt_live_c.specs.Journals.{IsOpenedFrom, OpenRefused, fits_for_c, IsJournalOfService};
 ghost use Rattle.lt_live_c.specs.Taking.{TakesFirstStation, TakesFirstSession};
 
 use crate::code::{BAD_ARGUMENT, BAD_SCRIPT, NO_MEMORY};

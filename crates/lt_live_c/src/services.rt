@@ -1,9 +1,7 @@
 // The calls on services.
 ghost use Rattle.std.specs.Prelude.{◌≡◌, ◌≢◌, None, IsSome};
-ghost use Rattle.lt_live_c.specs.Contents.{IsWholeHandle, IsOfOther};
-ghost use Rattle.lt_live_c.specs.Opening.{HandleOpened, OpenRefused};
-ghost use Rattle.lt_live_c.specs.Taking.{HandleTakesStation, HandleTakesSession, HandleHasNoStation, HandleHasNoSession, HandleGives, HandleKeeps, HandleGiveRefused};
-ghost use Rattle.lt_live_c.specs.Journals.{HandleFinishes, FinishRefused};
+ghost use Rattle.lt_live_c.specs.Taking.{IsWholeHandle, IsOfOther, HandleTakesStation, HandleTakesSession, HandleHasNoStation, HandleHasNoSession, HandleGives, HandleKeeps, HandleGiveRefused};
+ghost use Rattle.lt_live_c.specs.Journals.{HandleOpened, OpenRefused, HandleFinishes, FinishRefused};
 
 use crate::boxes::{put, room, take};
 use crate::code::{NO_MEMORY, OK, WRONG_HANDLE};

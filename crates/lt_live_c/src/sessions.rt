@@ -1,8 +1,7 @@
 // The calls on stations and on sessions.
 ghost use Rattle.std.specs.Prelude.{◌≡◌, IsSome};
-ghost use Rattle.lt_live_c.specs.Contents.{HandleGoesOn, AtStation, AtSession};
-ghost use Rattle.lt_live_c.specs.Calls.{TurnsStation, Submits, Polls, left_at, client_in, home_in};
-ghost use Rattle.lt_live_c.specs.Numbers.{command_numbered as the_command};
+ghost use Rattle.lt_live_c.specs.Taking.{HandleGoesOn, AtStation, AtSession};
+ghost use Rattle.lt_live_c.specs.Calls.{TurnsStation, Submits, Polls, left_at, client_in, home_in, command_numbered as the_command};
 
 use crate::boxes::take;
 use crate::calls;

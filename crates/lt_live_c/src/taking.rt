@@ -1,7 +1,6 @@
 // What the calls on services do with what a handle stands for.
 ghost use Rattle.std.specs.Prelude.{◌≡◌, true, IfOk, IfErr, OnOk};
-ghost use Rattle.lt_live_c.specs.Contents.{IsWholeService, is_service};
-ghost use Rattle.lt_live_c.specs.Taking.{TakesStation, TakesSession, StationRefused, SessionRefused, GivesTheOther, GiveRefused, GivesTo, GiveRefusedBy};
+ghost use Rattle.lt_live_c.specs.Taking.{IsWholeService, is_service, TakesStation, TakesSession, StationRefused, SessionRefused, GivesTheOther, GiveRefused, GivesTo, GiveRefusedBy};
 ghost use Rattle.lt_live_c.specs.Journals.{JournalIsOf};
 
 use crate::code::{NO_MEMORY, NOTHING, WRONG_HANDLE};

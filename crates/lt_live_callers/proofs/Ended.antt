@@ -1,21 +1,17 @@
 -- The run that runners made, and how it ended.
 use Rattle.std.proofs.Common.{◌≡◌, List, true, false, sym, ap, subst, ◌∙◌}
 use Rattle.lt_modes.specs.Script.{ScriptData}
-use Rattle.lt_spec.specs.Log.{Logged}
-use Rattle.lt_spec.specs.World.{World, world_after, is_at_rest, anyone_waits}
-use Rattle.lt_merge.specs.Run.{RunData}
-use Rattle.lt_merge.specs.Merging.{Merges}
+use Rattle.lt_spec.specs.World.{Logged, World, world_after, is_at_rest, anyone_waits}
+use Rattle.lt_merge.specs.Merging.{RunData, Merges}
 use Rattle.lt_runner.specs.declared.parts.Parts.{Parts}
 use Rattle.lt_runner.specs.Kept.{AsSeen}
-use Rattle.lt_threads.specs.Finished.{AreCrewLogs}
-use Rattle.lt_threads.specs.Shares.{IsJoined, IsSharedRun}
-use Rattle.lt_threads.specs.Together.{EachIs, crew_world}
+use Rattle.lt_threads.specs.Meeting.{AreCrewLogs, IsJoined, IsSharedRun, EachIs, crew_world}
 use Rattle.lt_threads.proofs.Each.{each_join, each_weaker}
-use Rattle.lt_threads.proofs.SameRun.{SameLog, same_run}
-use Rattle.lt_live.proofs.AlikeLists.{alike_after}
+use Rattle.lt_threads.proofs.Logs.{SameLog, same_run}
+use Rattle.lt_live.proofs.SeatLists.{alike_after}
 use Rattle.lt_live_callers.specs.declared.ending.LiveEnding.{LiveEnding}
 use Rattle.lt_live_callers.specs.declared.ending.LiveEnding.TheVariants.{Done, Stuck}
-use Rattle.lt_live_callers.specs.Ends.{StopsSo, CallersEndSo, SameLogs}
+use Rattle.lt_live_callers.specs.Served.{StopsSo, CallersEndSo, SameLogs}
 
 pub same_logs : (old new : List Parts) → EachIs AsSeen old new → SameLogs old new
 same_logs old new seen = each_weaker AsSeen SameLog (λ a b s. s.log) old new seen

@@ -1,7 +1,5 @@
 -- Stations and desks that go on stay those of one script.
-use Rattle.std.proofs.Common.{◌≡◌, ℕ, List, map, Option, Some, None, sym, subst}
-use Rattle.std.specs.Prelude.{slice_get, slice_set}
-use Rattle.std.specs.Option.{option_map}
+use Rattle.std.proofs.Common.{◌≡◌, ℕ, List, map, Option, Some, None, sym, subst, slice_get, slice_set, option_map}
 use Rattle.std.proofs.lemmas.Option.{slice_get-map}
 use Rattle.lt_modes.specs.declared.command.Command.{Command}
 use Rattle.lt_modes.specs.Script.{ScriptData}
@@ -10,11 +8,10 @@ use Rattle.lt_live.specs.declared.reply.Reply.{Reply}
 use Rattle.lt_live.specs.declared.ends.Session.{Session}
 use Rattle.lt_live.specs.Words.{SameSession}
 use Rattle.lt_live.specs.Stations.{StationData}
-use Rattle.lt_live.specs.Live.{StationGoesOn, EachSession}
-use Rattle.lt_live.specs.LiveLaws.{LiveLasts}
-use Rattle.lt_live.proofs.AlikeLists.{alike_before, alike_self, alike_join, alike_set}
+use Rattle.lt_live.specs.Live.{StationGoesOn, EachSession, LiveLasts}
+use Rattle.lt_live.proofs.SeatLists.{alike_before, alike_self, alike_join, alike_set}
 use Rattle.lt_live.proofs.LiveShares.{goes_join}
-use Rattle.lt_live.proofs.Live.{station_itself}
+use Rattle.lt_live.proofs.Settling.{station_itself}
 use Rattle.lt_live_callers.specs.declared.desk.Desk.{Desk}
 use Rattle.lt_live_callers.specs.Desks.{session_of, DeskGoesOn, DesksGoOn, StationsGoOn}
 use Rattle.lt_live_callers.specs.Served.{AreServing}

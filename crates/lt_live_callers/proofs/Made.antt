@@ -1,18 +1,13 @@
 -- Desks are made, and what callers made at them.
-use Rattle.std.proofs.Common.{◌≡◌, ℕ, zero, suc, List, [], ◌∷◌, ◌++◌, ◌<◌, length, map, Option, Some, None, refl, sym, ap, subst, ◌∙◌, rules, arith}
-use Rattle.std.specs.Prelude.{slice_get, slice_index_or, remove}
-use Rattle.std.specs.Option.{option_map}
+use Rattle.std.proofs.Common.{◌≡◌, ℕ, zero, suc, List, [], ◌∷◌, ◌++◌, ◌<◌, length, map, Option, Some, None, refl, sym, ap, subst, ◌∙◌, rules, arith, slice_get, slice_index_or, remove, option_map, append-nil}
 use Rattle.std.proofs.lemmas.Option.{same_Some, slice_get-get_or, slice_get-map}
-use Rattle.std.proofs.lemmas.List.{append-nil}
 use Rattle.lt_modes.specs.declared.command.Command.{Command}
 use Rattle.lt_modes.specs.Script.{ScriptData}
 use Rattle.lt_live.specs.declared.reply.Reply.{Reply}
 use Rattle.lt_live.specs.declared.ends.Session.{Session}
 use Rattle.lt_live.specs.Words.{submitted, command_held}
-use Rattle.lt_live.specs.Stations.{StationData}
-use Rattle.lt_live.specs.Opened.{IsOpen}
-use Rattle.lt_live.specs.Live.{AreLive}
-use Rattle.lt_live.specs.LiveLaws.{OpenedAreLive}
+use Rattle.lt_live.specs.Stations.{StationData, IsOpen}
+use Rattle.lt_live.specs.Live.{AreLive, OpenedAreLive}
 use Rattle.lt_live_callers.specs.declared.desk.Desk.{Desk}
 use Rattle.lt_live_callers.specs.declared.served.Called.{Called}
 use Rattle.lt_live_callers.specs.declared.served.Served.{Served}

@@ -1,13 +1,10 @@
 -- One step and the next.
-use Rattle.std.proofs.Common.{◌≡◌, false, rules, List, [], ◌∷◌, ◌++◌, Option, Some, None, refl, sym, ap, subst, ◌∙◌}
-use Rattle.std.specs.Option.{is_some}
-use Rattle.std.proofs.lemmas.List.{append-nil, append_assoc}
+use Rattle.std.proofs.Common.{◌≡◌, false, rules, List, [], ◌∷◌, ◌++◌, Option, Some, None, refl, sym, ap, subst, ◌∙◌, is_some, append-nil, append_assoc}
 use Rattle.lt_modes.specs.declared.command.Command.{Command}
 use Rattle.lt_live.specs.declared.reply.Reply.{Reply}
 use Rattle.lt_live.specs.declared.ends.Session.{Session}
 use Rattle.lt_live.specs.Words.{submitted, polled, command_held, SameSession}
-use Rattle.lt_live.proofs.Live.{session_itself}
-use Rattle.lt_live.proofs.Settling.{same_sessions}
+use Rattle.lt_live.proofs.Settling.{session_itself, same_sessions}
 use Rattle.lt_live_callers.specs.declared.desk.Desk.{Desk}
 use Rattle.lt_live_callers.specs.Desks.{told, HearsAtDesk, SubmitsAtDesk, StepOf, Went, replies_of, commands_of, called_of, DeskGoesOn}
 use Rattle.lt_live_callers.specs.Served.{CallsAt}

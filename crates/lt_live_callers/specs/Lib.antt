@@ -1,4 +1,3 @@
 pub mod Desks
-pub mod Ends
 pub mod Served
 pub mod Texts

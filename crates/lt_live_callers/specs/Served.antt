@@ -1,21 +1,39 @@
--- What callers made of a script.
-use Rattle.std.specs.Prelude.{◌≡◌, ℕ, List, [], ◌∷◌, ◌++◌, Option, Some, None, codes, length, map, slice_get}
-use Rattle.lt_modes.specs.declared.command.Command.{Command}
+-- How the run of stations ends.
+use Rattle.std.specs.Prelude.{◌≡◌, true, false, List, Some, ℕ, [], ◌∷◌, ◌++◌, Option, None, codes, length, map, slice_get}
 use Rattle.lt_modes.specs.Script.{ScriptData}
-use Rattle.lt_spec.specs.Log.{Logged}
+use Rattle.lt_modes.specs.declared.command.Command.{Command}
+use Rattle.lt_spec.specs.World.{Logged, World, world_after, is_at_rest, anyone_waits}
 use Rattle.lt_script.specs.Printing.{print_of}
-use Rattle.lt_journal.specs.Text.{text_of}
+use Rattle.lt_journal.specs.RunLines.{text_of}
+use Rattle.lt_runner.specs.declared.parts.Parts.{Parts}
+use Rattle.lt_threads.specs.Meeting.{IsLeastEnabled, EachIs}
 use Rattle.lt_live.specs.declared.reply.Reply.{Reply}
 use Rattle.lt_live.specs.declared.ends.Session.{Session}
 use Rattle.lt_live.specs.Words.{submitted, polled, command_held}
-use Rattle.lt_live.specs.Finished.{IsServedRun}
-use Rattle.lt_live.specs.Live.{AreLive}
+use Rattle.lt_live.specs.Live.{IsServedRun, AreLive}
 use Rattle.lt_live.specs.Stations.{StationData}
+use Rattle.lt_live_callers.specs.declared.ending.LiveEnding.{LiveEnding}
+use Rattle.lt_live_callers.specs.declared.ending.LiveEnding.TheVariants.{Done, Stuck, Unfinished}
 use Rattle.lt_live_callers.specs.declared.desk.Desk.{Desk}
 use Rattle.lt_live_callers.specs.declared.served.Called.{Called}
 use Rattle.lt_live_callers.specs.declared.served.Served.{Served}
 use Rattle.lt_live_callers.specs.Desks.{StepOf, Went, replies_of, commands_of, caller_of, called_of, session_of}
-use Rattle.lt_live_callers.specs.Ends.{CallersEndSo}
+
+-- this world is at rest with nobody waiting, or with somebody waiting; or this node, the least such one, can make a further move
+abbrev pub StopsSo : LiveEnding → ScriptData → World → Type 0
+StopsSo Done script w = (is_at_rest script w ≡ true) × (anyone_waits script w ≡ false)
+StopsSo Stuck script w = (is_at_rest script w ≡ true) × (anyone_waits script w ≡ true)
+StopsSo (Unfinished node) script w = IsLeastEnabled script w (Some node)
+
+-- so is the world after this run
+abbrev pub CallersEndSo : LiveEnding → ScriptData → List Logged → Type 0
+CallersEndSo ending script run = StopsSo ending script (world_after script run)
+
+-- the runners at the same places have the same logs
+abbrev pub SameLogs : List Parts → List Parts → Type 0
+SameLogs old new = EachIs (λ (a b : Parts). b.log.entries ≡ a.log.entries) old new
+
+-- What callers made of a script.
 
 -- the text of a script, the line `journal`, and the text of a run of it at rest
 abbrev pub with_journal : ScriptData → List Logged → List ℕ

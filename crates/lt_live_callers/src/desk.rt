@@ -27,7 +27,7 @@ fn hear(session: &mut Session) -> Option<Reply>
 }
 
 // Submits the command; where it may not be submitted, it comes back.
-#[tactic(auto, using(lt_live::proofs::Live::session_itself))]
+#[tactic(auto, using(lt_live::proofs::Settling::session_itself))]
 fn submit_one(session: &mut Session, command: Command) -> Option<Command>
     ensures { SubmitsAtDesk (Some command) result session.old session.new }
 {
@@ -41,7 +41,7 @@ fn submit_one(session: &mut Session, command: Command) -> Option<Command>
     }
 }
 
-#[tactic(auto, using(lt_live::proofs::Live::session_itself))]
+#[tactic(auto, using(lt_live::proofs::Settling::session_itself))]
 fn submit(session: &mut Session, command: Option<Command>) -> Option<Command>
     ensures { SubmitsAtDesk command result session.old session.new }
 {

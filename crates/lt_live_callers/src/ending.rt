@@ -1,11 +1,9 @@
 // How the run of stations ended.
 ghost use Rattle.std.specs.Prelude.{◌≡◌, IfOk};
 ghost use Rattle.lt_modes.specs.Script.{ScriptData};
-ghost use Rattle.lt_threads.specs.Together.{IsCrew, crew_world};
-ghost use Rattle.lt_threads.specs.Shares.{ShareScript, AreTooMany, IsJoined};
-ghost use Rattle.lt_live.specs.Live.{AreLive, LiveScript};
-ghost use Rattle.lt_live.specs.Finished.{IsServedRun};
-ghost use Rattle.lt_live_callers.specs.Ends.{StopsSo, CallersEndSo, SameLogs};
+ghost use Rattle.lt_threads.specs.Meeting.{IsCrew, crew_world, ShareScript, AreTooMany, IsJoined};
+ghost use Rattle.lt_live.specs.Live.{AreLive, LiveScript, IsServedRun};
+ghost use Rattle.lt_live_callers.specs.Served.{StopsSo, CallersEndSo, SameLogs};
 
 use lt_live::{Session, Station, settle_all, take_runners};
 use lt_merge::{Run, merge};

@@ -1,17 +1,15 @@
 -- What an answer says: once the journal is written, where there is no run, and where there is a word.
-use Rattle.std.proofs.Common.{◌≡◌, ◌≢◌, ◌<◌, ◌≤◌, ◌+◌, ◌⊎◌, ℕ, List, Option, Some, None, Ok, [], refl, sym, ap, subst, arith, inl, inr}
-use Rattle.lt_io.specs.Source.{SourceState}
-use Rattle.lt_io.specs.Whole.{IsReadWhole}
+use Rattle.std.proofs.Common.{◌≡◌, ◌≢◌, ◌<◌, ◌+◌, ◌⊎◌, ℕ, List, Option, Some, None, Ok, [], refl, sym, ap, subst, arith, inl, inr}
+use Rattle.lt_io.specs.Streams.{SourceState, IsReadWhole}
 use Rattle.lt_call.specs.declared.outcome.Outcome.TheVariants as outcome
 use Rattle.lt_call.specs.Outcomes.{IsEnding, IsRefusal, WritesNothing, SaysOfSource, SaysOfSink}
 use Rattle.lt_call.proofs.Answering.{HasWritten, is_other, rose, written_reading}
 use Rattle.lt_modes.specs.Script.{ScriptData}
 use Rattle.lt_spec.specs.declared.ending.Ending.{Ending}
 use Rattle.lt_spec.specs.declared.ending.Ending.TheVariants as ending
-use Rattle.lt_script.specs.declared.fault.ScriptFault.{ScriptFault}
 use Rattle.lt_script.specs.Reading.{read_of}
-use Rattle.lt_spec.specs.Ordered.{IsOrdered}
-use Rattle.lt_spec.specs.Log.{Logged}
+use Rattle.lt_spec.specs.Script.{IsOrdered}
+use Rattle.lt_spec.specs.World.{Logged}
 use Rattle.lt_live.specs.declared.reply.Reply.{Reply}
 use Rattle.lt_live_serve.specs.declared.limits.TheConstants.{MAX_INPUT}
 use Rattle.lt_live_serve.specs.declared.served.Served.{Served}

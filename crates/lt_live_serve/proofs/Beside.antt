@@ -1,29 +1,30 @@
 -- What each station knows once all callers and their seats looked.
-use Rattle.std.proofs.Common.{◌≡◌, ◌≤◌, ◌++◌, ℕ, List, [], length, Option, Some, true, sym, ap, subst, arith, ◌∙◌, inl, inr, take_all}
-use Rattle.std.specs.Prelude.{slice_get}
-use Rattle.std.specs.Option.{option_map}
-use Rattle.std.proofs.lemmas.Bool.{cases_eq}
-use Rattle.std.proofs.lemmas.List.{length-append, length-map}
-use Rattle.std.proofs.lemmas.Option.{same_Some, slice_get-map, slice_get_within}
+use Rattle.std.proofs.Common.{◌≡◌, ◌≤◌, ◌++◌, ℕ, List, [], length, Option, Some, true, sym, ap, subst, arith, ◌∙◌, inl, inr, take_all, ◌<◌, zero, suc, ◌∷◌, map, get_or, None, Bool, false, refl, ◌≢◌, ◌+◌, take, slice_get, ◌⊎◌, ◌==◌, filter_map, if◌then◌else◌, slice_index_or, option_map, eqb-true, ne_eqb, lt-ltb, length-append, length-take}
+use Rattle.std.proofs.lemmas.Bool.{cases_eq, false≢true}
+use Rattle.std.proofs.lemmas.List.{length-map, map-append, take_more}
+use Rattle.std.proofs.lemmas.Option.{same_Some, slice_get-map, slice_get_within, slice_get-get_or}
+use Rattle.std.specs.List.{AllByRecursion, cons_option}
+use Rattle.std.proofs.lemmas.List.Elements.{recursion_from_All}
 use Rattle.lt_modes.specs.declared.command.Command.{Command}
 use Rattle.lt_modes.specs.Script.{ScriptData}
-use Rattle.lt_spec.specs.Script.{IsScript}
+use Rattle.lt_spec.specs.Script.{IsScript, IsRequest, HasTargets, HasModesOf}
+use Rattle.lt_spec.specs.NodeMove.{commands_of, home, with_commands, command_if}
 use Rattle.lt_script.proofs.NameLemmas.{element_at}
-use Rattle.lt_spec.specs.Families.{commands_of, home}
-use Rattle.lt_spec.specs.Commands.{with_commands}
-use Rattle.lt_threads.specs.Shares.{InShares}
+use Rattle.lt_threads.specs.Meeting.{InShares}
 use Rattle.lt_live.specs.declared.ends.Seat.{Seat}
-use Rattle.lt_live.specs.Asking.{may_ask}
-use Rattle.lt_live.specs.Live.{IsSessionOf}
-use Rattle.lt_live.specs.Opened.{runner_of}
-use Rattle.lt_live.specs.Stations.{StationData, IsSeatOf}
+use Rattle.lt_live.specs.Stations.{may_ask, runner_of, StationData, IsSeatOf, IsOpen, IsNewSession, equal_share}
+use Rattle.lt_live.specs.Live.{IsSessionOf, AreLive}
 use Rattle.lt_live.specs.Words.{submitted, taken, known_commands, command_held}
+use Rattle.lt_live.specs.declared.ends.Session.{Session}
+use Rattle.lt_live.proofs.TurnParts.{asks, has_targets, has_modes}
+use Rattle.lt_live.proofs.Settling.{opened_are_live}
+use Rattle.lt_live.proofs.SeatLists.{pushed, none_here}
 use Rattle.lt_live_serve.specs.declared.callers.Caller.{Caller}
-use Rattle.lt_live_serve.specs.Calls.{AllSubmitted, session_of, left_of}
-use Rattle.lt_live_serve.specs.Completing.{appended_at, AreStationsKept, IsBeside, BesideTo}
-use Rattle.lt_live_serve.specs.Serving.{AreServing}
+use Rattle.lt_live_serve.specs.Completing.{AllSubmitted, session_of, left_of, appended_at, AreStationsKept, IsBeside, BesideTo, AreServing, share_or_one, CanCall, AreNew, IsNewCaller, AreNewCallers}
 use Rattle.lt_live_serve.proofs.Completed.{Within, no_more, none_apart, same_ask, middle}
 use Rattle.lt_live_serve.proofs.Told.{session_there}
+use Rattle.lt_live_serve.specs.declared.limits.TheConstants.{MOVES}
+use Rattle.lt_live_serve.specs.Serves.{AsksAll, IsFirstOver, is_over}
 
 -- what the station of this client knows of its commands, once all were submitted and both ends looked
 pub record Seen (script : ScriptData) (stations : List StationData) (client place : ℕ) : Type 0 where
@@ -134,3 +135,143 @@ module _ (script : ScriptData) (stations : List StationData) (callers : List Cal
   pub no_more_at : IsScript script → (q : ℕ) (x : StationData) → slice_get stations q ≡ Some x → appended_at x ≤ length script.commands
   no_more_at is_script q x here =
       no_more script x.runner.node.script is_script (h.kept q x here).is_script (same_clients q x here) (within q x here)
+
+-- A caller for each new session.
+
+-- the commands of a client name only what is of the script
+asks_from : (script : ScriptData) (client : ℕ) (commands : List (ℕ × Command)) → AllByRecursion (IsRequest script.sets script.clients) commands
+    → AllByRecursion (λ (request : ℕ × Command). HasModesOf script.version request.1) commands
+    → AsksAll script client (filter_map (command_if client) commands)
+asks_from script client [] targets modes = λ k command e. none_here k command e
+asks_from script client (request ∷ rest) targets modes =
+    by_test (request.0 == client) refl (asks_from script client rest targets.1 modes.1)
+  where
+    first : (request.0 == client) ≡ true → (more : List Command) → AsksAll script client more → AsksAll script client (request.1 ∷ more)
+    first e more h zero command at =
+        subst (λ (x : Command). may_ask script client x ≡ true) (same_Some request.1 command at)
+        (asks script client request.1 (subst (λ (k : ℕ). HasTargets script.sets script.clients k request.1) (eqb-true request.0 client e) targets.0.1) modes.0)
+    first e more h (suc k) command at = h k command at
+
+    by_test : (t : Bool) → (request.0 == client) ≡ t → AsksAll script client (filter_map (command_if client) rest)
+        → AsksAll script client (cons_option (if t then Some request.1 else None) (filter_map (command_if client) rest))
+    by_test true e more = first e (filter_map (command_if client) rest) more
+    by_test false e more = more
+
+pub asks_all : (script : ScriptData) (client : ℕ) → IsScript script → AsksAll (with_commands script []) client (commands_of script client)
+asks_all script client is_script =
+    asks_from script client script.commands (recursion_from_All (IsRequest script.sets script.clients) script.commands is_script.requests)
+    (recursion_from_All (λ (request : ℕ × Command). HasModesOf script.version request.1) script.commands is_script.modes)
+
+-- a client that hasn't too many has no more than its share
+pub few_commands : (script : ScriptData) (client : ℕ) → is_over script client ≡ false → length (commands_of script client) ≤ equal_share script
+few_commands script client e = omega (arith, λ (past : equal_share script < length (commands_of script client)). false≢true (sym e ∙ lt-ltb (equal_share script) (length (commands_of script client)) past))
+
+pub share_is : (script : ScriptData) (client : ℕ) → client < length script.clients → share_or_one script ≡ equal_share script
+share_is script client below =
+    ap (λ (t : Bool). if t then 1 else equal_share script) (ne_eqb (length script.clients) 0 (λ e. omega (arith, e, below)))
+
+-- the sessions that are opened can be called
+pub are_new : (script : ScriptData) (stations : List StationData) (sessions : List Session) → IsFirstOver script None
+    → IsOpen (with_commands script []) MOVES (share_or_one script) stations sessions → AreNew script sessions
+are_new script stations sessions none opened k s e =
+    let below : k < length script.clients = omega (arith, slice_get_within sessions k s e, opened.count) in
+    let new = (opened.each k s e).0 in (
+      record {
+        client = k;
+        below = below;
+        new = subst (λ (n : ℕ). IsNewSession (with_commands script []) n k s) (share_is script k below) new;
+        few = few_commands script k (none k below);
+      },
+      new.client_is,
+    )
+
+-- before the first session
+pub no_caller : (script : ScriptData) → AreNewCallers script [] []
+no_caller script = record { sessions_are = refl; lists = λ k c e. none_here k c e }
+
+-- one session more
+pub one_more_caller : (script : ScriptData) (sessions : List Session) (callers : List Caller) (s : Session) (c : Caller) → AreNewCallers script sessions callers
+    → IsNewCaller script s c → AreNewCallers script (sessions ++ s ∷ []) (callers ++ c ∷ [])
+one_more_caller script sessions callers s c h is = record {
+  sessions_are = map-append session_of callers (c ∷ [])
+      ∙ ap (λ (ss : List Session). ss ++ c.session ∷ []) h.sessions_are
+      ∙ ap (λ (x : Session). sessions ++ x ∷ []) is.session;
+  lists = λ k d e. by_place k d (pushed callers c k d e);
+}
+  where
+    by_place : (k : ℕ) (d : Caller) → (slice_get callers k ≡ Some d) ⊎ ((k ≡ length callers) × (c ≡ d)) → d.commands.items ≡ commands_of script d.session.client
+    by_place k d (inl old) = h.lists k d old
+    by_place k d (inr added) =
+        subst (λ (x : Caller). x.commands.items ≡ commands_of script x.session.client) added.1
+        (is.commands ∙ ap (λ (x : Session). commands_of script x.client) (sym is.session))
+
+-- the session at a place
+pub can_call : (script : ScriptData) (sessions : List Session) (k : ℕ) (s : Session) → AreNew script sessions → k < length sessions → s ≡ get_or sessions k s
+    → CanCall script s
+can_call script sessions k s new inside here = (new k s (slice_get-get_or sessions k s inside ∙ ap Some (sym here))).0
+
+-- so stations and callers are those of the script
+pub first_serving : (script bare : ScriptData) (stations : List StationData) (sessions : List Session) (callers : List Caller) (share : ℕ) → bare ≡ with_commands script []
+    → IsOpen bare MOVES share stations sessions → AreNewCallers script sessions callers → AreServing script stations callers
+first_serving script bare stations sessions callers share is opened made = record {
+  live = live;
+  limits = opened.runners.limits;
+  lists = λ client c e.
+      let there : slice_get (map session_of callers) client ≡ Some c.session = slice_get-map session_of callers client ∙ ap (option_map session_of) e in
+      made.lists client c e ∙ ap (commands_of script) (live.each client c.session there).client_is;
+}
+  where
+    live : AreLive (with_commands script []) stations (map session_of callers)
+    live =
+        subst (λ (ss : List Session). AreLive (with_commands script []) stations ss) (sym made.sessions_are)
+        (subst (λ (s : ScriptData). AreLive s stations sessions) is
+        (opened_are_live bare MOVES share stations sessions (ap (λ (s : ScriptData). s.commands) is) opened))
+
+-- What a caller may still submit.
+
+-- as many commands were submitted as there are before the next one
+pub submitted_count : (c : Caller) → length (submitted c.session) ≡ c.next
+submitted_count c =
+    let count = ap (λ (xs : List Command). length xs) c.submits in
+    let first = length-take c.next c.commands.items in
+    let within = c.within in
+    omega (arith, count, first, within)
+
+-- while there is a next one, the session's share isn't used up
+pub has_left : (c : Caller) (left : ℕ) → c.next ≢ length c.commands.items → length (submitted c.session) + left ≡ c.session.share → 0 < left
+has_left c left more share =
+    let within = c.within in
+    let few = c.few in
+    omega (arith, more, share, within, few, submitted_count c)
+
+-- nor are its places
+pub has_place : (c : Caller) (places : ℕ) → c.next ≢ length c.commands.items → c.session.share ≤ places → places ≤ length (submitted c.session) → ⊥
+has_place c places more roomy full =
+    let within = c.within in
+    let few = c.few in
+    omega (arith, more, roomy, full, within, few, submitted_count c)
+
+-- and it may be submitted
+asked : (c : Caller) (d command : Command) → c.next ≢ length c.commands.items → command ≡ slice_index_or c.commands.items c.next d
+    → may_ask c.session.script c.session.client command ≡ true
+asked c d command more is =
+    let within = c.within in
+    c.asks c.next command (slice_get-get_or c.commands.items c.next d (omega (arith, more, within)) ∙ ap Some (sym is))
+
+pub targets_of : (c : Caller) (d command : Command) → c.next ≢ length c.commands.items → command ≡ slice_index_or c.commands.items c.next d
+    → HasTargets c.session.script.sets c.session.script.clients c.session.client command
+targets_of c d command more is = has_targets c.session.script c.session.client command (asked c d command more is)
+
+pub modes_of : (c : Caller) (d command : Command) → c.next ≢ length c.commands.items → command ≡ slice_index_or c.commands.items c.next d
+    → HasModesOf c.session.script.version command
+modes_of c d command more is = has_modes c.session.script c.session.client command (asked c d command more is)
+
+-- once it is submitted there is one more
+pub one_more : (c : Caller) (d command : Command) (all : List Command) → c.next ≢ length c.commands.items → command ≡ slice_index_or c.commands.items c.next d
+    → all ≡ submitted c.session ++ command ∷ [] → all ≡ take (c.next + 1) c.commands.items
+one_more c d command all more is added =
+    let within = c.within in
+    added
+    ∙ ap (λ (xs : List Command). xs ++ command ∷ []) c.submits
+    ∙ ap (λ (x : Command). take c.next c.commands.items ++ x ∷ []) is
+    ∙ sym (take_more c.commands.items c.next d (omega (arith, more, within)))

@@ -1,29 +1,23 @@
 -- Stations and callers stay those of the script.
-use Rattle.std.proofs.Common.{◌≡◌, ◌<◌, ◌≤◌, ◌+◌, ℕ, zero, suc, List, [], ◌∷◌, length, map, Option, Some, None, refl, sym, ap, subst, arith, ◌∙◌, inl, inr}
-use Rattle.std.specs.Prelude.{slice_get, slice_set, slice_index_or}
-use Rattle.std.specs.Option.{option_map}
+use Rattle.std.proofs.Common.{◌≡◌, ◌<◌, ◌≤◌, ◌+◌, ℕ, zero, suc, List, [], ◌∷◌, length, map, Option, Some, None, refl, sym, ap, subst, arith, ◌∙◌, inl, inr, slice_get, slice_set, slice_index_or, option_map}
 use Rattle.std.proofs.lemmas.Bool.{cases_eq}
 use Rattle.std.proofs.lemmas.List.Sums.{sum_by-cons}
 use Rattle.std.proofs.lemmas.Option.{same_Some, slice_get-get_or, slice_get-map, slice_get_within}
 use Rattle.lt_modes.specs.Script.{ScriptData}
 use Rattle.lt_live_serve.specs.declared.limits.TheConstants.{MOVES}
-use Rattle.lt_spec.specs.Commands.{with_commands}
+use Rattle.lt_spec.specs.NodeMove.{with_commands}
 use Rattle.lt_mail.specs.Words.{Alike}
 use Rattle.lt_runner.specs.declared.parts.Parts.{Parts}
-use Rattle.lt_threads.specs.Crews.{HasLimit}
+use Rattle.lt_threads.specs.Pushes.{HasLimit}
 use Rattle.lt_live.specs.declared.ends.Session.{Session}
 use Rattle.lt_live.specs.Live.{GoesOn, StationGoesOn, EachStation, EachSession}
-use Rattle.lt_live.specs.Opened.{runner_of}
-use Rattle.lt_live.specs.Stations.{StationData, StaySeated}
+use Rattle.lt_live.specs.Stations.{runner_of, StationData, StaySeated}
 use Rattle.lt_live.specs.Words.{SameSession}
-use Rattle.lt_live.proofs.AlikeLists.{alike_self, alike_before, alike_join, alike_set}
-use Rattle.lt_live.proofs.Live.{live_lasts, session_itself, station_itself}
+use Rattle.lt_live.proofs.SeatLists.{alike_self, alike_before, alike_join, alike_set, set_here, set_other}
+use Rattle.lt_live.proofs.Settling.{live_lasts, session_itself, station_itself, same_sessions}
 use Rattle.lt_live.proofs.LiveShares.{goes_join}
-use Rattle.lt_live.proofs.Places.{set_here, set_other}
-use Rattle.lt_live.proofs.Settling.{same_sessions}
 use Rattle.lt_live_serve.specs.declared.callers.Caller.{Caller}
-use Rattle.lt_live_serve.specs.Calls.{Calls, EachCaller, AllSubmitted, session_of, left_of, all_left}
-use Rattle.lt_live_serve.specs.Serving.{AreServing}
+use Rattle.lt_live_serve.specs.Completing.{Calls, EachCaller, AllSubmitted, session_of, left_of, all_left, AreServing}
 
 -- what is mapped to what stands at this place
 pub mapped_at : {X Y : Type 0} (f : X → Y) (xs : List X) (k : ℕ) (y : Y) → slice_get (map f xs) k ≡ Some y → (x : X) × (slice_get xs k ≡ Some x) × (f x ≡ y)

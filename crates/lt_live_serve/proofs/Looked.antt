@@ -1,23 +1,19 @@
 -- Callers and their seats look at their rings.
-use Rattle.std.proofs.Common.{◌≡◌, ◌≢◌, ◌≤◌, ◌+◌, ℕ, List, length, Option, Some, refl, sym, ap, subst, arith, ◌∙◌, inl, inr}
-use Rattle.std.specs.Prelude.{slice_get, slice_set}
+use Rattle.std.proofs.Common.{◌≡◌, ◌≢◌, ◌≤◌, ◌+◌, ℕ, List, length, Option, Some, refl, sym, ap, subst, arith, ◌∙◌, inl, inr, slice_get, slice_set}
 use Rattle.std.proofs.lemmas.Bool.{cases_eq}
 use Rattle.std.proofs.lemmas.Option.{same_Some, slice_get_within}
 use Rattle.lt_modes.specs.Script.{ScriptData}
-use Rattle.lt_spec.specs.Families.{home}
-use Rattle.lt_spec.specs.Log.{Logged}
+use Rattle.lt_spec.specs.NodeMove.{home}
+use Rattle.lt_spec.specs.World.{Logged}
 use Rattle.lt_mail.specs.Words.{Alike}
 use Rattle.lt_live.specs.declared.ends.Seat.{Seat}
 use Rattle.lt_live.specs.declared.ends.Session.{Session}
 use Rattle.lt_live.specs.Live.{StationGoesOn}
 use Rattle.lt_live.specs.Stations.{StationData, IsSeated, StaySeated, SeatLooks, EachSeat}
-use Rattle.lt_live.proofs.AlikeLists.{alike_self, alike_set, alike_join}
-use Rattle.lt_live.proofs.Live.{station_itself, station_same}
-use Rattle.lt_live.proofs.Places.{set_here, set_other}
+use Rattle.lt_live.proofs.SeatLists.{alike_self, alike_set, alike_join, set_here, set_other}
+use Rattle.lt_live.proofs.Settling.{station_itself, station_same}
 use Rattle.lt_live_serve.specs.declared.callers.Caller.{Caller}
-use Rattle.lt_live_serve.specs.Calls.{Calls}
-use Rattle.lt_live_serve.specs.Completing.{IsBeside, SameHand, OnlyLooks, CallersLook, CallerLooks}
-use Rattle.lt_live_serve.specs.Serving.{AreServing}
+use Rattle.lt_live_serve.specs.Completing.{Calls, IsBeside, SameHand, OnlyLooks, CallersLook, CallerLooks, AreServing}
 use Rattle.lt_live_serve.proofs.Lasting.{serving_lasts, calls_itself, calls_join}
 use Rattle.lt_live_serve.proofs.Told.{session_there}
 

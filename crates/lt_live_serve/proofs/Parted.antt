@@ -1,32 +1,25 @@
 -- Stations taken apart and put together again.
-use Rattle.std.proofs.Common.{◌≡◌, ◌<◌, ◌++◌, ℕ, suc, List, [], ◌∷◌, length, map, get_or, Option, Some, None, refl, sym, ap, subst, arith, ◌∙◌}
-use Rattle.std.specs.Prelude.{slice_get}
-use Rattle.std.specs.List.{remove}
-use Rattle.std.specs.Option.{option_map}
-use Rattle.std.proofs.lemmas.List.{append_assoc, length-map, map-append}
+use Rattle.std.proofs.Common.{◌≡◌, ◌<◌, ◌++◌, ℕ, suc, List, [], ◌∷◌, length, map, get_or, Option, Some, None, refl, sym, ap, subst, arith, ◌∙◌, slice_get, remove, option_map, append_assoc}
+use Rattle.std.proofs.lemmas.List.{length-map, map-append}
 use Rattle.std.proofs.lemmas.Option.{same_Some, slice_get-get_or, slice_get-map}
 use Rattle.lt_modes.specs.Script.{ScriptData}
 use Rattle.lt_spec.specs.Script.{IsScript}
-use Rattle.lt_spec.specs.Families.{commands_of, home}
+use Rattle.lt_spec.specs.NodeMove.{commands_of, home, with_commands, AreAt, SameAt}
 use Rattle.lt_spec.specs.declared.ending.Ending.{Ending}
-use Rattle.lt_spec.specs.Commands.{with_commands, AreAt, SameAt}
 use Rattle.lt_mail.specs.Words.{Alike}
 use Rattle.lt_runner.specs.declared.parts.Parts.{Parts}
 use Rattle.lt_runner.specs.Kept.{Grew}
-use Rattle.lt_threads.specs.Crews.{MovedOn}
-use Rattle.lt_threads.specs.Together.{EachIs, IsCrew}
-use Rattle.lt_threads.specs.Shares.{AreShares}
+use Rattle.lt_threads.specs.Pushes.{MovedOn}
+use Rattle.lt_threads.specs.Meeting.{EachIs, IsCrew, AreShares}
 use Rattle.lt_threads.proofs.Each.{each_before, each_len}
 use Rattle.lt_live.specs.declared.ends.Seat.{Seat}
 use Rattle.lt_live.specs.Live.{GoesOn, StationGoesOn, EachStation}
-use Rattle.lt_live.specs.Opened.{runner_of}
-use Rattle.lt_live.specs.Stations.{StationData, IsStation, IsSeated}
+use Rattle.lt_live.specs.Stations.{runner_of, StationData, IsStation, IsSeated}
 use Rattle.lt_live.proofs.KeptStations.{station_grew}
 use Rattle.lt_live_serve.specs.declared.benches.Bench.{Bench}
 use Rattle.lt_live_serve.specs.declared.callers.Caller.{Caller}
 use Rattle.lt_live_serve.specs.Apart.{seats_of, seats_on, AreParts, GoTogether}
-use Rattle.lt_live_serve.specs.Completing.{AreStationsKept}
-use Rattle.lt_live_serve.specs.Serving.{AreServing, AreComplete}
+use Rattle.lt_live_serve.specs.Completing.{AreStationsKept, AreServing, AreComplete}
 use Rattle.lt_live_serve.proofs.Lasting.{mapped_at, serving_lasts, same_callers}
 
 -- the runners are a crew of the script, once each client's commands were appended at its node

@@ -1,27 +1,21 @@
 -- Each station takes in a command of each client that has one more.
-use Rattle.std.proofs.Common.{◌≡◌, ◌<◌, ◌≤◌, ◌++◌, ◌⊎◌, ℕ, List, [], ◌∷◌, length, Some, Bool, true, false, refl, sym, ap, subst, arith, ◌∙◌, inl, inr, append-nil}
-use Rattle.std.specs.Prelude.{slice_get, filter_map}
+use Rattle.std.proofs.Common.{◌≡◌, ◌<◌, ◌≤◌, ◌++◌, ◌⊎◌, ℕ, List, [], ◌∷◌, length, Some, Bool, true, false, refl, sym, ap, subst, arith, ◌∙◌, inl, inr, append-nil, slice_get, filter_map, length-append}
 use Rattle.std.proofs.lemmas.Bool.{cases_lt}
-use Rattle.std.proofs.lemmas.List.{length-append}
 use Rattle.std.proofs.lemmas.Option.{same_Some}
 use mathlib.Core.List.{IsPrefix}
 use Rattle.lt_modes.specs.declared.command.Command.{Command}
 use Rattle.lt_modes.specs.Script.{ScriptData}
 use Rattle.lt_spec.specs.Script.{IsScript}
 use Rattle.lt_script.proofs.NameLemmas.{element_at}
-use Rattle.lt_spec.specs.Families.{command_if, commands_of, home}
+use Rattle.lt_spec.specs.NodeMove.{command_if, commands_of, home}
 use Rattle.lt_runner.specs.declared.parts.Parts.{Parts}
 use Rattle.lt_live.specs.declared.ends.Seat.{Seat}
-use Rattle.lt_live.specs.Asking.{may_append}
+use Rattle.lt_live.specs.Stations.{may_append, StationData, SeatTurns}
 use Rattle.lt_live.specs.Live.{StationGoesOn, EachStation}
-use Rattle.lt_live.specs.Stations.{StationData, SeatTurns}
 use Rattle.lt_live.specs.Words.{known_commands}
-use Rattle.lt_live.proofs.AlikeLists.{alike_before, alike_after, alike_join, alike_weaker}
-use Rattle.lt_live.proofs.SeatLists.{each_after}
+use Rattle.lt_live.proofs.SeatLists.{alike_before, alike_after, alike_join, alike_weaker, each_after}
 use Rattle.lt_live_serve.specs.declared.callers.Caller.{Caller}
-use Rattle.lt_live_serve.specs.Calls.{Calls, EachCaller, AllSubmitted}
-use Rattle.lt_live_serve.specs.Completing.{appended_at, lack_at, all_lack, AreStationsKept, SameHand, OnlyLooks, CallersLook, Turns, AnyTurns, SameCount, AllTurn}
-use Rattle.lt_live_serve.specs.Serving.{AreServing, AreComplete}
+use Rattle.lt_live_serve.specs.Completing.{Calls, EachCaller, AllSubmitted, appended_at, lack_at, all_lack, AreStationsKept, SameHand, OnlyLooks, CallersLook, Turns, AnyTurns, SameCount, AllTurn, AreServing, AreComplete}
 use Rattle.lt_live_serve.proofs.Completed.{Within, advances, no_hand, none_outside}
 use Rattle.lt_live_serve.proofs.Lasting.{serving_lasts, same_callers}
 use Rattle.lt_live_serve.proofs.Turned.{more_commands, more_appended, falls}

@@ -1,39 +1,41 @@
--- Callers poll all replies.
-use Rattle.std.proofs.Common.{◌≡◌, ◌<◌, ◌≤◌, ◌+◌, ◌++◌, ℕ, zero, suc, List, [], ◌∷◌, length, map, take, get_or, Some, refl, sym, ap, subst, arith, ◌∙◌, inl, inr, append-nil, take_all}
-use Rattle.std.specs.Prelude.{slice_get, slice_set, slice_index_or}
-use Rattle.std.specs.Option.{option_map}
-use Rattle.std.proofs.Math.Seq.{map-set_same}
+-- No client before has too many commands.
+use Rattle.std.proofs.Common.{◌≡◌, ◌≤◌, ◌+◌, ℕ, false, length, subst, arith, inl, inr, sym, ◌<◌, ◌++◌, zero, suc, List, [], ◌∷◌, map, take, get_or, Some, refl, ap, ◌∙◌, append-nil, take_all, slice_get, slice_set, slice_index_or, option_map, append_assoc}
 use Rattle.std.proofs.lemmas.Bool.{cases_eq}
-use Rattle.std.proofs.lemmas.List.{append_assoc, map-append, take_more}
+use Rattle.std.proofs.Math.Seq.{map-set_same}
+use Rattle.std.proofs.lemmas.List.{map-append, take_more}
 use Rattle.std.proofs.lemmas.Option.{same_Some, slice_get-get_or, slice_get-map, slice_get_within}
-use Rattle.lt_modes.specs.declared.event.Event.{Event}
 use Rattle.lt_modes.specs.Script.{ScriptData}
+use Rattle.lt_modes.specs.declared.event.Event.{Event}
 use Rattle.lt_lists.specs.Below.{gather_below}
-use Rattle.lt_spec.specs.Families.{home}
+use Rattle.lt_spec.specs.NodeMove.{home, with_commands}
 use Rattle.lt_spec.specs.Holdings.{lines_of}
-use Rattle.lt_spec.specs.Log.{Logged}
-use Rattle.lt_spec.specs.Commands.{with_commands}
+use Rattle.lt_spec.specs.World.{Logged}
 use Rattle.lt_runner.specs.declared.parts.Parts.{Parts}
 use Rattle.lt_live.specs.declared.ends.Seat.{Seat}
 use Rattle.lt_live.specs.declared.ends.Session.{Session}
 use Rattle.lt_live.specs.declared.reply.Reply.{Reply}
-use Rattle.lt_live.specs.Cursor.{lines_up_to, lines_at}
-use Rattle.lt_live.specs.Finished.{ServedBy}
-use Rattle.lt_live.specs.Live.{StationGoesOn}
-use Rattle.lt_live.specs.Opened.{runner_of}
-use Rattle.lt_live.specs.Replies.{replies_in}
-use Rattle.lt_live.specs.Stations.{StationData, IsStation, IsSeated, SeatLooks}
+use Rattle.lt_live.specs.Seats.{lines_up_to, lines_at, replies_in}
+use Rattle.lt_live.specs.Live.{ServedBy, StationGoesOn}
+use Rattle.lt_live.specs.Stations.{runner_of, StationData, IsStation, IsSeated, SeatLooks}
 use Rattle.lt_live.specs.Words.{polled, known_replies, told_to}
-use Rattle.lt_live.proofs.AlikeLists.{alike_set}
+use Rattle.lt_live.proofs.SeatLists.{alike_set, set_here, set_other}
 use Rattle.lt_live.proofs.Finished.{first_few}
-use Rattle.lt_live.proofs.Live.{station_itself, station_same}
-use Rattle.lt_live.proofs.Places.{set_here, set_other}
-use Rattle.lt_live.proofs.Settling.{home_found, home_inside, station_found, seated_there}
+use Rattle.lt_live.proofs.Settling.{station_itself, station_same, home_found, home_inside, station_found, seated_there}
+use Rattle.lt_live_serve.specs.Serves.{is_over, NoneIsOver}
 use Rattle.lt_live_serve.specs.declared.callers.Caller.{Caller}
-use Rattle.lt_live_serve.specs.Calls.{Calls, session_of}
-use Rattle.lt_live_serve.specs.Serving.{AreServing, HasHeardAll, HaveHeard}
-use Rattle.lt_live_serve.specs.Telling.{Hears, TellsAt, marked, marked_by, heard_at}
+use Rattle.lt_live_serve.specs.Completing.{Calls, session_of, AreServing, HasHeardAll, HaveHeard, Hears, TellsAt, marked, marked_by, heard_at}
 use Rattle.lt_live_serve.proofs.Lasting.{serving_lasts, calls_itself, calls_join}
+
+pub next_over : (script : ScriptData) (n : ℕ) → NoneIsOver script n → is_over script n ≡ false → NoneIsOver script (n + 1)
+next_over script n before here k below = elim (cases_eq k n) [
+  | inl e ↦ subst (λ (j : ℕ). is_over script j ≡ false) (sym e) here
+  | inr apart ↦ before k (omega (arith, below, apart))
+]
+
+pub all_over : (script : ScriptData) (n : ℕ) → length script.clients ≤ n → NoneIsOver script n → NoneIsOver script (length script.clients)
+all_over script n long h k below = h k (omega (arith, below, long))
+
+-- Callers poll all replies.
 
 past_end : (log : List Logged) → lines_at log (length log) ≡ []
 past_end [] = refl

@@ -1,8 +1,6 @@
 -- Stations make turns, one after the other.
-use Rattle.std.proofs.Common.{◌≡◌, ◌<◌, ◌≤◌, ◌+◌, ℕ, zero, suc, List, [], ◌∷◌, length, get_or, Bool, true, false, Option, Some, None, refl, sym, ap, subst, arith, ◌∙◌, inl, inr}
-use Rattle.std.specs.Prelude.{sum_by, slice_get, slice_set}
-use Rattle.std.proofs.lemmas.Bool.{cases_eq, cases_lt, false≢true, ltb-true, ltb-false}
-use Rattle.std.proofs.lemmas.List.{length-set}
+use Rattle.std.proofs.Common.{◌≡◌, ◌<◌, ◌≤◌, ◌+◌, ℕ, zero, suc, List, [], ◌∷◌, length, get_or, Bool, true, false, Option, Some, None, refl, sym, ap, subst, arith, ◌∙◌, inl, inr, sum_by, slice_get, slice_set, ltb-true, ltb-false, length-set}
+use Rattle.std.proofs.lemmas.Bool.{cases_eq, cases_lt, false≢true}
 use Rattle.std.proofs.lemmas.List.Sums.{sum_by-cons}
 use Rattle.std.proofs.lemmas.Option.{same_Some, slice_get-get_or, slice_get_within}
 use mathlib.Core.List.{IsPrefix}
@@ -10,9 +8,8 @@ use Rattle.lt_modes.specs.Script.{ScriptData}
 use Rattle.lt_mail.specs.Words.{Alike}
 use Rattle.lt_live.specs.Live.{EachStation}
 use Rattle.lt_live.specs.Stations.{StationData}
-use Rattle.lt_live.proofs.AlikeLists.{alike_self}
+use Rattle.lt_live.proofs.SeatLists.{alike_self, set_here, set_other}
 use Rattle.lt_live.proofs.Finished.{first_few}
-use Rattle.lt_live.proofs.Places.{set_here, set_other}
 use Rattle.lt_live_serve.specs.Completing.{appended_at, IsKept, AreStationsKept, Turns, TurnsAt, AnyTurns, SameCount, SomeGrew, AllTurn}
 
 -- what each station keeps, one after the other

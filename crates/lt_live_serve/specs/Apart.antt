@@ -1,14 +1,12 @@
 -- Stations taken apart, whose runners make moves meanwhile.
 use Rattle.std.specs.Prelude.{◌≡◌, ℕ, List, Some, length, map, slice_get}
 use Rattle.lt_modes.specs.Script.{ScriptData}
-use Rattle.lt_merge.specs.Merging.{Merges}
-use Rattle.lt_merge.specs.Run.{RunData}
-use Rattle.lt_spec.specs.Log.{Logged}
+use Rattle.lt_merge.specs.Merging.{Merges, RunData}
+use Rattle.lt_spec.specs.World.{Logged}
 use Rattle.lt_runner.specs.declared.parts.Parts.{Parts}
-use Rattle.lt_threads.specs.Finished.{AreCrewLogs}
+use Rattle.lt_threads.specs.Meeting.{AreCrewLogs}
 use Rattle.lt_live.specs.declared.ends.Seat.{Seat}
-use Rattle.lt_live.specs.Opened.{runner_of}
-use Rattle.lt_live.specs.Stations.{StationData, IsStation}
+use Rattle.lt_live.specs.Stations.{runner_of, StationData, IsStation}
 use Rattle.lt_live_serve.specs.declared.benches.Bench.{Bench}
 
 abbrev pub seats_of : StationData → List Seat

@@ -1,18 +1,128 @@
--- Commands that come to their stations.
-use Rattle.std.specs.Prelude.{◌≡◌, ◌≢◌, ◌<◌, ◌-◌, Bool, true, false, ℕ, List, Some, nat_lt, length, sum_by, slice_get}
+-- What callers do.
+use Rattle.std.specs.Prelude.{◌≡◌, ◌≤◌, ◌-◌, ℕ, List, Some, length, sum_by, slice_get, ◌<◌, [], map, ◌==◌, if◌then◌else◌, ◌≢◌, Option, None, Bool, true, false, nat_lt}
 use Rattle.lt_modes.specs.Script.{ScriptData}
+use Rattle.lt_spec.specs.NodeMove.{commands_of, home, with_commands}
+use Rattle.lt_spec.specs.Holdings.{lines_of}
 use Rattle.lt_spec.specs.Script.{IsScript}
-use Rattle.lt_spec.specs.Families.{home}
+use Rattle.lt_mail.specs.Words.{Alike}
+use Rattle.lt_runner.specs.declared.parts.Parts.{Parts}
 use Rattle.lt_runner.specs.declared.turning.Turned.{Turned}
 use Rattle.lt_runner.specs.declared.turning.Turned.TheVariants.{NoMemory}
+use Rattle.lt_threads.specs.Pushes.{HasLimit}
+use Rattle.lt_live.specs.declared.ends.Session.{Session}
+use Rattle.lt_live.specs.Words.{SameSession, taken, IsLink}
+use Rattle.lt_live.specs.Live.{AreLive, StationGoesOn, EachStation}
+use Rattle.lt_live.specs.Stations.{runner_of, StationData, IsNewSession, equal_share, IsSeated, StaySeated, IsStation, StationTurns, EachSeat}
+use Rattle.lt_live.specs.Seats.{replies_in, KnowAll}
+use Rattle.lt_live.specs.declared.reply.Reply.{Reply}
 use Rattle.lt_live.specs.declared.ends.Seat.{Seat}
-use Rattle.lt_live.specs.Live.{StationGoesOn, EachStation}
-use Rattle.lt_live.specs.Seats.{KnowAll}
-use Rattle.lt_live.specs.Stations.{StationData, IsStation, StationTurns, EachSeat, StaySeated}
-use Rattle.lt_live.specs.Words.{taken, IsLink}
 use Rattle.lt_live_serve.specs.declared.callers.Caller.{Caller}
-use Rattle.lt_live_serve.specs.Calls.{Calls, EachCaller}
-use Rattle.lt_live_serve.specs.Serving.{AreServing}
+use Rattle.lt_live_serve.specs.declared.limits.TheConstants.{MOVES}
+
+abbrev pub session_of : Caller → Session
+session_of caller = caller.session
+
+-- how many commands are still to be submitted
+abbrev pub left_of : Caller → ℕ
+left_of caller = length caller.commands.items - caller.next
+
+abbrev pub all_left : List Caller → ℕ
+all_left callers = sum_by left_of callers
+
+-- the caller of the same session, with the same commands, of which more may have been submitted
+pub record Calls (a b : Caller) : Type 0 where
+  pub session : SameSession a.session b.session
+  pub commands : b.commands.items ≡ a.commands.items
+  pub left : left_of b ≤ left_of a
+
+-- the callers at the same places go together
+abbrev pub EachCaller : (Caller → Caller → Type 0) → List Caller → List Caller → Type 0
+EachCaller R old new = (k : ℕ) → Alike R (slice_get old k) (slice_get new k)
+
+-- all commands were submitted
+abbrev pub AllSubmitted : List Caller → Type 0
+AllSubmitted callers = (k : ℕ) (c : Caller) → slice_get callers k ≡ Some c → left_of c ≡ 0
+
+-- Stations and callers of a script that was read.
+
+-- the stations of all nodes and the callers of all clients, in order; each has the client's commands of the script, which no station
+-- had at first
+pub record AreServing (script : ScriptData) (stations : List StationData) (callers : List Caller) : Type 0 where
+  pub live : AreLive (with_commands script []) stations (map session_of callers)
+  pub limits : HasLimit MOVES (map runner_of stations)
+  pub lists : (client : ℕ) (c : Caller) → slice_get callers client ≡ Some c → c.commands.items ≡ commands_of script client
+
+-- the station of the client's node has appended all commands of the client
+abbrev pub IsCompleteAt : ScriptData → List StationData → ℕ → Type 0
+IsCompleteAt script stations client = (station : StationData) → slice_get stations (home script client) ≡ Some station
+    → commands_of station.runner.node.script client ≡ commands_of script client
+
+-- so it is of each client
+abbrev pub AreComplete : ScriptData → List StationData → Type 0
+AreComplete script stations = (client : ℕ) → IsCompleteAt script stations client
+
+-- the caller has polled all replies to its client that the log of the client's node has
+abbrev pub HasHeardAll : ScriptData → List Parts → ℕ → Caller → Type 0
+HasHeardAll script runners client c = (p : Parts) → slice_get runners (home script client) ≡ Some p → c.heard.items ≡ replies_in client (lines_of p.log.entries)
+
+-- so have the first n callers
+abbrev pub HaveHeard : ScriptData → ℕ → List Parts → List Caller → Type 0
+HaveHeard script n runners callers = (client : ℕ) (c : Caller) → client < n → slice_get callers client ≡ Some c → HasHeardAll script runners client c
+
+-- Callers of new sessions.
+
+-- how many commands each session may submit, or one where there is none
+abbrev pub share_or_one : ScriptData → ℕ
+share_or_one script = if length script.clients == 0 then 1 else equal_share script
+
+-- a new session of a client of the script, which has no more commands than the session may submit, nor than it has places for
+pub record CanCall (script : ScriptData) (s : Session) : Type 0 where
+  pub client : ℕ
+  pub below : client < length script.clients
+  pub new : IsNewSession (with_commands script []) (equal_share script) client s
+  pub few : length (commands_of script client) ≤ equal_share script
+
+abbrev pub AreNew : ScriptData → List Session → Type 0
+AreNew script sessions = (k : ℕ) (s : Session) → slice_get sessions k ≡ Some s → CanCall script s × (s.client ≡ k)
+
+-- the caller of this session, with the commands of the session's client
+pub record IsNewCaller (script : ScriptData) (s : Session) (c : Caller) : Type 0 where
+  pub session : c.session ≡ s
+  pub commands : c.commands.items ≡ commands_of script s.client
+
+-- the callers of these sessions
+pub record AreNewCallers (script : ScriptData) (sessions : List Session) (callers : List Caller) : Type 0 where
+  pub sessions_are : map session_of callers ≡ sessions
+  pub lists : (k : ℕ) (c : Caller) → slice_get callers k ≡ Some c → c.commands.items ≡ commands_of script c.session.client
+
+-- Callers that poll all that there is.
+
+-- nothing happened but that the caller may have polled replies, and that both ends of its session looked at their rings
+pub record Hears (a : StationData) (c : Caller) (b : StationData) (d : Caller) : Type 0 where
+  pub runner : b.runner ≡ a.runner
+  pub stay : StaySeated a.seats b.seats
+  pub seated : IsSeated d.session b.seats
+  pub calls : Calls c d
+
+-- the caller of this client polled all replies that its station has, and nothing else happened
+pub record TellsAt (script : ScriptData) (client : ℕ) (stations : List StationData) (callers : List Caller) (later : List StationData) (after : List Caller) : Type 0 where
+  pub serving : AreServing script later after
+  pub runners : map runner_of later ≡ map runner_of stations
+  pub others : (k : ℕ) → k ≢ client → slice_get after k ≡ slice_get callers k
+  pub heard : (c : Caller) → slice_get after client ≡ Some c → HasHeardAll script (map runner_of later) client c
+
+-- what the caller polled, each reply with its client
+abbrev pub marked : Caller → List (ℕ × Reply)
+marked c = map (λ (reply : Reply). (c.session.client, reply)) c.heard.items
+
+abbrev pub marked_by : Option Caller → List (ℕ × Reply)
+marked_by None = []
+marked_by (Some c) = marked c
+
+abbrev pub heard_at : List Caller → ℕ → List (ℕ × Reply)
+heard_at callers k = marked_by (slice_get callers k)
+
+-- Commands that come to their stations.
 
 -- how many commands the station has appended
 abbrev pub appended_at : StationData → ℕ

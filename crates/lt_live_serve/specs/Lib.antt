@@ -1,13 +1,4 @@
-pub mod Over
-pub mod Clients
-pub mod Status
-pub mod Input
-pub mod Asks
-pub mod Calls
-pub mod Serving
-pub mod Opening
-pub mod Apart
-pub mod Telling
-pub mod Completing
-pub mod Runs
 pub mod Serves
+pub mod Status
+pub mod Completing
+pub mod Apart

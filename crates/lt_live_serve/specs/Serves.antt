@@ -1,22 +1,99 @@
--- All that the top call says of an answer: what was written, why the answer comes, and what it says of the source and the sink.
-use Rattle.std.specs.Prelude.{◌≡◌, ◌≢◌, ◌<◌, ◌+◌, ◌⊎◌, ℕ, List, [], Option}
+-- Commands that a client may submit.
+use Rattle.std.specs.Prelude.{◌≡◌, true, ℕ, List, Some, slice_get, take, filter_map, ◌<◌, Bool, false, nat_lt, length, Option, None, Err, ◌≢◌, Ok, map, ◌+◌, ◌⊎◌, []}
 use Rattle.std.specs.Io.KnownBytes.{Appends}
-use Rattle.lt_io.specs.FaultCounts.{Rose, RoseBy}
-use Rattle.lt_io.specs.Source.{SourceState}
-use Rattle.lt_io.specs.Sink.{AppendsPart}
-use Rattle.lt_call.specs.Scripts.{HasFault, DenotesOrdered}
-use Rattle.lt_call.specs.Outcomes.{WritesNothing, SaysOfSource, SaysOfSink}
+use Rattle.lt_modes.specs.declared.command.Command.{Command}
+use Rattle.lt_modes.specs.Script.{ScriptData}
+use Rattle.lt_lists.specs.Below.{gather_below}
+use Rattle.lt_spec.specs.NodeMove.{command_if, commands_of}
 use Rattle.lt_spec.specs.declared.ending.Ending.{Ending}
 use Rattle.lt_spec.specs.declared.ending.Ending.TheVariants as ending
+use Rattle.lt_spec.specs.Holdings.{lines_of}
+use Rattle.lt_spec.specs.World.{Logged}
+use Rattle.lt_spec.specs.Script.{IsOrdered}
+use Rattle.lt_spec.specs.Promised.{Promised}
+use Rattle.lt_io.specs.Streams.{Rose, RoseBy, SourceState, AppendsPart}
+use Rattle.lt_script.specs.Reading.{read_of}
 use Rattle.lt_script.specs.declared.fault.ScriptFault.{ScriptFault}
-use Rattle.lt_spec.specs.Log.{Logged}
+use Rattle.lt_journal.specs.RunLines.{text_of}
+use Rattle.lt_threads.specs.Threads.{IsThreadRun}
+use Rattle.lt_live.specs.Stations.{may_ask, equal_share}
 use Rattle.lt_live.specs.declared.reply.Reply.{Reply}
-use Rattle.lt_live_serve.specs.declared.limits.TheConstants.{MAX_INPUT}
-use Rattle.lt_live_serve.specs.declared.served.Served.{Served}
+use Rattle.lt_live.specs.Seats.{replies_in}
+use Rattle.lt_call.specs.Scripts.{Denotes, HasFault, DenotesOrdered}
+use Rattle.lt_call.specs.Outcomes.{WritesNothing, SaysOfSource, SaysOfSink}
 use Rattle.lt_live_serve.specs.declared.status.Status.{Status}
-use Rattle.lt_live_serve.specs.declared.status.Status.TheVariants.{Done, Stuck, Usage, Refused, WriteFault, NoMemory, Cut, Share}
-use Rattle.lt_live_serve.specs.Runs.{IsOverShare, Journals}
-use Rattle.lt_live_serve.specs.Status.{outcome_of}
+use Rattle.lt_live_serve.specs.declared.status.Status.TheVariants.{Refused, NoMemory, Done, Stuck, Usage, WriteFault, Cut, Share}
+use Rattle.lt_live_serve.specs.declared.limits.TheConstants.{MOVES, MAX_INPUT}
+use Rattle.lt_live_serve.specs.Status.{cut_of, outcome_of}
+use Rattle.lt_live_serve.specs.declared.served.Served.{Served}
+
+-- all that these commands name is of the script and of its version
+abbrev pub AsksAll : ScriptData → ℕ → List Command → Type 0
+AsksAll script client commands = (k : ℕ) (command : Command) → slice_get commands k ≡ Some command → may_ask script client command ≡ true
+
+-- The commands of a client, among the first ones of the script.
+
+-- the client's commands among the first k ones
+abbrev pub among : ScriptData → ℕ → ℕ → List Command
+among script client k = filter_map (command_if client) (take k script.commands)
+
+-- Clients that have more commands than their sessions may submit.
+
+abbrev pub is_over : ScriptData → ℕ → Bool
+is_over script client = nat_lt (equal_share script) (length (commands_of script client))
+
+-- none of the first n clients has too many
+abbrev pub NoneIsOver : ScriptData → ℕ → Type 0
+NoneIsOver script n = (client : ℕ) → client < n → is_over script client ≡ false
+
+-- the least client that has too many, if there is one
+abbrev pub IsFirstOver : ScriptData → Option ℕ → Type 0
+IsFirstOver script None = NoneIsOver script (length script.clients)
+IsFirstOver script (Some client) = (client < length script.clients) × (is_over script client ≡ true) × NoneIsOver script client
+
+-- Why an input is refused.
+
+-- the bytes have this fault, or memory was wanting
+abbrev pub IsFaultOf : List ℕ → Status → Type 0
+IsFaultOf bytes (Refused fault) = read_of bytes ≡ Err fault
+IsFaultOf bytes NoMemory = Unit {0}
+IsFaultOf bytes other = ⊥
+
+-- What came of a script: its run, and what the sessions polled.
+
+-- if the bytes are known, they denote a script of which this client is the least that has more commands than its session may submit
+abbrev pub IsOverShare : Option (List ℕ) → ℕ → Type 0
+IsOverShare None client = Unit {0}
+IsOverShare (Some bytes) client = (script : ScriptData) × (read_of bytes ≡ Ok script) × IsFirstOver script (Some client)
+
+-- the replies to the first n clients, client by client, each with its client
+abbrev pub replies_below : ℕ → List Logged → List (ℕ × Reply)
+replies_below n run = gather_below n (λ client. map (λ (reply : Reply). (client, reply)) (replies_in client (lines_of run)))
+
+-- all replies of the run, client by client, each with its client
+abbrev pub all_replies : ScriptData → List Logged → List (ℕ × Reply)
+all_replies script run = replies_below (length script.clients) run
+
+-- a run of the script by all rules, its moves in the order of their stamps, that ended so and keeps all that is promised; and what
+-- the sessions polled, which is every reply of it
+pub record LiveRun (end : Ending) (script : ScriptData) (run : List Logged) (polled : List (ℕ × Reply)) : Type 0 where
+  pub ran : IsThreadRun MOVES end script run
+  pub promised : Promised script run
+  -- if the script is ordered, it didn't end at rest with a client waiting
+  pub ordered : IsOrdered script → end ≢ ending.Stuck
+  pub polled_is : polled ≡ all_replies script run
+
+-- such a run of the script that the bytes denote, in which no client has more commands than its session may submit, and its journal
+pub record Journals (end : Ending) (left : Option (List ℕ)) (run : List Logged) (polled : List (ℕ × Reply)) (text : List ℕ) : Type 0 where
+  pub script : ScriptData
+  pub denoted : Denotes left script
+  pub shared : IsFirstOver script None
+  pub live : LiveRun end script run polled
+  -- it wasn't cut
+  pub never_cut : (node : ℕ) → end ≢ ending.Cut node
+  pub journal : text ≡ text_of script run (cut_of end)
+
+-- All that the top call says of an answer: what was written, why the answer comes, and what it says of the source and the sink.
 
 -- it gives no run and no replies, and nothing was written
 abbrev pub DidNothing : List Logged → List (ℕ × Reply) → Option (List ℕ) → Option (List ℕ) → Type 0

@@ -1,7 +1,7 @@
 // Callers.
 ghost use Rattle.std.specs.Prelude.{◌≡◌, ◌≤◌, length, take};
 ghost use Rattle.lt_live.specs.Words.{submitted, polled, places};
-ghost use Rattle.lt_live_serve.specs.Asks.{AsksAll};
+ghost use Rattle.lt_live_serve.specs.Serves.{AsksAll};
 
 use lt_live::{Reply, Session};
 use lt_modes::Command;

@@ -1,8 +1,8 @@
 // What a caller does.
 ghost use Rattle.std.specs.Prelude.{◌≡◌, ◌≤◌, ◌<◌, ◌+◌, [], true, false, length, IfOk};
-ghost use Rattle.lt_spec.specs.Families.{home};
+ghost use Rattle.lt_spec.specs.NodeMove.{home};
 ghost use Rattle.lt_live.specs.Words.{known_replies};
-ghost use Rattle.lt_live_serve.specs.Calls.{Calls, left_of};
+ghost use Rattle.lt_live_serve.specs.Completing.{Calls, left_of};
 
 use crate::callers::Caller;
 use crate::limits::TRIES;
@@ -17,7 +17,7 @@ impl Caller {
     }
 
     /// Submits the next command of its client; false where there is none any more.
-    #[tactic(auto, using(crate::proofs::Submitting::has_left, crate::proofs::Submitting::has_place, crate::proofs::Submitting::targets_of, crate::proofs::Submitting::modes_of, crate::proofs::Submitting::one_more, crate::proofs::Submitting::submitted_count))]
+    #[tactic(auto, using(crate::proofs::Beside::has_left, crate::proofs::Beside::has_place, crate::proofs::Beside::targets_of, crate::proofs::Beside::modes_of, crate::proofs::Beside::one_more, crate::proofs::Beside::submitted_count))]
     pub(crate) fn submit_next(&mut self) -> bool
         ensures calls { Calls self.old self.new }
         ensures one { result ≡ true → left_of self.new < left_of self.old }

@@ -2,9 +2,7 @@
 ghost use Rattle.std.specs.Prelude.{◌≡◌, ◌<◌, true, false, nat_lt, length, IfOk, OnOk};
 ghost use Rattle.lt_spec.specs.Script.{IsScript};
 ghost use Rattle.lt_live.specs.Stations.{IsSeated, StaySeated, SeatLooks};
-ghost use Rattle.lt_live_serve.specs.Calls.{Calls, AllSubmitted};
-ghost use Rattle.lt_live_serve.specs.Completing.{CallersLook, CallerLooks, IsKept, AreStationsKept, Turns, TurnsAt, AllTurn, all_lack};
-ghost use Rattle.lt_live_serve.specs.Serving.{AreServing, AreComplete};
+ghost use Rattle.lt_live_serve.specs.Completing.{Calls, AllSubmitted, CallersLook, CallerLooks, IsKept, AreStationsKept, Turns, TurnsAt, AllTurn, all_lack, AreServing, AreComplete};
 
 use crate::callers::Caller;
 use lt_live::Station;

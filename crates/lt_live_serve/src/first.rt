@@ -1,6 +1,6 @@
 // The first round, in which each client has a command for its station.
 ghost use Rattle.lt_live.specs.Live.{StationGoesOn, EachStation};
-ghost use Rattle.lt_live_serve.specs.Calls.{Calls, EachCaller};
+ghost use Rattle.lt_live_serve.specs.Completing.{Calls, EachCaller};
 
 use crate::callers::Caller;
 use crate::rounds::round;

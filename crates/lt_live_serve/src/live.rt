@@ -1,11 +1,10 @@
 // The run of a script whose commands are submitted by callers.
 ghost use Rattle.std.specs.Prelude.{◌≢◌, ℕ, None, map, IfOk};
 ghost use Rattle.lt_spec.specs.Script.{IsScript};
-ghost use Rattle.lt_live.specs.Opened.{runner_of};
-ghost use Rattle.lt_threads.specs.Together.{IsCrew};
+ghost use Rattle.lt_live.specs.Stations.{runner_of};
+ghost use Rattle.lt_threads.specs.Meeting.{IsCrew};
 ghost use Rattle.lt_live_serve.specs.Apart.{IsRunOf};
-ghost use Rattle.lt_live_serve.specs.Over.{IsFirstOver};
-ghost use Rattle.lt_live_serve.specs.Runs.{LiveRun};
+ghost use Rattle.lt_live_serve.specs.Serves.{IsFirstOver, LiveRun};
 
 use crate::completing::complete_all;
 use crate::first::first_round;
@@ -35,7 +34,7 @@ pub(crate) struct Live {
 }
 
 /// The run of the script, whose commands callers submit and whose replies they poll.
-#[tactic(auto, using(crate::proofs::Ended::not_cut, crate::proofs::Ended::moves_are_many))]
+#[tactic(auto, using(crate::proofs::Heard::not_cut, crate::proofs::Heard::moves_are_many))]
 pub(crate) fn live_run<R: Threads + Sync, G: Gate>(
     rt: &R,
     alloc: Global,

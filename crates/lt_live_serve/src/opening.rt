@@ -2,11 +2,9 @@
 ghost use Rattle.std.specs.Prelude.{◌≡◌, ◌≤◌, ◌<◌, ◌+◌, None, length, IfOk, OnOk};
 ghost use Rattle.lt_spec.specs.Script.{IsScript};
 ghost use Rattle.lt_spec.specs.declared.limits.TheConstants.{MAX_COMMANDS};
-ghost use Rattle.lt_spec.specs.Families.{commands_of};
-ghost use Rattle.lt_live_serve.specs.Clients.{among};
-ghost use Rattle.lt_live_serve.specs.Opening.{share_or_one, IsNewCaller, CanCall, AreNew, AreNewCallers};
-ghost use Rattle.lt_live_serve.specs.Over.{IsFirstOver};
-ghost use Rattle.lt_live_serve.specs.Serving.{AreServing};
+ghost use Rattle.lt_spec.specs.NodeMove.{commands_of};
+ghost use Rattle.lt_live_serve.specs.Serves.{among, IsFirstOver};
+ghost use Rattle.lt_live_serve.specs.Completing.{share_or_one, IsNewCaller, CanCall, AreNew, AreNewCallers, AreServing};
 
 use crate::callers::Caller;
 use crate::limits::MOVES;
@@ -16,7 +14,7 @@ use lt_script::{MAX_COMMANDS, Script};
 use std::alloc::{AllocError, Global};
 
 /// The stations of all nodes of the script, and the callers of all clients, of whom none has submitted a command.
-#[tactic(auto, using(crate::proofs::Opened::are_new, crate::proofs::Opened::first_serving))]
+#[tactic(auto, using(crate::proofs::Beside::are_new, crate::proofs::Beside::first_serving))]
 pub(crate) fn begin(
     alloc: Global,
     script: &Script,
@@ -43,7 +41,7 @@ fn share_of(script: &Script) -> u32
 }
 
 // A caller for each session.
-#[tactic(auto, using(crate::proofs::Opened::no_caller))]
+#[tactic(auto, using(crate::proofs::Beside::no_caller))]
 fn callers_of(
     alloc: Global,
     script: &Script,
@@ -60,7 +58,7 @@ fn callers_of(
     Ok(callers)
 }
 
-#[tactic(auto, using(crate::proofs::Opened::asks_all))]
+#[tactic(auto, using(crate::proofs::Beside::asks_all))]
 fn caller_of(alloc: Global, script: &Script, session: Session) -> Result<Caller, AllocError>
     requires kept { IsScript script.now }
     requires session { CanCall script.now session }
@@ -76,7 +74,7 @@ fn caller_of(alloc: Global, script: &Script, session: Session) -> Result<Caller,
 }
 
 // The commands of the client, in order.
-#[tactic(auto, using(crate::proofs::Clients::among_all))]
+#[tactic(auto, using(crate::proofs::Completed::among_all))]
 fn commands_of(alloc: Global, script: &Script, client: u16) -> Result<Vec<Command>, AllocError>
     ensures { IfOk result (λ commands. commands.items ≡ commands_of script.now client) }
 {
@@ -88,7 +86,7 @@ fn commands_of(alloc: Global, script: &Script, client: u16) -> Result<Vec<Comman
 }
 
 // Adds the command at this place, where it is the client's.
-#[tactic(auto, using(crate::proofs::Clients::pushed_own, crate::proofs::Clients::pushed_other))]
+#[tactic(auto, using(crate::proofs::Completed::pushed_own, crate::proofs::Completed::pushed_other))]
 fn push_own(
     commands: &mut Vec<Command>,
     script: &Script,

@@ -1,13 +1,12 @@
 // Clients that have more commands than their sessions may submit.
 ghost use Rattle.std.specs.Prelude.{◌≡◌, ◌<◌, ◌≤◌, ◌+◌, length};
-ghost use Rattle.lt_spec.specs.Families.{commands_of};
-ghost use Rattle.lt_live_serve.specs.Clients.{among};
-ghost use Rattle.lt_live_serve.specs.Over.{is_over, IsFirstOver};
+ghost use Rattle.lt_spec.specs.NodeMove.{commands_of};
+ghost use Rattle.lt_live_serve.specs.Serves.{among, is_over, IsFirstOver};
 
 use lt_script::{MAX_COMMANDS, Script};
 
 /// The least client that has more commands than its session may submit.
-#[tactic(auto, using(crate::proofs::Sharing::next_over, crate::proofs::Sharing::all_over))]
+#[tactic(auto, using(crate::proofs::Told::next_over, crate::proofs::Told::all_over))]
 pub(crate) fn first_over(script: &Script) -> Option<u16>
     ensures { IsFirstOver script.now result }
 {
@@ -27,7 +26,7 @@ fn is_over(script: &Script, client: u16) -> bool
 }
 
 /// How many commands the client has.
-#[tactic(auto, using(crate::proofs::Clients::count_all))]
+#[tactic(auto, using(crate::proofs::Completed::count_all))]
 pub(crate) fn count_of(script: &Script, client: u16) -> u32
     ensures { result ≡ length (commands_of script.now client) }
 {
@@ -39,7 +38,7 @@ pub(crate) fn count_of(script: &Script, client: u16) -> u32
 }
 
 // One where the command at this place is the client's.
-#[tactic(auto, using(crate::proofs::Clients::count_own, crate::proofs::Clients::count_other))]
+#[tactic(auto, using(crate::proofs::Completed::count_own, crate::proofs::Completed::count_other))]
 fn count_at(script: &Script, client: u16, place: u32) -> u32
     requires { place < length script.now.commands }
     ensures count { length (among script.now client (place + 1)) ≡ length (among script.now client place) + result }

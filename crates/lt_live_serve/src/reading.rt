@@ -1,14 +1,12 @@
 ghost use Rattle.std.specs.Prelude.{◌≡◌, ◌≤◌, Ok, None, length, IfOk, OnOk, IfErr};
-ghost use Rattle.lt_io.specs.Whole.{IsReadWhole};
+ghost use Rattle.lt_io.specs.Streams.{IsReadWhole};
 ghost use Rattle.lt_call.specs.Outcomes.{IsRefusal, SaysOfSource};
 ghost use Rattle.lt_call.specs.Scripts.{Denotes};
 ghost use Rattle.lt_spec.specs.Script.{IsScript};
 ghost use Rattle.lt_script.specs.Reading.{read_of};
 ghost use Rattle.lt_live_serve.specs.declared.limits.TheConstants.{MAX_INPUT};
-ghost use Rattle.lt_live_serve.specs.Over.{IsFirstOver};
-ghost use Rattle.lt_live_serve.specs.Serves.{IsUnfit};
+ghost use Rattle.lt_live_serve.specs.Serves.{IsFirstOver, IsUnfit, IsFaultOf};
 ghost use Rattle.lt_live_serve.specs.Status.{outcome_of};
-ghost use Rattle.lt_live_serve.specs.Input.{IsFaultOf};
 
 use crate::limits::MAX_INPUT;
 use crate::over::first_over;

@@ -1,7 +1,7 @@
 // Rounds, in which stations and callers are at work beside each other.
 ghost use Rattle.std.specs.Prelude.{◌≡◌, ◌≤◌, ◌<◌, true, false};
 ghost use Rattle.lt_live.specs.Live.{StationGoesOn, EachStation};
-ghost use Rattle.lt_live_serve.specs.Calls.{Calls, EachCaller, AllSubmitted, all_left};
+ghost use Rattle.lt_live_serve.specs.Completing.{Calls, EachCaller, AllSubmitted, all_left};
 
 use crate::callers::Caller;
 use crate::limits::{TRIES, WORKERS};
@@ -101,7 +101,7 @@ fn turn_all<R: Threads + Sync, G: Gate>(rt: &R, stations: &mut [Station], gate: 
 }
 
 // Makes turns, for a while.
-#[tactic(auto, using(lt_live::proofs::Live::station_itself, crate::proofs::Lasting::station_turned))]
+#[tactic(auto, using(lt_live::proofs::Settling::station_itself, crate::proofs::Lasting::station_turned))]
 fn turn_often<G: Gate>(station: &mut Station, gate: &G)
     ensures { StationGoesOn station.old station.new }
 {

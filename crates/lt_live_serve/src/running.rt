@@ -1,10 +1,10 @@
 // Lets the nodes make all moves that are left.
 ghost use Rattle.std.specs.Prelude.{◌≡◌, ◌≤◌, [], length, map, vec_capacity, IfOk};
 ghost use Rattle.lt_spec.specs.Script.{IsScript};
-ghost use Rattle.lt_threads.specs.Crews.{MovedOn};
-ghost use Rattle.lt_live.specs.Opened.{runner_of};
+ghost use Rattle.lt_threads.specs.Pushes.{MovedOn};
+ghost use Rattle.lt_live.specs.Stations.{runner_of};
 ghost use Rattle.lt_live_serve.specs.Apart.{AreParts, GoTogether};
-ghost use Rattle.lt_live_serve.specs.Serving.{AreServing, AreComplete};
+ghost use Rattle.lt_live_serve.specs.Completing.{AreServing, AreComplete};
 
 use crate::benches::Bench;
 use crate::callers::Caller;

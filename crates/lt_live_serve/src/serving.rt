@@ -1,9 +1,8 @@
 ghost use Rattle.std.specs.Prelude.{◌≡◌, ◌⊎◌, ℕ, [], List, Option, length, IfOk, IfErr, OnOk};
-ghost use Rattle.lt_io.specs.Whole.{IsReadWhole};
+ghost use Rattle.lt_io.specs.Streams.{IsReadWhole};
 ghost use Rattle.lt_call.specs.Outcomes.{IsEnding, IsRefusal, SaysOfSink, SaysOfSource, WritesNothing};
 ghost use Rattle.lt_live_serve.specs.declared.limits.TheConstants.{MAX_INPUT};
-ghost use Rattle.lt_live_serve.specs.Runs.{Journals};
-ghost use Rattle.lt_live_serve.specs.Serves.{Serves, Did, IsUnfit};
+ghost use Rattle.lt_live_serve.specs.Serves.{Journals, Serves, Did, IsUnfit};
 ghost use Rattle.lt_live_serve.specs.Status.{outcome_of};
 
 use crate::live::live_run;

@@ -2,12 +2,9 @@
 ghost use Rattle.std.specs.Prelude.{◌≡◌, ◌≤◌, ◌<◌, ◌++◌, true, false, length, map, IfOk, OnOk};
 ghost use Rattle.lt_lists.specs.Below.{gather_below};
 ghost use Rattle.lt_spec.specs.Holdings.{lines_of};
-ghost use Rattle.lt_live.specs.Opened.{runner_of};
-ghost use Rattle.lt_live.specs.Replies.{replies_in};
-ghost use Rattle.lt_live.specs.Stations.{IsSeated, StaySeated};
-ghost use Rattle.lt_live_serve.specs.Calls.{Calls};
-ghost use Rattle.lt_live_serve.specs.Serving.{AreServing, HaveHeard};
-ghost use Rattle.lt_live_serve.specs.Telling.{Hears, TellsAt, marked, heard_at};
+ghost use Rattle.lt_live.specs.Stations.{runner_of, IsSeated, StaySeated};
+ghost use Rattle.lt_live.specs.Seats.{replies_in};
+ghost use Rattle.lt_live_serve.specs.Completing.{Calls, AreServing, HaveHeard, Hears, TellsAt, marked, heard_at};
 
 use crate::callers::Caller;
 use lt_live::{Reply, Station};

@@ -1,16 +1,13 @@
 -- A ring that is looked at from both of its ends.
-use Rattle.std.proofs.Common.{◌≡◌, refl, ap, ℕ, ◌<◌, inl, inr, List, [], ◌++◌, length, Option, Some, None, sym, subst, arith, ◌∙◌, append_assoc, length-append}
-use Rattle.std.specs.Prelude.{◌⊎◌, slice_get}
+use Rattle.std.proofs.Common.{◌≡◌, refl, ap, ℕ, ◌<◌, inl, inr, List, [], ◌++◌, length, Option, Some, None, sym, subst, arith, ◌∙◌, append_assoc, length-append, ◌⊎◌, slice_get}
 use Rattle.std.proofs.lemmas.Option.{slice_get_within}
 use Rattle.rtrb.specs.Ring.{known_free}
 use Rattle.lt_desk.specs.declared.letter.Letter.{Letter}
 use Rattle.lt_mail.specs.declared.lane.OutEnd.{OutEnd}
 use Rattle.lt_mail.specs.declared.lane.InLane.{InLane}
 use Rattle.lt_mail.specs.declared.mail.Mail.{Mail}
-use Rattle.lt_mail.specs.Lanes.{OutLane, letters_to, lane_of, ring_given, outbox_letters, taken, known}
-use Rattle.lt_mail.specs.Words.{out_at, in_at, outs_count, ins_count, Both, IsOpenLink, AreLinked, SameOut, SameIn}
-use Rattle.lt_mail.specs.Changes.{OutChanges, InChanges, Flushes}
-use Rattle.lt_mail.specs.Both.{IsMet, LaneGives, Sees, LooksAgain, KnowsPlaces, KnowsLetters}
+use Rattle.lt_mail.specs.Words.{OutLane, letters_to, lane_of, ring_given, outbox_letters, taken, known, out_at, in_at, outs_count, ins_count, Both, IsOpenLink, AreLinked, SameOut, SameIn, IsMet, LaneGives, Sees, LooksAgain, KnowsPlaces, KnowsLetters}
+use Rattle.lt_mail.specs.Passing.{OutChanges, InChanges, Flushes}
 
 -- both ends of the ring are there
 pub linked_ends : (out into : Mail) → AreLinked out into → (into.me < outs_count out) × (out.me < ins_count into)

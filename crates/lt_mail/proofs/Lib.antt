@@ -1,10 +1,5 @@
-pub mod WordLemmas
-pub mod MailLemmas
-pub mod PassLemmas
-pub mod PassedLemmas
-pub mod FlushLemmas
 pub mod LookLemmas
+pub mod PassLemmas
+pub mod FlushLemmas
 pub mod BothLemmas
 pub mod OpeningLemmas
-pub mod OpenedLemmas
-pub mod FirstMails

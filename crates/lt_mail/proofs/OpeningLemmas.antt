@@ -1,14 +1,12 @@
 -- One ring more.
-use Rattle.std.proofs.Common.{◌≡◌, ◌≢◌, ℕ, ◌+◌, ◌<◌, inl, inr, List, [], ◌∷◌, ◌++◌, Option, Some, None, length, refl, sym, ap, subst, arith, ◌∙◌}
-use Rattle.std.specs.Prelude.{◌⊎◌, slice_get, zero, suc}
+use Rattle.std.proofs.Common.{◌≡◌, ◌≢◌, ℕ, ◌+◌, ◌<◌, inl, inr, List, [], ◌∷◌, ◌++◌, Option, Some, None, length, refl, sym, ap, subst, arith, ◌∙◌, ◌⊎◌, slice_get, zero, suc}
 use Rattle.std.proofs.lemmas.Bool.{cases_eq}
 use Rattle.std.proofs.lemmas.List.{length_push}
 use Rattle.std.proofs.lemmas.Option.{slice_get_within}
 use Rattle.lt_mail.specs.declared.lane.OutEnd.{OutEnd}
 use Rattle.lt_mail.specs.declared.lane.InLane.{InLane}
 use Rattle.lt_mail.specs.declared.mail.Mail.{Mail}
-use Rattle.lt_mail.specs.Lanes.{AreRingEnds}
-use Rattle.lt_mail.specs.Words.{end_at, in_at, outs_count, ins_count, Both}
+use Rattle.lt_mail.specs.Words.{AreRingEnds, end_at, in_at, outs_count, ins_count, Both}
 use Rattle.lt_mail.specs.Opening.{IsNewOut, IsNewIn, AtOne, GainsOut, GainsIn, GainsLink, Opening, AreEmpty}
 
 pub some_same : {X : Type 0} (x y : X) → Some x ≡ Some y → x ≡ y

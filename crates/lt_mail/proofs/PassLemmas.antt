@@ -1,16 +1,13 @@
 -- Letters go from the list of those that wait into the rings, one after the other.
-use Rattle.std.proofs.Common.{◌≡◌, ◌≢◌, refl, ap, ℕ, Bool, true, false, ◌+◌, ◌<◌, inl, inr, List, [], ◌∷◌, ◌++◌, length, set, Option, Some, None, sym, subst, arith, ◌∙◌, append-nil, append_assoc, length-set, get_or-set_same, get_or-set_other}
-use Rattle.std.specs.Prelude.{zero, suc, slice_get, replicate}
-use Rattle.std.proofs.lemmas.List.{length-replicate}
-use Rattle.std.proofs.lemmas.List.{length_push}
-use Rattle.std.proofs.lemmas.Bool.{cases_eq, false≢true, eq-eqb, ne_eqb}
+use Rattle.std.proofs.Common.{◌≡◌, ◌≢◌, refl, ap, ℕ, Bool, true, false, ◌+◌, ◌<◌, inl, inr, List, [], ◌∷◌, ◌++◌, length, set, Option, Some, None, sym, subst, arith, ◌∙◌, append-nil, append_assoc, length-set, get_or-set_same, get_or-set_other, zero, suc, slice_get, replicate, eq-eqb, ne_eqb}
+use Rattle.std.proofs.lemmas.List.{length-replicate, length_push}
+use Rattle.std.proofs.lemmas.Bool.{cases_eq, false≢true}
 use Rattle.std.proofs.lemmas.List.Elements.{filter_map-append}
 use Rattle.rtrb.specs.Ring.{sent}
 use Rattle.lt_desk.specs.declared.letter.Letter.{Letter}
 use Rattle.lt_desk.specs.declared.letter.Post.{Post}
 use Rattle.lt_mail.specs.declared.lane.OutEnd.{OutEnd}
-use Rattle.lt_mail.specs.Lanes.{OutLane, letter_to, letters_to, lane_of, lane_in}
-use Rattle.lt_mail.specs.Words.{Alike}
+use Rattle.lt_mail.specs.Words.{OutLane, letter_to, letters_to, lane_of, lane_in, Alike}
 use Rattle.lt_mail.specs.Passing.{is_tried, is_held, EndChanges, Looks, GivesOne, IsFullEnd, EndIsFull, LaneGoes, LaneAt, Passing}
 
 -- the letters to a node, where the first one is for it, or isn't

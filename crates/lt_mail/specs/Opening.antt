@@ -4,8 +4,7 @@ use Rattle.rtrb.specs.Ring.{sent, producer_capacity}
 use Rattle.lt_mail.specs.declared.lane.OutEnd.{OutEnd}
 use Rattle.lt_mail.specs.declared.lane.InLane.{InLane}
 use Rattle.lt_mail.specs.declared.mail.Mail.{Mail}
-use Rattle.lt_mail.specs.Lanes.{OutLane, taken, known, AreRingEnds}
-use Rattle.lt_mail.specs.Words.{out_at, end_at, in_at, outs_count, ins_count, sent_to, taken_from, known_from, Both, AreLinked}
+use Rattle.lt_mail.specs.Words.{OutLane, taken, known, AreRingEnds, out_at, end_at, in_at, outs_count, ins_count, sent_to, taken_from, known_from, Both, AreLinked}
 
 -- the mail of a node of a script with so many nodes, in which no letter was sent, taken or seen
 pub record IsFresh (nodes node : ℕ) (m : Mail) : Type 0 where

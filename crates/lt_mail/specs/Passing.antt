@@ -1,13 +1,105 @@
--- Letters on their way from the list of those that wait into the rings.
-use Rattle.std.specs.Prelude.{◌≡◌, ◌≢◌, ◌==◌, ◌+◌, ◌≤◌, ◌<◌, ℕ, Bool, true, false, List, [], ◌∷◌, ◌++◌, Option, Some, None, length, slice_get, slice_index_or}
+-- What one lane of a mail did, and that no other did anything.
+use Rattle.std.specs.Prelude.{◌≡◌, ◌≢◌, ◌+◌, ◌≤◌, ◌<◌, ◌⊎◌, Bool, ℕ, [], ◌∷◌, ◌++◌, Option, Some, None, MatchBool, length, false, List, slice_get, ◌==◌, true, slice_index_or}
 use mathlib.Core.List.{IsPrefix}
-use Rattle.rtrb.specs.Ring.{known_free, sent, SameProducer, ProducerLooked}
+use Rattle.rtrb.specs.Ring.{producer_capacity, known_free, sent, SameProducer, ProducerLooked}
 use Rattle.lt_desk.specs.declared.letter.Letter.{Letter}
 use Rattle.lt_desk.specs.declared.letter.Post.{Post}
+use Rattle.lt_mail.specs.declared.lane.InLane.{InLane}
+use Rattle.lt_mail.specs.declared.mail.Mail.{Mail}
+use Rattle.lt_mail.specs.Words.{OutLane, ring_given, outbox_letters, sent_by, taken, known, sent_to, SameEnds, out_at, in_at, outs_count, ins_count, Both, SameOut, SameIn, taken_from, known_from, Alike, Sees, letters_to, lane_in}
 use Rattle.lt_mail.specs.declared.lane.OutEnd.{OutEnd}
-use Rattle.lt_mail.specs.Lanes.{OutLane, sent_by, letters_to, lane_in}
-use Rattle.lt_mail.specs.Words.{Alike}
-use Rattle.lt_mail.specs.Changes.{Flushes}
+
+-- one lane that sends went from the one to the other in this way
+pub record OutChanges (R : OutLane → OutLane → Type 0) (a b : Mail) (to : ℕ) : Type 0 where
+  pub me : b.me ≡ a.me
+  pub counts : (outs_count b ≡ outs_count a) × (ins_count b ≡ ins_count a)
+  pub ins : (node : ℕ) → in_at b node ≡ in_at a node
+  pub lane : Both R (out_at a to) (out_at b to)
+  pub others : (node : ℕ) → node ≢ to → out_at b node ≡ out_at a node
+
+-- one lane that takes did
+pub record InChanges (R : InLane → InLane → Type 0) (a b : Mail) (from : ℕ) : Type 0 where
+  pub me : b.me ≡ a.me
+  pub counts : (outs_count b ≡ outs_count a) × (ins_count b ≡ ins_count a)
+  pub outs : (node : ℕ) → out_at b node ≡ out_at a node
+  pub lane : Both R (in_at a from) (in_at b from)
+  pub others : (node : ℕ) → node ≢ from → in_at b node ≡ in_at a node
+
+-- the outbox has one letter more
+pub record Puts (letter : Letter) (x y : OutLane) : Type 0 where
+  pub ring : SameOut x y
+  pub sent : sent_by y ≡ sent_by x ++ letter ∷ []
+  pub ring_given : ring_given y ≡ ring_given x
+
+-- letters went from the outbox to the ring
+pub record Flushes (x y : OutLane) : Type 0 where
+  pub ring : SameOut x y
+  pub sent : sent_by y ≡ sent_by x
+  pub grew : IsPrefix (ring_given x) (ring_given y)
+  pub places : known_free x.end.ring + length (ring_given x) ≤ known_free y.end.ring + length (ring_given y)
+  pub first : length (ring_given y) < producer_capacity y.end.ring → outbox_letters y ≡ []
+  pub stops : (outbox_letters y ≡ []) ⊎ (known_free y.end.ring ≡ 0)
+
+-- the letter was taken
+pub record Takes (letter : Letter) (x y : InLane) : Type 0 where
+  pub ring : SameIn x y
+  pub taken : taken y ≡ taken x ++ letter ∷ []
+  pub next : IsPrefix (known x) (letter ∷ known y)
+
+-- the letter was taken, and was the first known one
+pub record TakesKnown (letter : Letter) (x y : InLane) : Type 0 where
+  pub ring : SameIn x y
+  pub taken : taken y ≡ taken x ++ letter ∷ []
+  pub known : known x ≡ letter ∷ known y
+
+-- no letter was known
+pub record TakesNone (x y : InLane) : Type 0 where
+  pub ring : SameIn x y
+  pub taken : taken y ≡ taken x
+  pub before : known x ≡ []
+  pub now : known y ≡ []
+
+-- no letter was known, and nothing happened
+pub record FindsNoLetter (x y : InLane) : Type 0 where
+  pub same : y ≡ x
+  pub empty : known x ≡ []
+
+-- the answer to whether a letter is in the ring
+abbrev pub Saw : Bool → Option InLane → Type 0
+Saw answer None = ⊥
+Saw answer (Some lane) = MatchBool answer (0 < length (known lane)) (known lane ≡ [])
+
+-- what was sent stays, and so does all that is taken
+pub record KeepsSent (a b : Mail) : Type 0 where
+  pub sent : (node : ℕ) → sent_to b node ≡ sent_to a node
+  pub ins : (node : ℕ) → in_at b node ≡ in_at a node
+  pub ends : SameEnds a b
+
+-- What looking at the rings that letters come by does.
+
+-- one ring was looked at
+pub record LooksAt (xs ys : List InLane) (from : ℕ) : Type 0 where
+  pub count : length ys ≡ length xs
+  pub here : Both Sees (slice_get xs from) (slice_get ys from)
+  pub others : (node : ℕ) → node ≢ from → slice_get ys node ≡ slice_get xs node
+
+-- some rings were
+pub record LooksAtSome (xs ys : List InLane) : Type 0 where
+  pub count : length ys ≡ length xs
+  pub lanes : (node : ℕ) → Alike Sees (slice_get xs node) (slice_get ys node)
+
+-- no letter of the first of the other nodes is in its ring
+abbrev pub SawNone : ℕ → ℕ → List InLane → Type 0
+SawNone first me ys = (node : ℕ) → node < first → node ≢ me → Saw false (slice_get ys node)
+
+-- the mail whose rings were looked at: nothing was taken, and more letters may be known
+pub record Looked (a b : Mail) : Type 0 where
+  pub ends : SameEnds a b
+  pub outs : (node : ℕ) → out_at b node ≡ out_at a node
+  pub taken : (node : ℕ) → taken_from b node ≡ taken_from a node
+  pub known : (node : ℕ) → IsPrefix (known_from a node) (known_from b node)
+
+-- Letters on their way from the list of those that wait into the rings.
 
 -- letters to this node are given to its ring
 abbrev pub is_tried : Option ℕ → ℕ → Bool

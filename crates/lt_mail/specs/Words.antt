@@ -1,14 +1,61 @@
--- What a node sent and took, by the number of the other node.
-use Rattle.std.specs.Prelude.{◌≡◌, ◌==◌, ◌+◌, ◌≤◌, ◌<◌, ℕ, List, [], ◌∷◌, Option, Some, None, if◌then◌else◌, length, map, slice_get}
+-- What went through the ends of a ring, and what waits for a place in it.
+use Rattle.std.specs.Prelude.{ℕ, ◌==◌, List, ◌++◌, Option, Some, None, if◌then◌else◌, slice_get, ◌≡◌, ◌+◌, ◌≤◌, ◌<◌, [], ◌∷◌, length, map, ◌⊎◌, filter_map}
 use Rattle.std.specs.VecDeque.{deque_len, deque_capacity}
-use Rattle.rtrb.specs.Ring.{known_free, producer_capacity, SameProducer, SameConsumer}
+use Rattle.rtrb.specs.Ring.{sent, received, known_items, IsPair, known_free, producer_capacity, SameProducer, SameConsumer}
+use mathlib.Core.List.{IsPrefix}
 use Rattle.lt_modes.specs.State as rules
 use Rattle.lt_desk.specs.declared.letter.Letter.{Letter}
+use Rattle.lt_desk.specs.declared.letter.Post.{Post}
 use Rattle.lt_desk.specs.LetterSeen.{letter_seen}
 use Rattle.lt_mail.specs.declared.lane.OutEnd.{OutEnd}
 use Rattle.lt_mail.specs.declared.lane.InLane.{InLane}
 use Rattle.lt_mail.specs.declared.mail.Mail.{Mail}
-use Rattle.lt_mail.specs.Lanes.{OutLane, lane_in, ring_given, outbox_letters, sent_by, taken, known, AreRingEnds}
+
+-- the sending end of a ring, and the letters that wait for a place in it: the outbox
+pub record OutLane : Type 0 where
+  pub end : OutEnd
+  pub outbox : List Letter
+
+-- the letter, where it is for the node
+abbrev pub letter_to : ℕ → Post → Option Letter
+letter_to node post = if post.to == node then Some post.letter else None
+
+-- the letters for the node, in order
+abbrev pub letters_to : ℕ → List Post → List Letter
+letters_to node posts = filter_map (letter_to node) posts
+
+abbrev pub lane_of : List Letter → Option OutEnd → Option OutLane
+lane_of letters None = None
+lane_of letters (Some end) = Some (record { end = end; outbox = letters })
+
+-- the end of the ring to the node, and of all letters that wait those for the node
+abbrev pub lane_in : List OutEnd → List Post → ℕ → Option OutLane
+lane_in outs waiting node = lane_of (letters_to node waiting) (slice_get outs node)
+
+-- the letters that the ring was given
+abbrev pub ring_given : OutLane → List Letter
+ring_given lane = sent lane.end.ring
+
+-- the letters in the outbox
+abbrev pub outbox_letters : OutLane → List Letter
+outbox_letters lane = lane.outbox
+
+-- the letters that were sent by this end
+abbrev pub sent_by : OutLane → List Letter
+sent_by lane = ring_given lane ++ outbox_letters lane
+
+abbrev pub taken : InLane → List Letter
+taken lane = received lane.ring
+
+-- letters that this end knows to be in the ring: the next ones
+abbrev pub known : InLane → List Letter
+known lane = known_items lane.ring
+
+-- the two ends of one ring
+abbrev pub AreRingEnds : OutEnd → InLane → Type 0
+AreRingEnds out into = IsPair out.ring into.ring
+
+-- What a node sent and took, by the number of the other node.
 
 abbrev pub seen : List Letter → List rules.Letter
 seen letters = map letter_seen letters
@@ -115,3 +162,37 @@ IsOpenLink out into = AreRingEnds out.end into × (0 < producer_capacity out.end
 -- the one sends to the other
 abbrev pub AreLinked : Mail → Mail → Type 0
 AreLinked out into = Both IsOpenLink (out_at out into.me) (in_at into out.me)
+
+-- What two mails did that looked at a ring from both ends.
+
+-- letters may have gone from the outbox to the ring
+pub record LaneGives (x y : OutLane) : Type 0 where
+  pub ring : SameOut x y
+  pub sent : sent_by y ≡ sent_by x
+  pub grew : IsPrefix (ring_given x) (ring_given y)
+
+-- more letters may be known
+pub record Sees (x y : InLane) : Type 0 where
+  pub ring : SameIn x y
+  pub taken : taken y ≡ taken x
+  pub learnt : IsPrefix (known x) (known y)
+
+-- all letters in the ring are known, and it has one where the outbox does
+pub record IsMet (out : OutLane) (into : InLane) : Type 0 where
+  pub whole : taken into ++ known into ≡ ring_given out
+  pub moves : (outbox_letters out ≡ []) ⊎ (0 < length (known into))
+
+-- the sending end may know more places to be free
+pub record LooksAgain (x y : OutLane) : Type 0 where
+  pub ring : SameOut x y
+  pub ring_given : ring_given y ≡ ring_given x
+  pub outbox : outbox_letters y ≡ outbox_letters x
+
+-- all free places of the ring, which has some, are known
+abbrev pub KnowsPlaces : OutLane → InLane → Type 0
+KnowsPlaces out into =
+    (0 < producer_capacity out.end.ring) × (known_free out.end.ring + length (ring_given out) ≡ producer_capacity out.end.ring + length (taken into))
+
+-- all letters in the ring are known
+abbrev pub KnowsLetters : OutLane → InLane → Type 0
+KnowsLetters out into = taken into ++ known into ≡ ring_given out

@@ -1,9 +1,8 @@
 // Both ends of a ring at once.
 ghost use Rattle.std.specs.Prelude.{◌≡◌, ◌≢◌, ℕ, [], ◌++◌};
 ghost use mathlib.Core.List.{IsPrefix};
-ghost use Rattle.lt_mail.specs.Words.{out_at, in_at, sent_to, given_to, waiting_to, taken_from, known_from, SameEnds, Both, AreLinked};
-ghost use Rattle.lt_mail.specs.Both.{IsMet, LaneGives, Sees, LooksAgain, KnowsPlaces, KnowsLetters};
-ghost use Rattle.lt_mail.specs.Changes.{OutChanges, InChanges};
+ghost use Rattle.lt_mail.specs.Words.{out_at, in_at, sent_to, given_to, waiting_to, taken_from, known_from, SameEnds, Both, AreLinked, IsMet, LaneGives, Sees, LooksAgain, KnowsPlaces, KnowsLetters};
+ghost use Rattle.lt_mail.specs.Passing.{OutChanges, InChanges};
 
 use crate::mail::Mail;
 

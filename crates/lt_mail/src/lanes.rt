@@ -1,7 +1,7 @@
 ghost use Rattle.std.specs.Prelude.{◌≡◌, ◌+◌, ◌<◌, [], ◌∷◌, ◌++◌, length, IfSome, IfNone, MatchBool};
 ghost use Rattle.rtrb.specs.Ring.{known_free, sent, SameProducer, SameConsumer, ProducerLooked};
 ghost use mathlib.Core.List.{IsPrefix};
-ghost use Rattle.lt_mail.specs.Lanes.{taken, known};
+ghost use Rattle.lt_mail.specs.Words.{taken, known};
 
 use crate::lane::{InLane, OutEnd};
 use lt_desk::Letter;

@@ -1,7 +1,6 @@
 // Looks at the rings that letters come by.
 ghost use Rattle.std.specs.Prelude.{◌≡◌, ◌≢◌, ◌<◌, true, length, slice_get, IfSome, IfNone};
-ghost use Rattle.lt_mail.specs.Changes.{Saw};
-ghost use Rattle.lt_mail.specs.Looks.{LooksAt, LooksAtSome, SawNone};
+ghost use Rattle.lt_mail.specs.Passing.{Saw, LooksAt, LooksAtSome, SawNone};
 
 use crate::lane::InLane;
 

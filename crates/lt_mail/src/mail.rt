@@ -1,11 +1,9 @@
 ghost use Rattle.std.specs.Prelude.{◌≡◌, ◌≢◌, ◌+◌, ◌≤◌, ◌<◌, ◌⊎◌, ℕ, [], ◌∷◌, ◌++◌, length, true, IfSome, IfNone, IsOk, OnOk, OnErr, MatchBool};
 ghost use mathlib.Core.List.{IsPrefix};
 ghost use Rattle.lt_desk.specs.LetterSeen.{letter_seen};
-ghost use Rattle.lt_mail.specs.Words.{out_at, in_at, outs_count, ins_count, sent_to, given_to, waiting_to, taken_from, known_from, if_to, if_from, places_to, IsFullTo, HasRoomFor, SameEnds};
+ghost use Rattle.lt_mail.specs.Words.{out_at, in_at, outs_count, ins_count, sent_to, given_to, waiting_to, taken_from, known_from, if_to, if_from, places_to, IsFullTo, HasRoomFor, SameEnds, Sees};
 ghost use Rattle.std.specs.VecDeque.{deque_len, deque_capacity};
-ghost use Rattle.lt_mail.specs.Both.{Sees};
-ghost use Rattle.lt_mail.specs.Looks.{LooksAtSome, SawNone};
-ghost use Rattle.lt_mail.specs.Changes.{KeepsSent, OutChanges, InChanges, Puts, Flushes, Takes, TakesKnown, TakesNone, FindsNoLetter, Saw};
+ghost use Rattle.lt_mail.specs.Passing.{LooksAtSome, SawNone, KeepsSent, OutChanges, InChanges, Puts, Flushes, Takes, TakesKnown, TakesNone, FindsNoLetter, Saw};
 
 use crate::lane::{InLane, OutEnd};
 use crate::looking::first_with_letter;
@@ -60,7 +58,7 @@ impl Mail {
     }
 
     /// Gives the ring to a node letters of its outbox, in order, while it has places.
-    #[tactic(auto, using(crate::proofs::WordLemmas::flushes_given))]
+    #[tactic(auto, using(crate::proofs::LookLemmas::flushes_given))]
     pub fn flush(&mut self, to: u8)
         requires peer { to < outs_count self.old }
         ensures sent { (node : ℕ) → sent_to self.new node ≡ sent_to self.old node }
@@ -75,7 +73,7 @@ impl Mail {
     }
 
     /// Whether a letter of a node is in its ring, and then known. It looks again, whatever is known.
-    #[tactic(auto, using(crate::proofs::WordLemmas::sees_known, crate::proofs::WordLemmas::saw_letter))]
+    #[tactic(auto, using(crate::proofs::LookLemmas::sees_known, crate::proofs::LookLemmas::saw_letter))]
     pub fn has_letter(&mut self, from: u8) -> bool
         requires peer { from < ins_count self.old }
         ensures value { MatchBool result (0 < length (known_from self.new from)) (known_from self.new from ≡ []) }
@@ -89,7 +87,7 @@ impl Mail {
     }
 
     /// Whether a letter of a node is known to be in its ring.
-    #[tactic(auto, using(crate::proofs::WordLemmas::saw_letter))]
+    #[tactic(auto, using(crate::proofs::LookLemmas::saw_letter))]
     pub fn knows_letter(&self, from: u8) -> bool
         requires peer { from < ins_count self.now }
         ensures { MatchBool result (0 < length (known_from self.now from)) (known_from self.now from ≡ []) }
@@ -98,7 +96,7 @@ impl Mail {
     }
 
     /// Takes the next letter of a node from its ring. Where none is known there, it looks again.
-    #[tactic(auto, using(crate::proofs::WordLemmas::takes_known))]
+    #[tactic(auto, using(crate::proofs::LookLemmas::takes_known))]
     pub fn take(&mut self, from: u8) -> Option<Letter>
         requires peer { from < ins_count self.old }
         ensures some { IfSome result (λ letter. (node : ℕ) → taken_from self.new node ≡ taken_from self.old node ++ if_from from (letter_seen letter) node) }
@@ -132,7 +130,7 @@ impl Mail {
     /// Makes room for so many further letters that wait.
     ///
     /// Where none waits and there is less room, the list is made anew, so that no memory is copied that no letter was in.
-    #[tactic(auto, using(crate::proofs::MailLemmas::same_mail))]
+    #[tactic(auto, using(crate::proofs::LookLemmas::same_mail))]
     pub fn reserve(&mut self, letters: usize) -> Result<(), AllocError>
         ensures sent { (node : ℕ) → sent_to self.new node ≡ sent_to self.old node }
         ensures given { (node : ℕ) → given_to self.new node ≡ given_to self.old node }
@@ -146,7 +144,7 @@ impl Mail {
     }
 
     /// The first other node of which a letter is in its ring, and then known. It looks again, whatever is known.
-    #[tactic(auto, using(crate::proofs::LookLemmas::all_looked, crate::proofs::LookLemmas::none_before, crate::proofs::LookLemmas::none_known, crate::proofs::WordLemmas::saw_letter))]
+    #[tactic(auto, using(crate::proofs::LookLemmas::all_looked, crate::proofs::LookLemmas::none_before, crate::proofs::LookLemmas::none_known, crate::proofs::LookLemmas::saw_letter))]
     pub fn first_sender(&mut self) -> Option<u8>
         requires few { ins_count self.old ≤ 256 }
         ensures some { IfSome result (λ from. (from < ins_count self.new) × (from ≢ self.new.me) × (0 < length (known_from self.new from))) }

@@ -1,13 +1,11 @@
 -- How the parts of the one list of events stand to each other, and what a push changes.
-use Rattle.std.proofs.Common.{◌≡◌, ℕ, zero, suc, ◌+◌, ◌<◌, ◌≤◌, List, [], ◌∷◌, ◌++◌, length, drop, Some, refl, sym, ap, ◌∙◌, arith}
-use Rattle.std.specs.Prelude.{slice_get, slice_range, slice_index_or}
-use Rattle.std.specs.Option.{option_map}
-use Rattle.std.proofs.lemmas.List.{take-append-le, drop-append-le, append-nil, drop_at}
+use Rattle.std.proofs.Common.{◌≡◌, ℕ, zero, suc, ◌+◌, ◌<◌, ◌≤◌, List, [], ◌∷◌, ◌++◌, length, drop, Some, refl, sym, ap, ◌∙◌, arith, slice_get, slice_range, slice_index_or, option_map, append-nil, drop_at}
+use Rattle.std.proofs.lemmas.List.{take-append-le, drop-append-le}
 use Rattle.std.proofs.lemmas.Slice.{between_to_end, between_is}
 use Rattle.lt_modes.specs.declared.event.Event.{Event}
-use Rattle.lt_spec.specs.Log.{Logged}
+use Rattle.lt_spec.specs.World.{Logged}
 use Rattle.lt_merge.specs.declared.run.Mark.{Mark}
-use Rattle.lt_merge.specs.Run.{just_made, with_event, made_at, events_at}
+use Rattle.lt_merge.specs.Merging.{just_made, with_event, made_at, events_at}
 use Rattle.lt_merge.specs.Marks.{move_by, events_before, IsLaid, entries_of, events_bounds}
 use Rattle.std.proofs.lemmas.Option.{some_pair_parts}
 

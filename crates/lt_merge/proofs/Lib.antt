@@ -1,9 +1,4 @@
-pub mod Filters
 pub mod MergedLists
-pub mod ListParts
-pub mod Copying
-pub mod Laid
-pub mod Recorded
 pub mod Placing
 pub mod Taking
-pub mod Beginning
+pub mod Laid

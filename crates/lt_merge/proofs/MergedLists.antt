@@ -1,18 +1,50 @@
--- Two lists of entries, merged by stamps.
-use Rattle.std.proofs.Common.{◌≡◌, ℕ, suc, ◌+◌, ◌<◌, inl, inr, List, [], ◌∷◌, length, Bool, false, refl, sym, ap, subst, arith, ◌∙◌}
-use Rattle.std.specs.Prelude.{◌⊎◌, ◌&&◌, ◌==◌, nat_lt, if◌then◌else◌, IsTrue, filter, Contains}
+-- Lists with only the elements that pass a test.
+use Rattle.std.proofs.Common.{◌≡◌, inl, inr, List, [], ◌∷◌, length, Bool, true, false, refl, sym, ap, arith, ◌∙◌, ℕ, suc, ◌+◌, ◌<◌, subst, filter, ◌⊎◌, ◌&&◌, ◌==◌, nat_lt, if◌then◌else◌, IsTrue, Contains, eq-eqb, lt-ltb}
 use Rattle.std.specs.List.{AllByRecursion}
-use Rattle.std.proofs.lemmas.List.Elements.{recursion_from_All}
-use Rattle.std.proofs.lemmas.Bool.{cases_order, eq-eqb, lt-ltb, and_from, or_right, both_ways, cond_both}
+use Rattle.std.proofs.lemmas.Bool.{cases_Bool, cond-true, cond-false, cases_order, and_from, or_right, both_ways, cond_both}
+use Rattle.std.proofs.lemmas.List.Elements.{All-filter, All-from_recursion, recursion_from_All}
 use Rattle.lt_modes.specs.declared.stamp.Stamp.{Stamp}
-use Rattle.lt_modes.specs.Tells.{is_newer}
+use Rattle.lt_modes.specs.Serving.{is_newer}
+use Rattle.lt_modes.proofs.StampOrder.{newer_by_clock, newer_in_turn}
 use Rattle.lt_lists.proofs.AllLemmas.{all_weaker}
 use Rattle.lt_lists.proofs.Members.{all_of, contains_filter, none_in}
-use Rattle.lt_spec.specs.Log.{Logged}
-use Rattle.lt_spec.specs.World.{is_of_node}
-use Rattle.lt_modes.proofs.StampOrder.{newer_by_clock, newer_in_turn}
+use Rattle.lt_spec.specs.World.{Logged, is_of_node}
 use Rattle.lt_merge.specs.Merging.{IsBefore, AreRising, AreNodesApart, first_merged, both_merged}
-use Rattle.lt_merge.proofs.Filters.{filter_no, none_passes, all_fail}
+
+pub filter_yes : {X : Type 0} (test : X → Bool) (x : X) (xs : List X) → test x ≡ true → filter test (x ∷ xs) ≡ x ∷ filter test xs
+filter_yes test x xs e = cond-true (test x) (x ∷ filter test xs) (filter test xs) e
+
+pub filter_no : {X : Type 0} (test : X → Bool) (x : X) (xs : List X) → test x ≡ false → filter test (x ∷ xs) ≡ filter test xs
+filter_no test x xs e = cond-false (test x) (x ∷ filter test xs) (filter test xs) e
+
+pub all_filter : {X : Type 0} (P : X → Type 0) (test : X → Bool) (xs : List X) → AllByRecursion P xs → AllByRecursion P (filter test xs)
+all_filter P test xs h = recursion_from_All P (filter test xs) (All-filter test P xs (All-from_recursion P xs h))
+
+-- where none passes, the first one doesn't
+pub none_passes : {X : Type 0} (test : X → Bool) (x : X) (xs : List X) → filter test (x ∷ xs) ≡ [] → (test x ≡ false) × (filter test xs ≡ [])
+none_passes test x xs none = elim (cases_Bool (test x)) [
+  | inl yes_x ↦ absurd (omega (arith, ap length (sym (filter_yes test x xs yes_x) ∙ none)))
+  | inr no_x ↦ (no_x, sym (filter_no test x xs no_x) ∙ none)
+]
+
+-- none passes where each one fails
+pub none_left : {X : Type 0} (test : X → Bool) (xs : List X) → AllByRecursion (λ x. test x ≡ false) xs → filter test xs ≡ []
+none_left test [] h = refl
+none_left test (x ∷ xs) h = filter_no test x xs h.0 ∙ none_left test xs h.1
+
+-- each one fails where none passes
+pub all_fail : {X : Type 0} (test : X → Bool) (xs : List X) → filter test xs ≡ [] → AllByRecursion (λ x. test x ≡ false) xs
+all_fail test [] none = tt
+all_fail test (x ∷ xs) none =
+    let parts = none_passes test x xs none in
+    (parts.0, all_fail test xs parts.1)
+
+-- all pass
+pub all_pass : {X : Type 0} (test : X → Bool) (xs : List X) → AllByRecursion (λ x. test x ≡ true) xs → filter test xs ≡ xs
+all_pass test [] h = refl
+all_pass test (x ∷ xs) h = filter_yes test x xs h.0 ∙ ap (λ l. x ∷ l) (all_pass test xs h.1)
+
+-- Two lists of entries, merged by stamps.
 
 -- one of the two is before the other
 abbrev pub AreBeside : Logged → Logged → Type 0

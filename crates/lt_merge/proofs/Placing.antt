@@ -1,23 +1,42 @@
--- A head is brought to its place among the others.
-use Rattle.std.proofs.Common.{◌≡◌, ℕ, zero, suc, ◌<◌, ◌≤◌, inl, inr, List, [], ◌∷◌, ◌++◌, length, true, false, Some, refl, sym, ap, subst, arith, ◌∙◌, take, drop}
-use Rattle.std.specs.Prelude.{◌⊎◌, IsTrue, filter, slice_set, slice_index_or}
+-- Lists in two parts: both are empty where the whole is, and what stands from a place on.
+use Rattle.std.proofs.Common.{◌≡◌, ℕ, zero, suc, ◌+◌, ◌<◌, List, [], ◌∷◌, ◌++◌, length, drop, Some, refl, sym, ap, arith, ◌∙◌, ◌≤◌, inl, inr, true, false, subst, take, None, slice_get, ◌⊎◌, IsTrue, filter, slice_set, slice_index_or, length-append}
 use Rattle.std.specs.List.{AllByRecursion}
 use Rattle.std.proofs.lemmas.Bool.{cond_both, cond-true, cond-false, both_ways}
-use Rattle.std.proofs.lemmas.List.{length-append}
+use Rattle.std.proofs.lemmas.List.{drop_all}
 use Rattle.std.proofs.lemmas.List.Elements.{filter-append}
 use Rattle.lt_modes.specs.declared.stamp.Stamp.{Stamp}
-use Rattle.lt_modes.specs.Tells.{is_newer}
+use Rattle.lt_modes.specs.Serving.{is_newer}
+use Rattle.lt_modes.proofs.StampOrder.{newer_in_turn}
 use Rattle.lt_lists.proofs.AllLemmas.{all_weaker}
 use Rattle.lt_lists.proofs.Members.{some_equal}
-use Rattle.lt_spec.specs.Log.{Logged}
-use Rattle.lt_spec.specs.World.{is_of_node}
-use Rattle.lt_modes.proofs.StampOrder.{newer_in_turn}
+use Rattle.lt_spec.specs.World.{Logged, is_of_node}
 use Rattle.lt_merge.specs.declared.heads.Head.{Head}
-use Rattle.lt_merge.specs.Run.{RunData}
-use Rattle.lt_merge.specs.Merging.{all_entries, by_node, AreNodesApart, AreLogs}
-use Rattle.lt_merge.specs.Heads.{rest_of, rests_of, first_stamp, IsHead, AreHeadsInOrder, AreHeads, placed, settled_heads, AreSame}
-use Rattle.lt_merge.proofs.ListParts.{both_empty, join_empty}
+use Rattle.lt_merge.specs.Merging.{RunData, all_entries, by_node, AreNodesApart, AreLogs, AreRising}
+use Rattle.lt_merge.specs.Heads.{rest_of, rests_of, first_stamp, IsHead, AreHeadsInOrder, AreHeads, placed, settled_heads, AreSame, entries_in, IsHeadAt, Begins}
 use Rattle.lt_merge.proofs.MergedLists.{beside_by_node}
+
+pub both_empty : {X : Type 0} (xs ys : List X) → xs ++ ys ≡ [] → (xs ≡ []) × (ys ≡ [])
+both_empty [] ys e = (refl, e)
+both_empty (x ∷ xs) ys e = absurd (omega (arith, ap length e))
+
+pub join_empty : {X : Type 0} (xs ys : List X) → xs ≡ [] → ys ≡ [] → xs ++ ys ≡ []
+join_empty xs ys e f = ap (λ l. l ++ ys) e ∙ f
+
+-- the element at a place, and those after it
+pub record Stands {X : Type 0} (xs : List X) (k : ℕ) : Type 0 where
+  pub first : X
+  pub here : drop k xs ≡ first ∷ drop (k + 1) xs
+  pub found : slice_get xs k ≡ Some first
+
+pub stands : {X : Type 0} (xs : List X) (k : ℕ) → k < length xs → Stands xs k
+stands [] k h = absurd (omega (arith, h))
+stands (x ∷ xs) zero h = record { first = x; here = refl; found = refl }
+stands (x ∷ xs) (suc k) h =
+    let one : suc k + 1 ≡ suc (k + 1) = omega arith in
+    let more = stands xs k (omega (arith, h)) in
+    record { first = more.first; here = more.here ∙ ap (λ l. more.first ∷ l) (sym (ap (λ (n : ℕ). drop n (x ∷ xs)) one)); found = more.found }
+
+-- A head is brought to its place among the others.
 
 exchanged : {X : Type 0} (a b c : List X) → (a ≡ []) ⊎ (b ≡ []) → b ++ (a ++ c) ≡ a ++ (b ++ c)
 exchanged a b c (inl e) = ap (λ l. b ++ (l ++ c)) e ∙ ap (λ l. l ++ (b ++ c)) (sym e)
@@ -191,3 +210,69 @@ stays_at heads j k a b e h is_a is_b older =
 
 pub stays_at_last : (heads : List Head) (j k : ℕ) → k ≡ suc j → length heads ≤ k → take j heads ++ settled_heads (drop j heads) ≡ heads
 stays_at_last heads j k e h = stays_last heads j (subst (λ (n : ℕ). length heads ≤ n) e h)
+
+-- The heads are found, from the last log to the first.
+
+logs_from : (logs : List RunData) (k : ℕ) → AreLogs logs → AreLogs (drop k logs)
+logs_from logs zero h = h
+logs_from [] (suc k) h = tt
+logs_from (log ∷ logs) (suc k) h = logs_from logs k h.2
+
+-- the logs from a place on
+record Onward (logs : List RunData) (k : ℕ) (entries : List Logged) : Type 0 where
+  rising : AreRising entries
+  apart : (x : ℕ) → (filter (is_of_node x) entries ≡ []) ⊎ (by_node (drop (k + 1) logs) x ≡ [])
+  parts : (x : ℕ) → by_node (drop k logs) x ≡ filter (is_of_node x) entries ++ by_node (drop (k + 1) logs) x
+  count : length (all_entries (drop k logs)) ≡ length entries + length (all_entries (drop (k + 1) logs))
+
+onward : (logs : List RunData) (k : ℕ) → AreLogs logs → k < length logs → Onward logs k (entries_in (slice_get logs k))
+onward logs k h inside =
+    let at = stands logs k inside in
+    let are = subst AreLogs at.here (logs_from logs k h) in
+    subst (Onward logs k) (sym (ap entries_in at.found)) (record {
+      rising = are.0;
+      apart = λ x. are.1 x;
+      parts = λ x. ap (λ (l : List RunData). by_node l x) at.here ∙ filter-append (is_of_node x) at.first.entries (all_entries (drop (k + 1) logs));
+      count = omega (arith, ap (λ (l : List RunData). length (all_entries l)) at.here, length-append at.first.entries (all_entries (drop (k + 1) logs)));
+    })
+
+pub head_found : (logs : List RunData) (k : ℕ) (head : Head) (heads : List Head) → AreLogs logs → k < length logs → IsHeadAt logs k 0 (Some head)
+    → Begins logs (k + 1) heads → Begins logs k (placed head heads)
+head_found logs k head heads h inside at begun =
+    let rest : rest_of logs head ≡ entries_in (slice_get logs k) =
+    ap (λ (n : ℕ). drop head.place (entries_in (slice_get logs n))) at.1 ∙ ap (λ (n : ℕ). drop n (entries_in (slice_get logs k))) at.2 in
+    let on = subst (Onward logs k) (sym rest) (onward logs k h inside) in
+    let apart : AreLogs (rests_of logs (head ∷ heads)) = (on.rising, (λ x. by_side x (on.apart x)), begun.are_heads.apart) in
+    let moved = placed_same logs head heads apart in
+    record {
+      are_heads = placed_heads logs head heads (at.0, begun.are_heads.each) apart begun.are_heads.order;
+      same = record {
+        parts = λ x. moved.parts x
+            ∙ (filter-append (is_of_node x) (rest_of logs head) (all_entries (rests_of logs heads))
+            ∙ (ap (λ (l : List Logged). filter (is_of_node x) (rest_of logs head) ++ l) (begun.same.parts x) ∙ sym (on.parts x)));
+        count = omega (arith, moved.count, length-append (rest_of logs head) (all_entries (rests_of logs heads)), begun.same.count, on.count);
+      };
+    }
+  where
+    by_side : (x : ℕ) → (filter (is_of_node x) (rest_of logs head) ≡ []) ⊎ (by_node (drop (k + 1) logs) x ≡ [])
+        → (filter (is_of_node x) (rest_of logs head) ≡ []) ⊎ (by_node (rests_of logs heads) x ≡ [])
+    by_side x (inl none) = inl none
+    by_side x (inr none) = inr (begun.same.parts x ∙ none)
+
+pub none_found : (logs : List RunData) (k : ℕ) (heads : List Head) → AreLogs logs → k < length logs → IsHeadAt logs k 0 None
+    → Begins logs (k + 1) heads → Begins logs k heads
+none_found logs k heads h inside none begun =
+    let on = subst (Onward logs k) none (onward logs k h inside) in
+    record {
+      are_heads = begun.are_heads;
+      same = record { parts = λ x. begun.same.parts x ∙ sym (on.parts x); count = omega (arith, begun.same.count, on.count) };
+    }
+
+-- past the last log there is no head
+pub at_the_end : (logs : List RunData) (k : ℕ) → length logs ≤ k → Begins logs k []
+at_the_end logs k past =
+    let none = drop_all k logs past in
+    record {
+      are_heads = record { each = tt; order = tt; apart = tt };
+      same = record { parts = λ x. sym (ap (λ (l : List RunData). by_node l x) none); count = sym (ap (λ (l : List RunData). length (all_entries l)) none) };
+    }

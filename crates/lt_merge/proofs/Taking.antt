@@ -1,25 +1,35 @@
--- The entry of the first head is taken, and the log's next one stands for the log.
-use Rattle.std.proofs.Common.{◌≡◌, ℕ, zero, suc, ◌+◌, ◌<◌, ◌≤◌, inl, inr, List, [], ◌∷◌, ◌++◌, length, false, Some, None, refl, sym, ap, subst, arith, ◌∙◌, take, drop}
-use Rattle.std.specs.Prelude.{◌⊎◌, ◌==◌, if◌then◌else◌, IsTrue, filter, Contains, slice_index_or, slice_get}
+-- A move of a log is copied.
+use Rattle.std.proofs.Common.{◌≡◌, ℕ, zero, suc, ◌<◌, List, [], ◌∷◌, length, take, drop, Some, ap, ◌∙◌, ◌+◌, ◌≤◌, inl, inr, ◌++◌, false, None, refl, sym, subst, arith, append_assoc, ◌⊎◌, ◌==◌, if◌then◌else◌, IsTrue, filter, Contains, slice_index_or, slice_get, eq-eqb, append-nil, length-append}
 use Rattle.std.specs.List.{AllByRecursion}
-use Rattle.std.proofs.lemmas.Bool.{eq-eqb}
-use Rattle.std.proofs.lemmas.List.{append-nil, length-append}
 use Rattle.std.proofs.lemmas.List.Elements.{All-contains, All-from_recursion, recursion_from_All}
-use Rattle.lt_modes.specs.declared.stamp.Stamp.{Stamp}
 use Rattle.lt_modes.specs.declared.moves.Move.{Move}
-use Rattle.lt_modes.specs.Tells.{is_newer}
-use Rattle.lt_lists.proofs.AllLemmas.{all_append, all_weaker}
-use Rattle.lt_lists.proofs.Members.{all_of, contains_filter, contains_filtered, some_equal}
-use Rattle.lt_spec.specs.Log.{Logged}
-use Rattle.lt_spec.specs.World.{is_of_node}
+use Rattle.lt_modes.specs.declared.event.Event.{Event}
+use Rattle.lt_modes.specs.declared.stamp.Stamp.{Stamp}
+use Rattle.lt_modes.specs.Serving.{is_newer}
 use Rattle.lt_modes.proofs.StampOrder.{newer_in_turn}
+use Rattle.lt_lists.proofs.Members.{some_equal, all_of, contains_filter, contains_filtered}
+use Rattle.lt_lists.proofs.AllLemmas.{all_append, all_weaker}
+use Rattle.lt_spec.specs.World.{Logged, is_of_node}
+use Rattle.lt_merge.specs.Merging.{made_at, events_at, RunData, IsBefore, AreRising, all_entries, AreLogs, Merges, just_made, with_event, with_events}
+use Rattle.lt_merge.proofs.Placing.{stands, placed_same, placed_heads}
 use Rattle.lt_merge.specs.declared.heads.Head.{Head}
-use Rattle.lt_merge.specs.Run.{RunData, made_at}
-use Rattle.lt_merge.specs.Merging.{IsBefore, AreRising, all_entries, AreLogs, Merges}
 use Rattle.lt_merge.specs.Heads.{entries_in, rest_of, rests_of, first_stamp, IsHead, IsHeadAt, AreHeads, placed, AreSame, Advances}
-use Rattle.lt_merge.proofs.Filters.{none_passes}
-use Rattle.lt_merge.proofs.ListParts.{stands}
-use Rattle.lt_merge.proofs.Placing.{placed_same, placed_heads}
+use Rattle.lt_merge.proofs.MergedLists.{none_passes}
+
+pub copied : (entries : List Logged) (k : ℕ) (made : Move) (events : List Event) → made_at entries k ≡ Some made → events_at entries k ≡ Some events
+    → take 1 (drop k entries) ≡ record { made = made; events = events } ∷ []
+copied [] zero made events e f = cc
+copied [] (suc k) made events e f = cc
+copied (entry ∷ rest) zero made events e f =
+    ap (λ (m : Move). record { made = m; events = entry.events } ∷ []) (some_equal entry.made made e)
+    ∙ ap (λ (es : List Event). record { made = made; events = es } ∷ []) (some_equal entry.events events f)
+copied (entry ∷ rest) (suc k) made events e f = copied rest k made events e f
+
+-- one entry is copied where one is left
+pub length_copied : (entries : List Logged) (k : ℕ) → k < length entries → length (take 1 (drop k entries)) ≡ 1
+length_copied entries k h = ap (λ (l : List Logged). length (take 1 l)) (stands entries k h).here
+
+-- The entry of the first head is taken, and the log's next one stands for the log.
 
 -- a log with these entries
 abbrev pub log_with : List Logged → RunData
@@ -183,3 +193,29 @@ head_inside logs heads head h some e = first_inside logs head (drop 1 heads) (su
 pub all_taken : (logs : List RunData) (heads : List Head) (taken : List Logged) → length heads ≡ 0
     → ((run : List Logged) → Merges (rests_of logs heads) run → Merges logs (taken ++ run)) → Merges logs taken
 all_taken logs heads taken e more = subst (Merges logs) (append-nil taken) (more [] (none_left logs heads e))
+
+-- A run after a move and its events.
+
+pub length-with_event : (entries : List Logged) (event : Event) → length (with_event entries event) ≡ length entries
+length-with_event [] event = refl
+length-with_event (entry ∷ []) event = refl
+length-with_event (entry ∷ next ∷ later) event = omega (arith, length-with_event (next ∷ later) event)
+
+with_event-push : (entries : List Logged) (entry : Logged) (event : Event)
+    → with_event (entries ++ entry ∷ []) event ≡ entries ++ record entry { events = entry.events ++ event ∷ [] } ∷ []
+with_event-push [] entry event = refl
+with_event-push (first ∷ []) entry event = refl
+with_event-push (first ∷ next ∷ later) entry event = ap (λ (es : List Logged). first ∷ es) (with_event-push (next ∷ later) entry event)
+
+with_events-push : (entries : List Logged) (entry : Logged) (events : List Event)
+    → with_events (entries ++ entry ∷ []) events ≡ entries ++ record entry { events = entry.events ++ events } ∷ []
+with_events-push entries entry [] = rw (append-nil entry.events) refl
+with_events-push entries entry (event ∷ events) =
+    ap (λ es. with_events es events) (with_event-push entries entry event)
+    ∙ (with_events-push entries (record entry { events = entry.events ++ event ∷ [] }) events
+    ∙ ap (λ (es : List Event). entries ++ record entry { events = es } ∷ []) (append_assoc entry.events (event ∷ []) events))
+
+-- a move that is pushed and then gets its events
+pub pushed : (entries : List Logged) (made : Move) (events : List Event)
+    → with_events (entries ++ just_made made ∷ []) events ≡ entries ++ record { made = made; events = events } ∷ []
+pushed entries made events = with_events-push entries (just_made made) events

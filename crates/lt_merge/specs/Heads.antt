@@ -2,11 +2,10 @@
 use Rattle.std.specs.Prelude.{◌≡◌, List, [], ◌∷◌, ◌++◌, ℕ, ◌+◌, Option, Some, None, IsTrue, if◌then◌else◌, length, take, drop, slice_get}
 use Rattle.std.specs.List.{AllByRecursion}
 use Rattle.lt_modes.specs.declared.stamp.Stamp.{Stamp}
-use Rattle.lt_modes.specs.Tells.{is_newer}
-use Rattle.lt_spec.specs.Log.{Logged}
+use Rattle.lt_modes.specs.Serving.{is_newer}
+use Rattle.lt_spec.specs.World.{Logged}
 use Rattle.lt_merge.specs.declared.heads.Head.{Head}
-use Rattle.lt_merge.specs.Run.{RunData}
-use Rattle.lt_merge.specs.Merging.{all_entries, by_node, AreLogs, Merges}
+use Rattle.lt_merge.specs.Merging.{RunData, all_entries, by_node, AreLogs, Merges}
 
 -- the entries of the log, if there is one
 abbrev pub entries_in : Option RunData → List Logged

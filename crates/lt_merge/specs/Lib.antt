@@ -1,4 +1,3 @@
-pub mod Run
-pub mod Marks
 pub mod Merging
+pub mod Marks
 pub mod Heads

@@ -1,7 +1,6 @@
 ghost use Rattle.std.specs.Prelude.{◌≡◌, ◌+◌, ◌<◌, ◌^◌, [], ◌∷◌, ◌++◌, length, take, slice_get, IfOk, OnOk};
 ghost use Rattle.lt_modes.specs.declared.moves.Step.TheVariants.{Act};
-ghost use Rattle.lt_merge.specs.Run.{just_made};
-ghost use Rattle.lt_merge.specs.Merging.{all_entries, AreLogs, Merges};
+ghost use Rattle.lt_merge.specs.Merging.{just_made, all_entries, AreLogs, Merges};
 ghost use Rattle.lt_merge.specs.Heads.{Begins, entries_in, rest_of};
 
 use crate::heads::{Head, advance, heads_of};

@@ -1,5 +1,5 @@
 ghost use Rattle.std.specs.Prelude.{◌≡◌, ◌+◌, ◌<◌, ◌≤◌, ◌^◌, [], ◌∷◌, ◌++◌, Some, length, take, drop, IfOk, IsOk, OnOk};
-ghost use Rattle.lt_merge.specs.Run.{just_made, with_event, made_at, events_at};
+ghost use Rattle.lt_merge.specs.Merging.{just_made, with_event, made_at, events_at};
 ghost use Rattle.lt_merge.specs.Marks.{move_by, entries_of, IsLaid, events_bounds};
 
 use lt_modes::{Event, Move, Stamp, Step};
@@ -65,7 +65,7 @@ pub type Log = Run;
 
 impl Model for Run {
     ghost use Rattle.std.specs.Prelude.{◌<◌, ◌-◌, ◌^◌, min, vec_len, vec_capacity};
-    ghost use Rattle.lt_merge.specs.Run.{RunData};
+    ghost use Rattle.lt_merge.specs.Merging.{RunData};
 
     ghost Value = { RunData };
 

@@ -1,35 +1,25 @@
 -- Rules of a node are steps of accounts.
-use Rattle.lt_model.proofs.CommandRules.{fails_within, routed}
-use Rattle.std.proofs.Common.{◌≡◌, ◌≢◌, ℕ, zero, suc, ◌+◌, ◌<◌, inl, inr, List, [], ◌∷◌, length, Option, Some, None, Bool, true, false, refl, sym, ap, subst, arith, ◌∙◌}
-use Rattle.std.specs.Prelude.{◌⊎◌, ◌||◌, ◌&&◌, ◌==◌, not, IsTrue, IsFalse, if◌then◌else◌, nat_lt, fold, is_some, remove, slice_index_or, slice_set}
-use Rattle.std.proofs.lemmas.Bool.{both_ways, not-true, and_parts, or_cases, eq-eqb, ne_eqb, eqb-true, cases_eq}
-use Rattle.std.specs.List.{AllByRecursion, filter_map, cons_option}
-use Rattle.std.proofs.lemmas.List.{get_or-set_same, get_or-set_other, length-set}
+use Rattle.lt_model.proofs.NewsRules.{fails_within, routed, frozen_at}
+use Rattle.std.proofs.Common.{◌≡◌, ◌≢◌, ℕ, zero, suc, ◌+◌, ◌<◌, inl, inr, List, [], ◌∷◌, length, Option, Some, None, Bool, true, false, refl, sym, ap, subst, arith, ◌∙◌, ◌⊎◌, ◌||◌, ◌&&◌, ◌==◌, not, IsTrue, IsFalse, if◌then◌else◌, nat_lt, fold, is_some, remove, slice_index_or, slice_set, eq-eqb, ne_eqb, eqb-true, filter_map, get_or-set_same, get_or-set_other, length-set}
+use Rattle.std.proofs.lemmas.Bool.{both_ways, not-true, and_parts, or_cases, cases_eq}
+use Rattle.std.specs.List.{AllByRecursion, cons_option}
 use Rattle.lt_modes.specs.declared.ask.Ask.{Ask}
-use Rattle.lt_modes.specs.Modes.{no_modes, Modes, has, union, bars, covers, with_mode}
-use Rattle.lt_modes.specs.State.{SetState, Desk, Entry, Tell, Parked, ParkedAsk, ParkedTell, first_entry}
-use Rattle.lt_modes.specs.Held.{other_modes, held_modes}
-use Rattle.lt_modes.specs.Queue.{no_ask}
-use Rattle.lt_modes.specs.Records.{entry_of, record_of, own_owed, own_part, modes_at, others_below, others}
-use Rattle.lt_modes.specs.Tells.{told}
-use Rattle.lt_modes.specs.Serving.{ask_at, queue_of, queue_of_desk, next_at, next_from, is_served, is_free, is_local, is_copy, is_clear_at_home, served, owed_at, owing}
+use Rattle.lt_modes.specs.Modes.{no_modes, Modes, has, union, bars, covers, with_mode, other_modes, held_modes}
+use Rattle.lt_modes.specs.State.{SetState, Desk, Entry, Tell, Parked, ParkedAsk, ParkedTell, first_entry, no_ask, entry_of, record_of, own_owed, own_part, modes_at, others_below, others}
+use Rattle.lt_modes.specs.Serving.{told, ask_at, queue_of, queue_of_desk, next_at, next_from, is_served, is_free, is_local, is_copy, is_clear_at_home, served, owed_at, owing, settled, without_desk}
 use Rattle.lt_modes.specs.declared.stamp.Stamp.{Stamp}
 use Rattle.lt_modes.specs.Freezing.{freeze_at}
-use Rattle.lt_modes.specs.Telling.{tell_of}
-use Rattle.lt_modes.specs.HandingOver.{settled, without_desk}
+use Rattle.lt_modes.specs.SetMove.{tell_of, dealt}
 use Rattle.lt_modes.proofs.ModeAlgebra.{same_modes-true}
-use Rattle.lt_modes.specs.Routing.{dealt}
 use Rattle.lt_modes.specs.Script.{ScriptData}
 use Rattle.lt_modes.specs.declared.parts.Link.{Link}
 use Rattle.lt_spec.specs.World.{World}
 use Rattle.lt_spec.specs.Facts.{state_at}
-use Rattle.lt_model.specs.Moments.{Moment}
-use Rattle.lt_model.specs.OnWay.{tell_parked, account_of}
+use Rattle.lt_model.specs.OnWay.{Moment, tell_parked, account_of}
 use Rattle.lt_law_accounts.specs.AccountPlay.{others_counted}
 use Rattle.lt_law_accounts.specs.Account.{counted}
 use Rattle.lt_model.specs.AccountRules.{own_account, IsLocallyFree, IsCopyFree, ServesByRule, ServicesAreSteps, CopiesAreDelivered, TellsAreApplied, TellsAreMade, HandingOverSettles, IsParkedOf, told_by_parked, TokensArrive, FreezesAreSteps, OthersChangeNothing, RulesCount}
-use Rattle.lt_law_accounts.proofs.ModeMembers.{has-left}
-use Rattle.lt_model.proofs.NewsRules.{frozen_at}
+use Rattle.lt_law_accounts.proofs.AccountFacts.{has-left}
 use Rattle.lt_model.proofs.PathsQuiet.{put_queue_some, owed_at_some}
 
 -- the ask that is next was tested against the asks before it

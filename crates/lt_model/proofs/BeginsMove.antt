@@ -1,39 +1,31 @@
 -- A set of which nothing changes but that clocks go on: it stays kept, and a node whose clock went on may be in its move.
-use Rattle.std.proofs.Common.{◌≡◌, ℕ, ◌<◌, ◌≤◌, inl, inr, List, [], ◌∷◌, length, Option, Some, None, Bool, true, false, refl, sym, ap, subst, arith, ◌∙◌}
-use Rattle.std.specs.Prelude.{◌==◌, if◌then◌else◌, is_some, All, Contains}
-use Rattle.std.specs.List.{filter_map, cons_option}
-use Rattle.std.proofs.lemmas.Bool.{eq-eqb, eqb-true}
+use Rattle.std.proofs.Common.{◌≡◌, ℕ, ◌<◌, ◌≤◌, inl, inr, List, [], ◌∷◌, length, Option, Some, None, Bool, true, false, refl, sym, ap, subst, arith, ◌∙◌, ◌==◌, if◌then◌else◌, is_some, All, Contains, filter_map, eq-eqb, eqb-true}
+use Rattle.std.specs.List.{cons_option}
 use Rattle.std.proofs.lemmas.List.Elements.{All-weaker}
 use Rattle.lt_modes.specs.declared.ask.Ask.{Ask}
-use Rattle.lt_modes.specs.Modes.{Modes, bars}
-use Rattle.lt_modes.specs.Held.{held_modes}
+use Rattle.lt_modes.specs.Modes.{Modes, bars, held_modes}
 use Rattle.lt_modes.specs.Script.{ScriptData}
-use Rattle.lt_modes.specs.State.{SetState, Desk, Tell, Body, Letter, Parked, ParkedAsk, ParkedTell}
-use Rattle.lt_modes.specs.Records.{entry_of}
+use Rattle.lt_modes.specs.State.{SetState, Desk, Tell, Body, Letter, Parked, ParkedAsk, ParkedTell, entry_of, times_in}
 use Rattle.lt_modes.specs.Serving.{next_service, next_draw}
 use Rattle.lt_modes.specs.Fits.{Numbers, numbers_of}
 use Rattle.lt_modes.specs.Sound.{IsNoLater, ChargeKept, SoundDesk, SoundSet}
 use Rattle.lt_lists.specs.Below.{one_if}
 use Rattle.lt_spec.specs.World.{World, after}
-use Rattle.lt_spec.specs.Facts.{state_at, tokens_in, places_in_state, places_in_body}
-use Rattle.lt_modes.specs.Queue.{times_in}
-use Rattle.lt_model.specs.OnWay.{in_set, tell_in, tell_parked, copy_in, freeze_in, tells_of, copies_to, freezes_to, account_of, news_of}
-use Rattle.lt_spec.specs.Desks.{OnWay, Comes, DeskIs}
-use Rattle.lt_model.specs.Moments.{Moment, Between, Acting, Frozen, is_at, is_moving, is_unfrozen, is_serving}
+use Rattle.lt_spec.specs.Facts.{state_at, tokens_in, places_in_state, places_in_body, OnWay, Comes, DeskIs}
+use Rattle.lt_model.specs.OnWay.{in_set, tell_in, tell_parked, copy_in, freeze_in, tells_of, copies_to, freezes_to, account_of, news_of, Moment, Between, Acting, Frozen, is_at, is_moving, is_unfrozen, is_serving}
 use Rattle.lt_law_accounts.specs.Account.{Account, AccountKept, AreClear, counted}
 use Rattle.lt_law_accounts.specs.News.{News, NewsKept, Notice}
-use Rattle.lt_model.specs.Paths.{Paths, StateOnPath, LetterOnPath}
-use Rattle.lt_spec.specs.Touches.{of_set, SameSet}
-use Rattle.lt_model.specs.Invariant.{PlacesKept, IsParkedFor, DeskKept, SetKept}
-use Rattle.lt_model.specs.MomentLaws.{begun, MoveBegins, AsideStays}
+use Rattle.lt_model.specs.Invariant.{Paths, StateOnPath, LetterOnPath, PlacesKept, IsParkedFor, DeskKept, SetKept}
+use Rattle.lt_spec.specs.Promised.{of_set, SameSet}
+use Rattle.lt_model.specs.Laws.{begun, MoveBegins, AsideStays}
 use Rattle.lt_lists.proofs.Sums.{sum_below-same}
 use Rattle.lt_lists.proofs.Members.{contains_filter, contains_filtered}
 use Rattle.lt_lists.proofs.Gathering.{gather_same}
 use Rattle.lt_model.specs.AccountRules.{account_with}
 use Rattle.lt_model.specs.NewsRules.{news_with}
-use Rattle.lt_model.proofs.Gathered.{tells_alike}
-use Rattle.lt_model.proofs.OthersStay.{same_set, others_stay}
-use Rattle.lt_model.proofs.TokenComes.{desk_somewhere}
+use Rattle.lt_model.proofs.StandingBegins.{tells_alike}
+use Rattle.lt_model.proofs.ExactTry.{same_set, others_stay}
+use Rattle.lt_model.proofs.PathsMove.{desk_somewhere}
 use Rattle.lt_model.proofs.ClocksGrow.{clocks_grow}
 use Rattle.lt_law_accounts.proofs.AccountFacts.{held_below_charge}
 use Rattle.lt_law_accounts.proofs.AccountAsks.{ticks_kept, ages_kept}

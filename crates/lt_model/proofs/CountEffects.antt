@@ -1,8 +1,6 @@
 -- What the effects of a move do to the number of locks and of asks that wait for an answer.
-use Rattle.lt_model.proofs.CountedLocks.{asks_parked, asks_in, asks_said, asks_carried, asks_sent, Counted, counted, joined_count, less_locks, some_locks, given_locks, answer_adds}
-use Rattle.std.proofs.Common.{◌≡◌, ℕ, ◌+◌, ◌<◌, ◌≤◌, List, [], ◌∷◌, ◌++◌, length, map, Option, Some, None, Bool, true, false, refl, ap, arith, take as take_first, drop as drop_front, length-append}
-use Rattle.std.specs.Prelude.{◌==◌, ◌&&◌, not, nat_lt, if◌then◌else◌, fold, remove, sum_by}
-use Rattle.std.proofs.lemmas.List.{take-append-drop}
+use Rattle.lt_model.proofs.HomesRows.{asks_parked, asks_in, asks_said, asks_carried, asks_sent, Counted, counted, joined_count, less_locks, some_locks, given_locks, answer_adds}
+use Rattle.std.proofs.Common.{◌≡◌, ℕ, ◌+◌, ◌<◌, ◌≤◌, List, [], ◌∷◌, ◌++◌, length, map, Option, Some, None, Bool, true, false, refl, ap, arith, take as take_first, drop as drop_front, length-append, ◌==◌, ◌&&◌, not, nat_lt, if◌then◌else◌, fold, remove, sum_by, take-append-drop}
 use Rattle.std.proofs.lemmas.List.Edits.{length-remove}
 use Rattle.std.proofs.lemmas.List.Sums.{sum_by-cons, sum_by_push}
 use Rattle.lt_modes.specs.declared.mode.Mode.{Mode}
@@ -10,22 +8,15 @@ use Rattle.lt_modes.specs.declared.stamp.Stamp.{Stamp}
 use Rattle.lt_modes.specs.declared.ask.Ask.{Ask}
 use Rattle.lt_modes.specs.declared.parts.Link.{Link}
 use Rattle.lt_modes.specs.declared.event.Event.TheVariants.{Wait, Freeze}
-use Rattle.lt_modes.specs.Modes.{Modes, excludes_itself}
-use Rattle.lt_modes.specs.Held.{is_of, locks_in, held_modes}
-use Rattle.lt_modes.specs.State.{SetState, Desk, Body, AskBody, TellBody, CopyBody, TokenBody, FreezeBody, Letter, Parked, ParkedAsk, ParkedTell}
-use Rattle.lt_modes.specs.Made.{Post, silent, post_of}
-use Rattle.lt_modes.specs.Queue.{entered, place}
-use Rattle.lt_modes.specs.Serving.{queue_of, queue_of_desk, ask_at, serve_one, serve_local, serve_copy}
+use Rattle.lt_modes.specs.Modes.{Modes, excludes_itself, is_of, locks_in, held_modes}
+use Rattle.lt_modes.specs.State.{SetState, Desk, Body, AskBody, TellBody, CopyBody, TokenBody, FreezeBody, Letter, Parked, ParkedAsk, ParkedTell, Post, silent, post_of, entered, place}
+use Rattle.lt_modes.specs.Serving.{queue_of, queue_of_desk, ask_at, serve_one, serve_local, serve_copy, hand_over_to}
 use Rattle.lt_modes.specs.Freezing.{freeze, freeze_at, frozen_by, targets, number_after}
-use Rattle.lt_modes.specs.HandingOver.{hand_over_to}
-use Rattle.lt_modes.specs.Routing.{Way, Parks, Goes, learn, dealt, body_of, reversed, sent_on, route}
-use Rattle.lt_modes.specs.Telling.{tell_of, finish}
-use Rattle.lt_modes.specs.Taking.{take_body, arrive}
-use Rattle.lt_modes.specs.SetMove.{ask_of, asked, dropped, take, drop}
+use Rattle.lt_modes.specs.SetMove.{Way, Parks, Goes, learn, dealt, body_of, reversed, sent_on, route, tell_of, finish, take_body, arrive, ask_of, asked, dropped, take, drop}
 use Rattle.lt_modes.proofs.ServingLemmas.{queue_of-serve_one}
-use Rattle.lt_model.specs.AddedLocks.{adds, added_by}
+use Rattle.lt_model.specs.Homes.{adds, added_by}
 use Rattle.lt_model.proofs.Effects.{route_ways}
-use Rattle.lt_model.proofs.RuleEffects.{EndRules, ActRules, finish_rule, take_rule}
+use Rattle.lt_model.proofs.TryEffects.{EndRules, ActRules, finish_rule, take_rule}
 
 dealt_count : (desk : Desk) (item : Parked) → length (dealt desk item).queue ≤ length desk.queue + asks_parked item
 dealt_count desk (ParkedAsk ask) = enters desk.queue

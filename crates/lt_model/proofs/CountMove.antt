@@ -1,6 +1,5 @@
 -- The lines of a run add no more locks than there are moves, and no more locks are held than lines added.
-use Rattle.std.proofs.Common.{◌≡◌, ℕ, suc, ◌+◌, ◌<◌, ◌≤◌, List, [], ◌∷◌, length, Option, Some, None, Bool, true, false, refl, ap, arith}
-use Rattle.std.specs.Prelude.{◌==◌, if◌then◌else◌, sum_by, drop as drop_rest}
+use Rattle.std.proofs.Common.{◌≡◌, ℕ, suc, ◌+◌, ◌<◌, ◌≤◌, List, [], ◌∷◌, length, Option, Some, None, Bool, true, false, refl, ap, arith, ◌==◌, if◌then◌else◌, sum_by, drop as drop_rest}
 use Rattle.std.specs.List.{AllByRecursion}
 use Rattle.std.proofs.lemmas.List.Sums.{sum_by-append, sum_by-cons, sum_by-le-sum_by}
 use Rattle.lt_modes.specs.declared.stamp.Stamp.{Stamp}
@@ -9,26 +8,22 @@ use Rattle.lt_modes.specs.declared.command.Command.TheVariants.{Lock, Unlock, Tr
 use Rattle.lt_modes.specs.declared.moves.Step.{Step}
 use Rattle.lt_modes.specs.declared.moves.Step.TheVariants.{Act, Take}
 use Rattle.lt_modes.specs.declared.event.Event.{Event}
-use Rattle.lt_modes.specs.Held.{is_of, locks_in, locks_of}
-use Rattle.lt_modes.specs.Places.{cons_if, places_from}
+use Rattle.lt_modes.specs.Modes.{is_of, locks_in, locks_of}
+use Rattle.lt_modes.specs.Freezing.{cons_if, places_from}
 use Rattle.lt_modes.specs.Script.{ScriptData, SetData}
-use Rattle.lt_modes.specs.State.{SetState, Letter, first_desk, first_state}
-use Rattle.lt_modes.specs.Made.{Made, Post}
-use Rattle.lt_modes.specs.Telling.{finish}
-use Rattle.lt_modes.specs.SetMove.{drop, take}
+use Rattle.lt_modes.specs.State.{SetState, Letter, first_desk, first_state, Made, Post}
+use Rattle.lt_modes.specs.SetMove.{finish, drop, take}
 use Rattle.lt_lists.specs.Below.{put, sum_below}
-use Rattle.lt_spec.specs.Families.{family, related}
-use Rattle.lt_spec.specs.NodeMove.{NodeState, NodeMade, node_waits, next_command, touched, each_touched, drop_all, locks_in_sets, act_stamp, take_stamp, at_clock, one_made, obey, node_act, node_take}
+use Rattle.lt_spec.specs.NodeMove.{family, related, NodeState, NodeMade, node_waits, next_command, touched, each_touched, drop_all, locks_in_sets, act_stamp, take_stamp, at_clock, one_made, obey, node_act, node_take, HasTargetsAt, IsWhole}
 use Rattle.lt_spec.specs.World.{World, start, opened, put_mail, after_made, after}
-use Rattle.lt_model.specs.AddedLocks.{adds, added_by}
-use Rattle.lt_spec.specs.WholeScripts.{HasTargetsAt, IsWhole}
+use Rattle.lt_model.specs.Homes.{adds, added_by}
 use Rattle.lt_lists.proofs.Sums.{sum_below-none, sum_below-change, sum_below-at}
 use Rattle.lt_model.proofs.Letters.{mail_weight, IsCounted, mail_weight-sent, mail_weight-taken}
 use Rattle.lt_lists.proofs.Puts.{put-same, put-other}
-use Rattle.lt_model.proofs.RuleEffects.{command_rules}
+use Rattle.lt_model.proofs.TryEffects.{command_rules}
 use Rattle.lt_model.proofs.HomesMove.{next_targets, related_below, drop_count as dropped_by, step_drops}
 use Rattle.lt_model.proofs.CountEffects.{finish_count, count_acts, drop_count, take_count}
-use Rattle.lt_model.proofs.CountedLocks.{asks_in, asks_carried, asks_sent, Counted, some_locks}
+use Rattle.lt_model.proofs.HomesRows.{asks_in, asks_carried, asks_sent, Counted, some_locks}
 
 -- the asks and the locks of a node, in all sets
 abbrev pub node_asks : ScriptData → NodeState → ℕ

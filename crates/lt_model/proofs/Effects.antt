@@ -1,24 +1,15 @@
 -- A node's move on one set as its effects in order: what each effect leads to, the move leads to.
 -- What holds is said of the state by now and of the letters sent so far.
-use Rattle.std.proofs.Common.{◌≡◌, ℕ, zero, suc, ◌+◌, ◌<◌, ◌≤◌, List, [], ◌∷◌, ◌++◌, length, Option, Some, None, Bool, true, false, refl, sym, ap, subst, arith, ◌∙◌}
-use Rattle.std.specs.Prelude.{◌==◌, if◌then◌else◌, is_some, remove}
-use Rattle.std.proofs.lemmas.List.{append-nil, append_assoc}
+use Rattle.std.proofs.Common.{◌≡◌, ℕ, zero, suc, ◌+◌, ◌<◌, ◌≤◌, List, [], ◌∷◌, ◌++◌, length, Option, Some, None, Bool, true, false, refl, sym, ap, subst, arith, ◌∙◌, ◌==◌, if◌then◌else◌, is_some, remove, append-nil, append_assoc}
 use Rattle.lt_modes.specs.declared.mode.Mode.{Mode}
 use Rattle.lt_modes.specs.declared.stamp.Stamp.{Stamp}
 use Rattle.lt_modes.specs.declared.ask.Ask.{Ask}
 use Rattle.lt_modes.specs.declared.event.Event.TheVariants.{Try, Unlock, NotHeld, Change}
-use Rattle.lt_modes.specs.Modes.{Modes, with_mode, bars, same_modes}
-use Rattle.lt_modes.specs.Held.{count_of, take_lock, held_modes}
-use Rattle.lt_modes.specs.State.{SetState, Desk, Letter, Parked}
-use Rattle.lt_modes.specs.Made.{Made, Post, silent, then_do}
-use Rattle.lt_modes.specs.Granting.{can_grant}
-use Rattle.lt_modes.specs.Serving.{queue_of, queue_of_desk, ask_at, is_served, next_from, next_at, next_service, next_draw, serve, serve_up_to, serve_step, serve_one, serve_local, serve_copy}
-use Rattle.lt_modes.specs.Freezing.{freeze}
-use Rattle.lt_modes.specs.HandingOver.{hand_over, hand_over_for, hand_over_to}
-use Rattle.lt_modes.specs.Routing.{Way, dealt, way, sent_on, route, route_by}
-use Rattle.lt_modes.specs.Telling.{make_tell, finish, finish_by}
-use Rattle.lt_modes.specs.Taking.{arrive}
-use Rattle.lt_modes.specs.SetMove.{answers, given, granted, ask_of, asked, locked, tried, unlocked, change_held, changed, dropped, lock, try, unlock, change, drop, take}
+use Rattle.lt_modes.specs.Modes.{Modes, with_mode, bars, same_modes, count_of, take_lock, held_modes}
+use Rattle.lt_modes.specs.State.{SetState, Desk, Letter, Parked, Made, Post, silent, then_do}
+use Rattle.lt_modes.specs.Freezing.{can_grant, freeze}
+use Rattle.lt_modes.specs.Serving.{queue_of, queue_of_desk, ask_at, is_served, next_from, next_at, next_service, next_draw, serve, serve_up_to, serve_step, serve_one, serve_local, serve_copy, hand_over, hand_over_for, hand_over_to}
+use Rattle.lt_modes.specs.SetMove.{Way, dealt, way, sent_on, route, route_by, make_tell, finish, finish_by, arrive, answers, given, granted, ask_of, asked, locked, tried, unlocked, change_held, changed, dropped, lock, try, unlock, change, drop, take}
 use Rattle.lt_modes.proofs.ServingLemmas.{length-serve_one}
 use Rattle.lt_model.proofs.PathsQuiet.{put_queue_some, owed_at_some}
 

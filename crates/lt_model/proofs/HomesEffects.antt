@@ -1,33 +1,24 @@
 -- The effects of a move leave locks and asks at home, and their lines name what is of the script.
 use Rattle.lt_model.proofs.HomesRows.{IsPostWithin, MadeAtHome, at_home, said_nothing, said_line, joined_home, less_home, answered_home, given_home, without_home, answer_within}
 use Rattle.lt_lists.proofs.AllLemmas.{remove_all, all_map, all_any}
-use Rattle.std.proofs.Common.{◌≡◌, ℕ, ◌<◌, ◌≤◌, List, [], ◌∷◌, ◌++◌, length, map, Option, Some, None, Bool, true, false, refl, subst, take as take_first, drop as drop_front}
-use Rattle.std.specs.Prelude.{◌==◌, ◌&&◌, not, nat_lt, if◌then◌else◌, All, fold, remove}
+use Rattle.std.proofs.Common.{◌≡◌, ℕ, ◌<◌, ◌≤◌, List, [], ◌∷◌, ◌++◌, length, map, Option, Some, None, Bool, true, false, refl, subst, take as take_first, drop as drop_front, ◌==◌, ◌&&◌, not, nat_lt, if◌then◌else◌, All, fold, remove, eqb-true}
 use Rattle.std.specs.List.{AllByRecursion}
-use Rattle.std.proofs.lemmas.Bool.{eqb-true}
 use Rattle.std.proofs.lemmas.List.Elements.{All-push, All-append, All-cons, All-take, All-drop, All-filter, All-nil, recursion_from_All}
 use Rattle.lt_modes.specs.declared.mode.Mode.{Mode}
 use Rattle.lt_modes.specs.declared.stamp.Stamp.{Stamp}
 use Rattle.lt_modes.specs.declared.ask.Ask.{Ask}
 use Rattle.lt_modes.specs.declared.parts.Link.{Link}
 use Rattle.lt_modes.specs.declared.event.Event.TheVariants.{Freeze}
-use Rattle.lt_modes.specs.Modes.{Modes, excludes_itself}
-use Rattle.lt_modes.specs.Held.{is_of, held_modes}
+use Rattle.lt_modes.specs.Modes.{Modes, excludes_itself, is_of, held_modes}
 use Rattle.lt_modes.specs.Script.{ScriptData}
-use Rattle.lt_modes.specs.State.{SetState, Desk, Body, AskBody, TellBody, CopyBody, TokenBody, FreezeBody, Letter, Parked, ParkedAsk, ParkedTell}
-use Rattle.lt_modes.specs.Made.{Post, silent}
-use Rattle.lt_modes.specs.Queue.{no_ask, entered, place}
-use Rattle.lt_modes.specs.Serving.{queue_of, queue_of_desk, put_queue, owed_at, answer_event, ask_at, serve_one, serve_local, serve_copy}
+use Rattle.lt_modes.specs.State.{SetState, Desk, Body, AskBody, TellBody, CopyBody, TokenBody, FreezeBody, Letter, Parked, ParkedAsk, ParkedTell, Post, silent, no_ask, entered, place}
+use Rattle.lt_modes.specs.Serving.{queue_of, queue_of_desk, put_queue, owed_at, answer_event, ask_at, serve_one, serve_local, serve_copy, hand_over_to}
 use Rattle.lt_modes.specs.Freezing.{freeze, freeze_at, frozen_by, targets}
-use Rattle.lt_modes.specs.HandingOver.{hand_over_to}
-use Rattle.lt_modes.specs.Routing.{Way, Parks, Goes, learn, dealt, body_of, reversed, sent_on, route}
-use Rattle.lt_modes.specs.Telling.{tell_of, finish}
-use Rattle.lt_modes.specs.Taking.{take_body, arrive}
-use Rattle.lt_modes.specs.SetMove.{ask_of, asked, dropped, take, drop}
-use Rattle.lt_spec.specs.Families.{home}
+use Rattle.lt_modes.specs.SetMove.{Way, Parks, Goes, learn, dealt, body_of, reversed, sent_on, route, tell_of, finish, take_body, arrive, ask_of, asked, dropped, take, drop}
+use Rattle.lt_spec.specs.NodeMove.{home}
 use Rattle.lt_model.specs.Homes.{IsRowAtHome, IsAskAtHome, IsAskOf, IsParkedAtHome, IsBodyAtHome, IsStateAtHome, IsLineWithin}
 use Rattle.lt_model.proofs.Effects.{route_ways}
-use Rattle.lt_model.proofs.RuleEffects.{EndRules, ActRules, finish_rule, take_rule}
+use Rattle.lt_model.proofs.TryEffects.{EndRules, ActRules, finish_rule, take_rule}
 
 enter_home : (P : Ask → Type 0) (queue : List Ask) (ask : Ask) → All P queue → P ask → All P (entered queue ask)
 enter_home P queue ask h own =

@@ -1,28 +1,21 @@
 -- Each enabled move leaves locks and asks at home, and its lines name what is of the script.
-use Rattle.std.proofs.Common.{◌≡◌, ℕ, zero, suc, ◌+◌, ◌<◌, ◌≤◌, inl, inr, List, [], ◌∷◌, length, Option, Some, None, Bool, true, false, refl, sym, subst, arith, ◌∙◌, take as take_first}
-use Rattle.std.specs.Prelude.{◌==◌, nat_lt, if◌then◌else◌, filter_map, slice_get, Contains, IsTrue}
+use Rattle.std.proofs.Common.{◌≡◌, ℕ, zero, suc, ◌+◌, ◌<◌, ◌≤◌, inl, inr, List, [], ◌∷◌, length, Option, Some, None, Bool, true, false, refl, sym, subst, arith, ◌∙◌, take as take_first, ◌==◌, nat_lt, if◌then◌else◌, filter_map, slice_get, Contains, IsTrue, eqb-true, ltb-true}
 use Rattle.std.specs.List.{AllByRecursion}
-use Rattle.std.proofs.lemmas.Bool.{and_parts, eqb-true, ltb-true, cases_eq}
+use Rattle.std.proofs.lemmas.Bool.{and_parts, cases_eq}
 use Rattle.std.proofs.lemmas.List.Elements.{All-nil, recursion_from_All}
 use Rattle.lt_modes.specs.declared.stamp.Stamp.{Stamp}
 use Rattle.lt_modes.specs.declared.command.Command.{Command}
 use Rattle.lt_modes.specs.declared.command.Command.TheVariants.{Lock, Unlock, Try, Change, DropAll}
 use Rattle.lt_modes.specs.declared.moves.Step.{Step}
 use Rattle.lt_modes.specs.declared.moves.Step.TheVariants.{Act, Take}
-use Rattle.lt_modes.specs.Places.{cons_if, places_from}
+use Rattle.lt_modes.specs.Freezing.{cons_if, places_from}
 use Rattle.lt_modes.specs.Script.{ScriptData, SetData}
-use Rattle.lt_modes.specs.State.{SetState, Letter, first_state, first_desk}
-use Rattle.lt_modes.specs.Made.{Made, Post}
-use Rattle.lt_modes.specs.Telling.{finish}
-use Rattle.lt_modes.specs.SetMove.{drop, take}
+use Rattle.lt_modes.specs.State.{SetState, Letter, first_state, first_desk, Made, Post}
+use Rattle.lt_modes.specs.SetMove.{finish, drop, take}
 use Rattle.lt_lists.specs.Below.{put}
-use Rattle.lt_spec.specs.Families.{command_if, commands_of, home, family, related}
-use Rattle.lt_spec.specs.Log.{Logged}
-use Rattle.lt_spec.specs.NodeMove.{NodeState, NodeMade, node_waits, next_command, touched, each_touched, drop_all, locks_in_sets, act_stamp, take_stamp, at_clock, one_made, obey, node_act, node_take}
-use Rattle.lt_spec.specs.World.{World, start, is_some_letter, is_enabled, opened, take_front, node_move, after, after_run, IsRunFrom}
-use Rattle.lt_model.specs.Homes.{IsStateAtHome, IsLetterAtHome, Homes}
-use Rattle.lt_spec.specs.WholeScripts.{HasTargetsAt, IsWhole}
-use Rattle.lt_model.specs.HomeLaws.{HomesKept, HomesInRuns}
+use Rattle.lt_spec.specs.NodeMove.{command_if, commands_of, home, family, related, NodeState, NodeMade, node_waits, next_command, touched, each_touched, drop_all, locks_in_sets, act_stamp, take_stamp, at_clock, one_made, obey, node_act, node_take, HasTargetsAt, IsWhole}
+use Rattle.lt_spec.specs.World.{Logged, World, start, is_some_letter, is_enabled, opened, take_front, node_move, after, after_run, IsRunFrom}
+use Rattle.lt_model.specs.Homes.{IsStateAtHome, IsLetterAtHome, Homes, HomesKept, HomesInRuns}
 use Rattle.lt_model.proofs.Letters.{all_sent, before_take}
 use Rattle.lt_model.proofs.SentInMove.{AreSentIn, finish-sent, lock-sent, try-sent, unlock-sent, change-sent, drop-sent, take-sent}
 use Rattle.lt_lists.proofs.AllLemmas.{all_append, all_weaker, all_both}
@@ -30,7 +23,7 @@ use Rattle.lt_lists.proofs.Members.{none_in}
 use Rattle.lt_lists.proofs.Puts.{put-same, put-other}
 use Rattle.lt_model.proofs.PathsMove.{has_mail_parts}
 use Rattle.lt_model.proofs.ClocksGrow.{opened-node}
-use Rattle.lt_model.proofs.RuleEffects.{command_rules}
+use Rattle.lt_model.proofs.TryEffects.{command_rules}
 use Rattle.lt_model.proofs.HomesEffects.{home_acts, finish_home, drop_home, take_home}
 use Rattle.lt_model.proofs.HomesRows.{AreAtHome, MadeAtHome, at_home, said_both, said_nothing}
 

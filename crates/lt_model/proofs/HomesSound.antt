@@ -1,8 +1,7 @@
 -- What is at home is sound, as far as homes go, and was made there.
-use Rattle.std.proofs.Common.{◌≡◌, ℕ, zero, suc, ◌<◌, List, [], ◌∷◌, length, map, refl, sym, ap, subst, arith, ◌∙◌}
-use Rattle.std.specs.Prelude.{IsTrue, All, Contains, slice_get, slice_index, filter_map}
+use Rattle.std.proofs.Common.{◌≡◌, ℕ, zero, suc, ◌<◌, List, [], ◌∷◌, length, map, refl, sym, ap, subst, arith, ◌∙◌, IsTrue, All, Contains, slice_get, slice_index, filter_map, eq-eqb, lt-ltb}
 use Rattle.std.specs.List.{AllByRecursion}
-use Rattle.std.proofs.lemmas.Bool.{and_from, eq-eqb, lt-ltb}
+use Rattle.std.proofs.lemmas.Bool.{and_from}
 use Rattle.std.proofs.lemmas.List.{length-map}
 use Rattle.std.proofs.lemmas.List.Elements.{All-append, All-contains, All-weaker, All-from_recursion, recursion_from_All}
 use Rattle.lt_modes.specs.declared.stamp.Stamp.{Stamp}
@@ -13,9 +12,8 @@ use Rattle.lt_modes.specs.Script.{ScriptData, ClientData, node_of_client}
 use Rattle.lt_modes.specs.Serving.{queue_of}
 use Rattle.lt_modes.specs.Sound.{SoundRow, SoundParked}
 use Rattle.lt_modes.specs.State.{SetState, Parked, ParkedAsk, ParkedTell}
-use Rattle.lt_model.specs.Homes.{IsRowAtHome, IsAskAtHome, IsAskOf, IsParkedAtHome, IsStateAtHome, IsSoundOwn, HasSoundHomes}
-use Rattle.lt_spec.specs.WholeScripts.{IsWhole}
-use Rattle.lt_model.specs.HomeLaws.{HomesSound, StampsApart}
+use Rattle.lt_model.specs.Homes.{IsRowAtHome, IsAskAtHome, IsAskOf, IsParkedAtHome, IsStateAtHome, IsSoundOwn, HasSoundHomes, HomesSound, StampsApart}
+use Rattle.lt_spec.specs.NodeMove.{IsWhole}
 use Rattle.lt_model.proofs.HomesMove.{homes_in_runs}
 
 pub home_among : (clients : List ClientData) (k : ℕ) → k < length clients

@@ -1,6 +1,5 @@
 -- What the lines of a run name and count.
-use Rattle.std.proofs.Common.{◌≡◌, ℕ, ◌+◌, ◌<◌, ◌≤◌, inl, inr, List, [], ◌∷◌, length, refl, sym, ap, subst, arith, true}
-use Rattle.std.specs.Prelude.{All, Contains, IsTrue, slice_index_or}
+use Rattle.std.proofs.Common.{◌≡◌, ℕ, ◌+◌, ◌<◌, ◌≤◌, inl, inr, List, [], ◌∷◌, length, refl, sym, ap, subst, arith, true, All, Contains, IsTrue, slice_index_or}
 use Rattle.std.specs.List.{AllByRecursion}
 use Rattle.std.proofs.lemmas.Bool.{cases_eq}
 use Rattle.std.proofs.lemmas.List.Elements.{All-from_recursion, recursion_from_All, Contains-get_or}
@@ -9,30 +8,22 @@ use Rattle.lt_modes.specs.declared.moves.Step.{Step}
 use Rattle.lt_modes.specs.declared.moves.Step.TheVariants.{Act, Take}
 use Rattle.lt_modes.specs.declared.event.Event.{Event}
 use Rattle.lt_modes.specs.Script.{ScriptData}
-use Rattle.lt_modes.specs.State.{Body, AskBody, TellBody, CopyBody, TokenBody, FreezeBody, Letter}
-use Rattle.lt_modes.specs.Made.{Post}
-use Rattle.lt_spec.specs.Log.{Logged}
-use Rattle.lt_spec.specs.NodeMove.{node_act}
-use Rattle.lt_spec.specs.World.{World, start, is_some_letter, is_enabled, opened, front_stamp, move_stamp, take_front, node_move, after_made, after, IsMove, IsRunFrom}
-use Rattle.lt_spec.specs.Desks.{OnWay}
+use Rattle.lt_modes.specs.State.{Body, AskBody, TellBody, CopyBody, TokenBody, FreezeBody, Letter, Post}
+use Rattle.lt_spec.specs.World.{Logged, World, start, is_some_letter, is_enabled, opened, front_stamp, move_stamp, take_front, node_move, after_made, after, IsMove, IsRunFrom}
+use Rattle.lt_spec.specs.NodeMove.{node_act, IsWhole}
+use Rattle.lt_spec.specs.Facts.{OnWay}
 use Rattle.lt_spec.specs.Holdings.{lines_of}
-use Rattle.lt_model.specs.Invariant.{BodyKept}
-use Rattle.lt_model.specs.Paths.{Paths}
-use Rattle.lt_model.specs.Timed.{Timed}
-use Rattle.lt_spec.specs.Touches.{AreStamped}
-use Rattle.lt_model.specs.AddedLocks.{adds, added_by}
-use Rattle.lt_model.specs.Homes.{Homes, HasMaker, IsLineWithin, IsEntryWithin}
-use Rattle.lt_spec.specs.WholeScripts.{IsWhole}
-use Rattle.lt_model.specs.HomeLaws.{LinesInRuns, FewAdded}
+use Rattle.lt_model.specs.Invariant.{BodyKept, Paths, Timed}
+use Rattle.lt_spec.specs.Promised.{AreStamped}
+use Rattle.lt_model.specs.Homes.{adds, added_by, Homes, HasMaker, IsLineWithin, IsEntryWithin, LinesInRuns, FewAdded}
 use Rattle.lt_model.proofs.Letters.{IsCounted, sent_on_way}
 use Rattle.lt_model.proofs.StartKept.{paths_start}
 use Rattle.lt_lists.proofs.Members.{none_in}
 use Rattle.lt_model.proofs.PathsMove.{has_mail_parts, move_kept}
 use Rattle.lt_model.proofs.ClocksGrow.{clock_moves, other_clocks_stay, stamps_kept}
 use Rattle.lt_model.proofs.TimedMove.{timed_kept, timed_in_runs}
-use Rattle.lt_model.proofs.HomesRows.{IsBodyWithin, IsPostWithin}
+use Rattle.lt_model.proofs.HomesRows.{IsBodyWithin, IsPostWithin, asks_carried}
 use Rattle.lt_model.proofs.HomesMove.{IsMoveAtHome, maker, step_home, homes_kept, homes_start}
-use Rattle.lt_model.proofs.CountedLocks.{asks_carried}
 use Rattle.lt_model.proofs.CountMove.{world_asks, world_locks, StepCounted, act_step_count, take_step_count, few_dropped, count_start}
 
 -- a world after this many moves, whose lines added this many locks

@@ -1,30 +1,21 @@
 -- A move of a node on one set: it stays on the token's path, also where the token leaves.
-use Rattle.lt_model.proofs.NoToken.{quiet-moved, moved_then}
-use Rattle.std.proofs.Common.{◌≡◌, ◌≢◌, ℕ, suc, ◌+◌, ◌<◌, ◌≤◌, inl, inr, List, [], ◌∷◌, ◌++◌, length, Option, Some, None, Bool, true, false, refl, sym, ap, subst, arith, ◌∙◌}
-use Rattle.std.specs.Prelude.{◌==◌, nat_lt, if◌then◌else◌, ◌⊎◌, is_some, slice_index, slice_index_or}
-use Rattle.std.proofs.lemmas.Bool.{eqb-false, eq-eqb, not-true, and_parts, cases_lt}
-use Rattle.std.proofs.lemmas.List.{length-set, get_or_push, length_push}
+use Rattle.std.proofs.Common.{◌≡◌, ◌≢◌, ℕ, suc, ◌+◌, ◌<◌, ◌≤◌, inl, inr, List, [], ◌∷◌, ◌++◌, length, Option, Some, None, Bool, true, false, refl, sym, ap, subst, arith, ◌∙◌, ◌==◌, nat_lt, if◌then◌else◌, ◌⊎◌, is_some, slice_index, slice_index_or, eq-eqb, length-set}
+use Rattle.std.proofs.lemmas.Bool.{eqb-false, not-true, and_parts, cases_lt}
+use Rattle.std.proofs.lemmas.List.{get_or_push, length_push}
 use Rattle.lt_modes.specs.declared.mode.Mode.{Mode}
 use Rattle.lt_modes.specs.declared.stamp.Stamp.{Stamp}
 use Rattle.lt_modes.specs.declared.ask.Ask.{Ask}
 use Rattle.lt_modes.specs.declared.event.Event.TheVariants.{Try, Unlock, NotHeld, Change}
-use Rattle.lt_modes.specs.Modes.{Modes, with_mode}
-use Rattle.lt_modes.specs.Held.{count_of, take_lock}
-use Rattle.lt_modes.specs.State.{SetState, Desk, Body, AskBody, TellBody, CopyBody, TokenBody, FreezeBody, Letter, ParkedAsk, ParkedTell}
-use Rattle.lt_modes.specs.Queue.{no_ask}
-use Rattle.lt_modes.specs.Made.{Made, silent, then_do}
-use Rattle.lt_modes.specs.Granting.{can_grant}
-use Rattle.lt_modes.specs.Serving.{queue_of_desk, ask_at, may_draw, draw_from, move_at, next_draw, serve}
-use Rattle.lt_modes.specs.Freezing.{freeze}
-use Rattle.lt_modes.specs.HandingOver.{hand_over, hand_over_for, hand_over_to}
-use Rattle.lt_modes.specs.Routing.{learn}
-use Rattle.lt_modes.specs.Telling.{tell, attend, finish, finish_by}
-use Rattle.lt_modes.specs.Taking.{take_body, arrive}
-use Rattle.lt_modes.specs.SetMove.{answers, given, granted, ask_of, asked, locked, tried, unlocked, change_held, changed, dropped, lock, try, unlock, change, drop, take}
-use Rattle.lt_spec.specs.Facts.{tokens_in}
+use Rattle.lt_modes.specs.Modes.{Modes, with_mode, count_of, take_lock}
+use Rattle.lt_modes.specs.State.{SetState, Desk, Body, AskBody, TellBody, CopyBody, TokenBody, FreezeBody, Letter, ParkedAsk, ParkedTell, no_ask, Made, silent, then_do}
+use Rattle.lt_modes.specs.Freezing.{can_grant, freeze}
+use Rattle.lt_modes.specs.Serving.{queue_of_desk, ask_at, may_draw, draw_from, move_at, next_draw, serve, hand_over, hand_over_for, hand_over_to}
+use Rattle.lt_modes.specs.SetMove.{learn, tell, attend, finish, finish_by, take_body, arrive, answers, given, granted, ask_of, asked, locked, tried, unlocked, change_held, changed, dropped, lock, try, unlock, change, drop, take}
 use Rattle.lt_lists.specs.Below.{one_if}
-use Rattle.lt_model.specs.Paths.{IsTrueLink, DeskOnPath, HasWay, StateOnPath, BodyOnPath, LetterOnPath}
-use Rattle.lt_model.specs.PathEffects.{Ground, Quiet, Moved}
+use Rattle.lt_spec.specs.Facts.{tokens_in}
+use Rattle.lt_model.proofs.PathsWorld.{quiet-moved, moved_then}
+use Rattle.lt_model.specs.Invariant.{IsTrueLink, DeskOnPath, HasWay, StateOnPath, BodyOnPath, LetterOnPath}
+use Rattle.lt_model.specs.PathEffects.{Ground, Quiet, Moved, EffectsOnPath}
 use Rattle.lt_model.proofs.PathsQuiet.{ask_at-named, token_on_path, serve-quiet, freeze-quiet, tell-quiet}
 use Rattle.lt_model.proofs.PathsRoutes.{quiet_then, route-quiet, learn_on_path, learn_desk}
 
@@ -233,3 +224,23 @@ take-moved nodes went p stamp letter s g h on one =
         by_test : (newer : Bool) → Quiet nodes went stamp.node k (silent (if newer then record t { frozen = modes; number = number } else t))
         by_test true = record { state = record { link = ht.link; way = ht.way; hoped = ht.hoped; parked = ht.parked }; posts = tt; desk = omega (arith, e) }
         by_test false = record { state = ht; posts = tt; desk = omega (arith, e) }
+
+-- Each effect of a move on a set keeps the token's path.
+
+pub effects_on_path : EffectsOnPath
+effects_on_path = record {
+  routes = λ nodes went set stamp marked item s g h named. route-quiet nodes went _ set stamp marked item s g h named refl;
+  serves = λ set nodes went stamp s g h. serve-quiet nodes went _ set stamp s g h refl;
+  freezes = λ set nodes went stamp s g h. freeze-quiet nodes went _ set stamp s h refl;
+  tells = λ set nodes went stamp s g h. tell-quiet nodes went _ set stamp s g h refl;
+  hands_over = λ set nodes went stamp s named g h. hand_over-moved nodes went _ set stamp s g h refl;
+  finishes = λ set nodes went stamp s named g h. finish-moved nodes went _ set stamp s g h refl;
+  learns = learn_on_path;
+  takes_token = token_on_path;
+  locks = λ set client mode nodes went stamp s named g h. lock-moved nodes went set stamp client mode s named g h;
+  tries = λ set client mode nodes went stamp s named g h. try-moved nodes went set stamp client mode s g h;
+  unlocks = λ set client mode nodes went stamp s named g h. unlock-moved nodes went set stamp client mode s g h;
+  changes = λ set client gives_up mode nodes went stamp s named g h. change-moved nodes went set stamp client gives_up mode s named g h;
+  drops = λ set client nodes went stamp s named g h. drop-moved nodes went set stamp client s g h;
+  takes = take-moved;
+}

@@ -1,33 +1,59 @@
--- Each enabled move keeps the token's paths.
-use Rattle.lt_model.proofs.PathsGoing.{sent-none, same_parts, Going, KeepsGoing, touched_going, each_going, ActsKeep, acts_keep}
-use Rattle.lt_lists.proofs.Puts.{put-itself, put-same, put-other}
-use Rattle.std.proofs.Common.{◌≡◌, ◌≢◌, ℕ, ◌+◌, ◌<◌, ◌≤◌, inl, inr, List, [], ◌∷◌, ◌++◌, Option, Some, None, Bool, true, false, refl, sym, ap, subst, arith, ◌∙◌}
+-- A set that is kept, in the words of the laws on places and on time.
+use Rattle.std.proofs.Common.{ℕ, ◌≤◌, Option, Some, None, false, ◌≡◌, ◌≢◌, ◌+◌, ◌<◌, inl, inr, List, [], ◌∷◌, ◌++◌, Bool, true, refl, sym, ap, subst, arith, ◌∙◌, suc, length, IfSome, ◌==◌, not, nat_lt, if◌then◌else◌, IsTrue, Contains, is_some, filter_map, drop as drop_front, slice_index, sum_by, eq-eqb, ne_eqb, ltb-true, eqb-true, append-nil}
 use Rattle.std.proofs.Math.Path.{fun_ext}
-use Rattle.std.specs.Prelude.{◌==◌, not, nat_lt, if◌then◌else◌, IsTrue, Contains, is_some, filter_map, drop as drop_front}
-use Rattle.std.proofs.lemmas.Bool.{cases_eq, eq-eqb, ne_eqb, ltb-true, and_parts}
-use Rattle.std.proofs.lemmas.List.{append-nil}
+use Rattle.std.proofs.lemmas.Bool.{cases_eq, and_parts}
+use Rattle.std.proofs.lemmas.List.Sums.{sum_by-cons}
+use Rattle.lt_modes.specs.Script.{ScriptData}
+use Rattle.lt_modes.specs.State.{Desk, SetState, Letter, Post, Body, AskBody, TellBody, CopyBody, TokenBody, FreezeBody}
+use Rattle.lt_modes.specs.Sound.{SoundDesk}
+use Rattle.lt_modes.specs.Fits.{numbers_of}
 use Rattle.lt_modes.specs.declared.stamp.Stamp.{Stamp}
 use Rattle.lt_modes.specs.declared.command.Command.{Command}
 use Rattle.lt_modes.specs.declared.command.Command.TheVariants.{Lock, Unlock, Try, Change, DropAll}
 use Rattle.lt_modes.specs.declared.moves.Step.{Step}
 use Rattle.lt_modes.specs.declared.moves.Step.TheVariants.{Act, Take}
-use Rattle.lt_modes.specs.Script.{ScriptData}
-use Rattle.lt_modes.specs.State.{SetState, Letter}
-use Rattle.lt_modes.specs.Made.{Post}
-use Rattle.lt_modes.specs.Telling.{finish}
-use Rattle.lt_modes.specs.SetMove.{lock, try, unlock, change, drop, take}
-use Rattle.lt_lists.specs.Below.{put, one_if}
-use Rattle.lt_spec.specs.Families.{related}
-use Rattle.lt_spec.specs.NodeMove.{NodeState, NodeMade, node_waits, next_command, act_stamp, take_stamp, drop_all, obey, at_clock, one_made, node_act, node_take}
-use Rattle.lt_spec.specs.World.{World, has_mail, is_some_letter, is_enabled, take_front, put_mail, opened, sent, token_to, after_made, after}
-use Rattle.lt_spec.specs.Facts.{state_at, tokens_in}
-use Rattle.lt_model.specs.Paths.{StateOnPath, LetterOnPath, Paths}
-use Rattle.lt_lists.proofs.Sums.{sum_below-at}
-use Rattle.lt_model.proofs.SentInMove.{finish-sent, lock-sent, try-sent, unlock-sent, change-sent, drop-sent, take-sent}
+use Rattle.lt_modes.specs.SetMove.{finish, lock, try, unlock, change, drop, take}
+use Rattle.lt_lists.proofs.Puts.{put-itself, put-same, put-other}
+use Rattle.lt_lists.specs.Below.{put, one_if, sum_below}
+use Rattle.lt_lists.proofs.Sums.{sum_below-at, sum_below-some}
 use Rattle.lt_lists.proofs.AllLemmas.{all_weaker}
+use Rattle.lt_spec.specs.World.{World, has_mail, is_some_letter, is_enabled, take_front, put_mail, opened, sent, token_to, after_made, after}
+use Rattle.lt_spec.specs.Facts.{state_at, tokens_in, Comes, DeskIs}
+use Rattle.lt_spec.specs.NodeMove.{related, NodeState, NodeMade, node_waits, next_command, act_stamp, take_stamp, drop_all, obey, at_clock, one_made, node_act, node_take}
+use Rattle.lt_model.specs.OnWay.{Between}
+use Rattle.lt_model.specs.Invariant.{AsksStand, Timed, SetKept, StateOnPath, LetterOnPath, Paths, DeskOnPath, HasWay, BodyOnPath}
+use Rattle.lt_model.proofs.PathsGoing.{sent-none, same_parts, Going, KeepsGoing, touched_going, each_going, ActsKeep, acts_keep}
+use Rattle.lt_model.proofs.SentInMove.{finish-sent, lock-sent, try-sent, unlock-sent, change-sent, drop-sent, take-sent}
 use Rattle.lt_model.specs.PathEffects.{token_weight, Moved}
 use Rattle.lt_model.proofs.PathsHandOver.{take-moved}
-use Rattle.lt_model.proofs.PathsWorld.{PathsOf, after_moved, after_others, opened_for}
+use Rattle.lt_model.proofs.PathsWorld.{PathsOf, after_moved, after_others, opened_for, desks}
+use Rattle.lt_model.specs.Laws.{DeskSomewhere, TokenComes}
+
+-- its asks stand where they should
+pub kept_stands : (script : ScriptData) (w : World) (s : ℕ) → SetKept script Between w s → AsksStand script w s
+kept_stands script w s h = record {
+  places = h.places;
+  own = λ x below k d within. (((h.states x below).pending k d within).node, (h.states x below).made k d within);
+  apart = λ x below. (h.states x below).stamps_apart;
+}
+
+-- and nothing of it is younger than its clock
+pub kept_timed : (script : ScriptData) (w : World) (s : ℕ) → SetKept script Between w s → Timed script w s
+kept_timed script w s h = record {
+  states = λ x below. record {
+    epoch = (h.states x below).epoch;
+    number = (h.states x below).number;
+    desk = by_desk x (state_at w s x).desk (h.states x below).desk;
+  };
+  letters = λ p q letter below on. h.letters p q letter below (h.paths.letters p q letter below on).to on;
+}
+  where
+    by_desk : (x : ℕ) (o : Option Desk) → SoundDesk (numbers_of script) false false (w.node x).clock (state_at w s x) o
+        → IfSome o (λ (desk : Desk). (desk.epoch ≤ (w.node x).clock) × (desk.number ≤ (w.node x).clock))
+    by_desk x None sound = tt
+    by_desk x (Some desk) sound = (sound.1, sound.2)
+
+-- Each enabled move keeps the token's paths.
 
 obey_going : (script : ScriptData) (s client : ℕ) (stamp : Stamp) (state : ℕ → SetState) (mail : ℕ → ℕ → List Letter) (gone : List ℕ) (command : Option Command) (n : NodeState)
     → ActsKeep script.nodes s stamp state mail gone → Going script.nodes s stamp.node state mail gone (n.set s) []
@@ -182,3 +208,78 @@ pub move_kept : (script : ScriptData) (w : World) (s : ℕ) → 0 < script.nodes
     → (q : ℕ) (step : Step) → IsTrue (is_enabled script w q step) → Paths script (after script w q step) s
 move_kept script w s some h q (Act client) enabled = act_kept script w s q client some h
 move_kept script w s some h q (Take p) enabled = take_kept script w s p q some h enabled
+
+-- Where the token of a set is.
+
+-- a sum that isn't 0 has an item that isn't 0
+sum_by-some : {X : Type 0} (f : X → ℕ) (xs : List X) → 0 < sum_by f xs → (x : X) × Contains xs x × (0 < f x)
+sum_by-some f [] h = absurd (omega (arith, h))
+sum_by-some f (x ∷ rest) h = elim (cases_eq (f x) 0) [
+  | inl none ↦
+      let found = sum_by-some f rest (omega (arith, h, none, sum_by-cons f x rest)) in
+      (found.0, (suc found.1.0, omega (arith, found.1.1), found.1.2), found.2)
+  | inr some ↦ (x, (0, omega arith, refl), omega (arith, some))
+]
+
+token_letter : (s : ℕ) (letter : Letter) → 0 < token_weight s letter → (letter.set ≡ s) × ((desk : Desk) × (letter.body ≡ TokenBody desk))
+token_letter s letter h = by_test (letter.set == s) refl h
+  where
+    by_body : (body : Body) → 0 < tokens_in body → (desk : Desk) × (body ≡ TokenBody desk)
+    by_body (TokenBody desk) some = (desk, refl)
+    by_body (AskBody ask marked) some = absurd (omega (arith, some))
+    by_body (TellBody tell) some = absurd (omega (arith, some))
+    by_body (CopyBody ask) some = absurd (omega (arith, some))
+    by_body (FreezeBody number modes) some = absurd (omega (arith, some))
+
+    by_test : (own : Bool) → (letter.set == s) ≡ own → 0 < (if own then tokens_in letter.body else 0) → (letter.set ≡ s) × ((desk : Desk) × (letter.body ≡ TokenBody desk))
+    by_test true e some = (eqb-true letter.set s e, by_body letter.body some)
+    by_test false e some = absurd (omega (arith, some))
+
+some_desk : (desk : Option Desk) → 0 < one_if (is_some desk) → (d : Desk) × (desk ≡ Some d)
+some_desk None h = absurd (omega (arith, h))
+some_desk (Some desk) h = (desk, refl)
+
+pub desk_somewhere : DeskSomewhere
+desk_somewhere script w s h = elim (cases_eq (desks script.nodes (state_at w s)) 0) [
+  | inr at_node ↦
+      let found = sum_below-some script.nodes (λ x. one_if (is_some (state_at w s x).desk)) (omega (arith, at_node)) in
+      let here = some_desk (state_at w s found.0).desk found.2 in
+      (Some found.0, here.0, (found.1, here.1))
+  | inl none ↦
+      let rows = sum_below-some script.nodes (λ a. sum_below script.nodes (λ b. sum_by (token_weight s) (w.mail a b))) (omega (arith, none, h.one_token)) in
+      let row = sum_below-some script.nodes (λ b. sum_by (token_weight s) (w.mail rows.0 b)) rows.2 in
+      let found = sum_by-some (token_weight s) (w.mail rows.0 row.0) row.2 in
+      let token = token_letter s found.0 found.2 in
+      (None, token.1.0, (row.0, row.1, (rows.0, found.0, rows.1, record { among = found.1; set = token.0 }, token.1.1)))
+]
+
+-- wherever the desk is or goes is the node of the last token move
+desk_last : (script : ScriptData) (w : World) (s x : ℕ) → Paths script w s → (state_at w s x).desk ≡ None
+    → ((epoch : ℕ) → epoch + 1 ≡ length (w.went s) → slice_index (w.went s) epoch ≡ x)
+    → (place : Option ℕ) (desk : Desk) → DeskIs script w s place desk → (d : Desk) × Comes script w s x (TokenBody d)
+desk_last script w s x h away last (Some t) desk is_desk =
+    let on = subst (HasWay script.nodes (w.went s) t (state_at w s t).firm) is_desk.1 (h.states t is_desk.0).way in
+    let same : t ≡ x = sym on.0.node ∙ last desk.epoch on.0.epoch in
+    let here : (state_at w s x).desk ≡ Some desk = subst (λ (y : ℕ). (state_at w s y).desk ≡ Some desk) same is_desk.1 in
+    let none : Some desk ≡ None = sym here ∙ away in cc
+desk_last script w s x h away last None desk is_desk =
+    let comes = is_desk.2 in
+    let on_path = h.letters comes.0 is_desk.0 comes.1 comes.2 comes.3 in
+    let on : DeskOnPath script.nodes (w.went s) is_desk.0 desk = subst (BodyOnPath script.nodes (w.went s) is_desk.0) comes.4 on_path.body in
+    let same : is_desk.0 ≡ x = sym on.node ∙ last desk.epoch on.epoch in
+    (desk, subst (λ (y : ℕ). Comes script w s y (TokenBody desk)) same comes)
+
+pub token_comes : TokenComes
+token_comes script w s x h below away me =
+    let state = h.states x below in
+    let known = subst (HasWay script.nodes (w.went s) x (state_at w s x).firm) away state.way in
+    let at_link : slice_index (w.went s) (state_at w s x).firm.epoch ≡ x = state.link.node ∙ me in
+    let at_end : (state_at w s x).firm.epoch + 1 ≡ length (w.went s) = elim (known (state_at w s x).firm.epoch state.link.epoch at_link) [
+      | inl before ↦ absurd (omega (arith, before))
+      | inr last ↦ last
+    ] in
+    let somewhere = desk_somewhere script w s h in
+    desk_last script w s x h away
+    (λ epoch e. let same : (state_at w s x).firm.epoch ≡ epoch = omega (arith, e, at_end) in
+    subst (λ (k : ℕ). slice_index (w.went s) k ≡ x) same at_link)
+    somewhere.0 somewhere.1 somewhere.2

@@ -1,29 +1,24 @@
 -- A node's rules keep it on the token's path while the token stays where it is.
-use Rattle.lt_model.proofs.PathsRoutes.{quiet_then, removed_named, all_dealt_on_path, all_dealt_epoch, route-quiet}
-use Rattle.std.proofs.Common.{◌≡◌, ◌≢◌, ℕ, zero, suc, ◌+◌, ◌<◌, inl, inr, List, [], ◌∷◌, length, Option, Some, None, Bool, true, false, refl, sym, ap, subst, arith, ◌∙◌}
-use Rattle.std.specs.Prelude.{◌==◌, if◌then◌else◌, All, is_some, remove}
+use Rattle.std.proofs.Common.{◌≡◌, ◌≢◌, ℕ, zero, suc, ◌+◌, ◌<◌, inl, inr, List, [], ◌∷◌, length, Option, Some, None, Bool, true, false, refl, sym, ap, subst, arith, ◌∙◌, ◌==◌, if◌then◌else◌, All, is_some, remove, ◌&&◌, ◌||◌, not, slice_index_or, length-set}
 use Rattle.std.specs.List.{AllByRecursion}
 use Rattle.std.proofs.lemmas.Bool.{eqb-false, not-true, and_parts, cases_lt}
-use Rattle.std.proofs.lemmas.List.{length-set, get_or_past}
+use Rattle.std.proofs.lemmas.List.{get_or_past}
 use Rattle.std.proofs.lemmas.List.Elements.{recursion_from_All, All-nil}
 use Rattle.lt_modes.specs.declared.stamp.Stamp.{Stamp}
 use Rattle.lt_modes.specs.declared.ask.Ask.{Ask}
 use Rattle.lt_modes.specs.declared.parts.Link.{Link}
-use Rattle.lt_modes.specs.Modes.{bars, same_modes}
-use Rattle.lt_modes.specs.Held.{held_modes}
-use Rattle.lt_modes.specs.State.{SetState, Desk, Entry, ParkedTell}
-use Rattle.lt_modes.specs.Queue.{place, no_ask}
-use Rattle.lt_modes.specs.Places.{cons_if, places_from, map_from}
-use Rattle.lt_modes.specs.Made.{silent}
-use Rattle.lt_modes.specs.Serving.{queue_of, queue_of_desk, put_queue, owed_at, ask_at, next_service, serve, serve_up_to, serve_step, serve_one, serve_local, serve_copy}
-use Rattle.lt_modes.specs.Freezing.{freeze, freeze_at, frozen_by, frozen_entry, is_target, targets}
-use Rattle.lt_modes.specs.Routing.{way}
-use Rattle.lt_modes.specs.Telling.{tell, tell_of, make_tell}
-use Rattle.lt_modes.specs.Taking.{take_token}
+use Rattle.lt_modes.specs.Modes.{bars, same_modes, held_modes, Modes, no_modes, has, union, covers, with_mode, other_modes}
+use Rattle.lt_modes.specs.State.{SetState, Desk, Entry, ParkedTell, place, no_ask, silent, first_entry, modes_of_owed, still_owed, own_owed, modes_at, others_below, others}
+use Rattle.lt_modes.specs.Freezing.{cons_if, places_from, map_from, freeze, freeze_at, frozen_by, frozen_entry, is_target, targets}
+use Rattle.lt_modes.specs.Serving.{queue_of, queue_of_desk, put_queue, owed_at, ask_at, next_service, serve, serve_up_to, serve_step, serve_one, serve_local, serve_copy, is_served, next_from, next_at}
+use Rattle.lt_modes.specs.SetMove.{way, tell, tell_of, make_tell, take_token}
+use Rattle.lt_modes.specs.declared.parts.Owed.{Owed}
 use Rattle.lt_lists.specs.Below.{one_if}
-use Rattle.lt_model.specs.Paths.{IsNamed, IsParkedNamed, DeskOnPath, HasWay, StateOnPath}
-use Rattle.lt_model.specs.PathEffects.{Ground, Quiet}
 use Rattle.lt_lists.proofs.AllLemmas.{all_map, all_weaker}
+use Rattle.lt_model.proofs.PathsRoutes.{quiet_then, removed_named, all_dealt_on_path, all_dealt_epoch, route-quiet}
+use Rattle.lt_model.specs.Invariant.{IsNamed, IsParkedNamed, DeskOnPath, HasWay, StateOnPath}
+use Rattle.lt_model.specs.PathEffects.{Ground, Quiet}
+use Rattle.lt_model.specs.NewsRules.{number_by, frozen_desk}
 
 -- the token comes, and the parked letters are dealt with
 pub token_on_path : (nodes : ℕ) (went : List ℕ) (x : ℕ) (desk : Desk) (s : SetState)
@@ -195,3 +190,82 @@ tell-quiet nodes went k set stamp s g h here = by_test (same_modes (bars (held_m
     by_test : (same : Bool) → Quiet nodes went stamp.node k (if same then silent s else make_tell set stamp s)
     by_test true = record { state = h; posts = tt; desk = here }
     by_test false = made
+
+-- A freeze changes nothing that services read.
+
+-- the entries have the same record
+record SameRecord (a b : Entry) : Type 0 where
+  reported : b.reported ≡ a.reported
+  owed : b.owed ≡ a.owed
+
+same_entry : (me : ℕ) (frozen : Modes) (x : ℕ) (entry : Entry) → SameRecord entry (frozen_entry me frozen x entry)
+same_entry me frozen x entry = by_test (x == me || is_target me frozen x entry)
+  where
+    by_test : (told : Bool) → SameRecord entry (if told then record entry { frozen_told = frozen } else entry)
+    by_test true = record { reported = refl; owed = refl }
+    by_test false = record { reported = refl; owed = refl }
+
+same_entries : (me : ℕ) (frozen : Modes) (k : ℕ) (entries : List Entry) (x : ℕ)
+    → SameRecord (slice_index_or entries x first_entry) (slice_index_or (map_from (frozen_entry me frozen) k entries) x first_entry)
+same_entries me frozen k [] x = record { reported = refl; owed = refl }
+same_entries me frozen k (entry ∷ rest) zero = same_entry me frozen k entry
+same_entries me frozen k (entry ∷ rest) (suc x) = same_entries me frozen (k + 1) rest x
+
+-- the state after the freeze
+abbrev frozen_state : ℕ → SetState → Desk → SetState
+frozen_state me s desk = record s { frozen = frozen_by desk.queue; number = number_by me desk; desk = Some (frozen_desk me desk) }
+
+same_own : (me : ℕ) (s : SetState) (desk : Desk)
+    → own_owed me (frozen_state me s desk) (frozen_desk me desk) ≡ own_owed me s desk
+same_own me s desk = ap (λ (owed : List Owed). modes_of_owed (still_owed s.pending owed)) (same_entries me (frozen_by desk.queue) 0 desk.entries me).owed
+
+same_at : (me : ℕ) (s : SetState) (desk : Desk) (x : ℕ)
+    → modes_at me (frozen_state me s desk) (frozen_desk me desk) x ≡ modes_at me s desk x
+same_at me s desk x =
+    let own = same_own me s desk in
+    let same = same_entries me (frozen_by desk.queue) 0 desk.entries x in
+    let reported = same.reported in
+    let owed = same.owed in
+    λ i. if x == me then union (held_modes s.held) (own i) else union (reported i) (modes_of_owed (owed i))
+
+same_below : (n me : ℕ) (s : SetState) (desk : Desk) (v : ℕ)
+    → others_below n me (frozen_state me s desk) (frozen_desk me desk) v ≡ others_below n me s desk v
+same_below zero me s desk v = refl
+same_below (suc n) me s desk v =
+    let rest = same_below n me s desk v in
+    let here = same_at me s desk n in
+    λ i. union (rest i) (if n == v then no_modes else here i)
+
+same_others : (me : ℕ) (s : SetState) (desk : Desk) (v : ℕ)
+    → others me (frozen_state me s desk) (frozen_desk me desk) v ≡ others me s desk v
+same_others me s desk v =
+    ap (λ (n : ℕ). others_below n me (frozen_state me s desk) (frozen_desk me desk) v)
+    (length-map_from (frozen_entry me (frozen_by desk.queue)) 0 desk.entries)
+    ∙ same_below (length desk.entries) me s desk v
+
+same_served : (me : ℕ) (s : SetState) (desk : Desk) (before : Modes) (ask : Ask)
+    → is_served me (frozen_state me s desk) (frozen_desk me desk) before ask ≡ is_served me s desk before ask
+same_served me s desk before ask =
+    let rest = same_others me s desk ask.node in
+    let own = same_own me s desk in
+    let home = same_at me s desk ask.node in
+    λ i. not (has ask.mode (bars (union (rest i) before)))
+    && ((ask.node == me && not (has ask.mode (bars (union (other_modes s.held ask.client) (own i)))))
+    || (not (ask.node == me) && (covers (rest i) ask.mode && not (has ask.mode (bars (home i))))))
+
+same_next : (me : ℕ) (s : SetState) (desk : Desk) (before : Modes) (k : ℕ) (queue : List Ask)
+    → next_from me (frozen_state me s desk) (frozen_desk me desk) before k queue ≡ next_from me s desk before k queue
+same_next me s desk before k [] = refl
+same_next me s desk before k (ask ∷ rest) =
+    let here = same_served me s desk before ask in
+    let later = same_next me s desk (with_mode before ask.mode) (k + 1) rest in
+    λ i. if here i then Some k else later i
+
+-- the next service stays
+pub next_service-freeze : (set : ℕ) (stamp : Stamp) (s : SetState) → next_service stamp.node (freeze set stamp s).state ≡ next_service stamp.node s
+next_service-freeze set stamp s = by_desk s.desk refl
+  where
+    by_desk : (desk : Option Desk) → s.desk ≡ desk → next_service stamp.node (freeze_at set stamp s desk).state ≡ next_at stamp.node s desk
+    by_desk None e = ap (next_at stamp.node s) e
+    by_desk (Some desk) e =
+        same_next stamp.node s desk no_modes 0 desk.queue

@@ -1,25 +1,18 @@
 -- A move is made of small steps of the world, part by part.
-use Rattle.std.proofs.Common.{◌≡◌, ℕ, ◌+◌, List, [], ◌∷◌, ◌++◌, map, Option, Some, None, Bool, true, false, sym, ap, ◌∙◌, append-nil}
-use Rattle.std.specs.Prelude.{if◌then◌else◌, fold}
-use Rattle.std.specs.List.{filter_map}
+use Rattle.std.proofs.Common.{◌≡◌, ℕ, ◌+◌, List, [], ◌∷◌, ◌++◌, map, Option, Some, None, Bool, true, false, sym, ap, ◌∙◌, append-nil, if◌then◌else◌, fold, filter_map, append_assoc}
 use Rattle.std.proofs.Math.Path.{fun_ext}
-use Rattle.std.proofs.lemmas.List.{append_assoc}
 use Rattle.std.proofs.lemmas.List.Elements.{filter_map-append}
 use Rattle.lt_modes.specs.declared.stamp.Stamp.{Stamp}
 use Rattle.lt_modes.specs.declared.command.Command.{Command}
 use Rattle.lt_modes.specs.declared.command.Command.TheVariants.{Lock, Try, Unlock, Change, DropAll}
 use Rattle.lt_modes.specs.declared.moves.Step.TheVariants.{Act, Take}
 use Rattle.lt_modes.specs.Script.{ScriptData}
-use Rattle.lt_modes.specs.State.{SetState, Letter}
-use Rattle.lt_modes.specs.Made.{Made, joined, then_do}
-use Rattle.lt_modes.specs.Telling.{finish}
-use Rattle.lt_modes.specs.Taking.{arrive}
-use Rattle.lt_modes.specs.SetMove.{locked, tried, unlocked, changed, drop}
+use Rattle.lt_modes.specs.State.{SetState, Letter, Made, joined, then_do}
+use Rattle.lt_modes.specs.SetMove.{finish, arrive, locked, tried, unlocked, changed, drop}
 use Rattle.lt_lists.specs.Below.{put}
-use Rattle.lt_spec.specs.Families.{related}
-use Rattle.lt_spec.specs.NodeMove.{NodeState, NodeMade, no_move, node_waits, next_command, touched, each_touched, drop_all, act_stamp, take_stamp, at_clock, one_made, obey}
+use Rattle.lt_spec.specs.NodeMove.{related, NodeState, NodeMade, no_move, node_waits, next_command, touched, each_touched, drop_all, act_stamp, take_stamp, at_clock, one_made, obey}
 use Rattle.lt_spec.specs.World.{World, is_some_letter, opened, front_stamp, take_front, token_to, after_made}
-use Rattle.lt_model.specs.MomentLaws.{MovesInSteps, MovesAreParts, MovePart, part_on, applied, with_end, parts_of_command, parts_of_front}
+use Rattle.lt_model.specs.Laws.{MovesInSteps, MovesAreParts, MovePart, part_on, applied, with_end, parts_of_command, parts_of_front}
 use Rattle.lt_model.proofs.PathsMove.{has_mail_parts}
 use Rattle.lt_model.proofs.PathsGoing.{sent-sent, sent-none}
 use Rattle.lt_lists.proofs.Puts.{put-put, put-same}

@@ -1,33 +1,23 @@
 -- The effects of a move leave each unanswered ask in one place.
-use Rattle.lt_model.proofs.StandingParts.{places_weight, places_sent, IsCopyHome, AreApart, Stands, stands, places_sent-one, places_sent-none, moved_on, dealt_times, all_dealt_times, item_places, item_home, SameAsks, reversed_asks, same_places}
-use Rattle.std.proofs.Common.{◌≡◌, ◌≢◌, ℕ, suc, ◌+◌, ◌<◌, ◌≤◌, List, [], ◌∷◌, ◌++◌, length, Option, Some, None, Bool, true, false, refl, sym, ap, subst, arith, ◌∙◌}
-use Rattle.std.specs.Prelude.{◌==◌, nat_lt, if◌then◌else◌, All, Contains, remove, position, is_some}
-use Rattle.std.proofs.lemmas.Bool.{eq-eqb, eqb-true}
-use Rattle.std.proofs.lemmas.List.{append-nil}
+use Rattle.lt_model.proofs.SentInMove.{places_weight, places_sent, IsCopyHome, AreApart, Stands, stands, places_sent-one, places_sent-none, moved_on, dealt_times, all_dealt_times, item_places, item_home, SameAsks, reversed_asks, same_places}
+use Rattle.std.proofs.Common.{◌≡◌, ◌≢◌, ℕ, suc, ◌+◌, ◌<◌, ◌≤◌, List, [], ◌∷◌, ◌++◌, length, Option, Some, None, Bool, true, false, refl, sym, ap, subst, arith, ◌∙◌, ◌==◌, nat_lt, if◌then◌else◌, All, Contains, remove, position, is_some, eq-eqb, eqb-true, append-nil}
 use Rattle.std.proofs.lemmas.List.Elements.{All-push, All-append, All-take, All-drop, All-weaker, Contains-get_or}
 use Rattle.std.proofs.lemmas.List.Quantifiers.{all_pairs_push}
 use Rattle.std.proofs.lemmas.List.Sums.{sum_by-cons, sum_by_push}
 use Rattle.lt_modes.specs.declared.stamp.Stamp.{Stamp}
 use Rattle.lt_modes.specs.declared.ask.Ask.{Ask}
 use Rattle.lt_modes.specs.declared.parts.Link.{Link}
-use Rattle.lt_modes.specs.Held.{held_modes}
-use Rattle.lt_modes.specs.State.{SetState, Desk, Body, AskBody, TellBody, CopyBody, TokenBody, FreezeBody, Letter, Parked, ParkedAsk, ParkedTell}
-use Rattle.lt_modes.specs.Made.{Post, silent}
-use Rattle.lt_modes.specs.Queue.{same_ask, has_stamp, without, without_at, no_ask, times_in}
-use Rattle.lt_modes.specs.Serving.{queue_of, queue_of_desk, ask_at, next_service, serve_one, serve_local, serve_copy}
+use Rattle.lt_modes.specs.Modes.{held_modes}
+use Rattle.lt_modes.specs.State.{SetState, Desk, Body, AskBody, TellBody, CopyBody, TokenBody, FreezeBody, Letter, Parked, ParkedAsk, ParkedTell, Post, silent, same_ask, has_stamp, without, without_at, no_ask, times_in}
+use Rattle.lt_modes.specs.Serving.{queue_of, queue_of_desk, ask_at, next_service, serve_one, serve_local, serve_copy, hand_over_to}
 use Rattle.lt_modes.specs.Freezing.{freeze, freeze_at, frozen_by, targets}
-use Rattle.lt_modes.specs.HandingOver.{hand_over_to}
-use Rattle.lt_modes.specs.Routing.{Way, Parks, Goes, learn, dealt, body_of, reversed, sent_on, route}
-use Rattle.lt_modes.specs.Telling.{tell_of}
-use Rattle.lt_modes.specs.Taking.{take_body, arrive}
-use Rattle.lt_modes.specs.SetMove.{ask_of, asked, take}
+use Rattle.lt_modes.specs.SetMove.{Way, Parks, Goes, learn, dealt, body_of, reversed, sent_on, route, tell_of, take_body, arrive, ask_of, asked, take}
 use Rattle.lt_modes.proofs.ServingLemmas.{queue_of-serve_one}
 use Rattle.lt_spec.specs.Facts.{times_parked, places_in_state, places_in_body, tokens_in}
 use Rattle.lt_lists.specs.Below.{one_if}
-use Rattle.lt_model.specs.Standing.{IsMadeBy}
+use Rattle.lt_model.specs.Invariant.{IsMadeBy}
 use Rattle.lt_lists.proofs.AllLemmas.{all_map, all_any}
-use Rattle.lt_law_accounts.proofs.Asks.{times_in-some, times_in-found, times_in-push, times_in-remove, times_in-without, same_ask-itself}
-use Rattle.lt_law_accounts.proofs.Unanswered.{without_apart}
+use Rattle.lt_law_accounts.proofs.Asks.{times_in-some, times_in-found, times_in-push, times_in-remove, times_in-without, same_ask-itself, without_apart}
 use Rattle.lt_model.proofs.Effects.{HoldsOf, EndEffects, ActEffects, ByEffects, route_ways, holds_silent, acts_by_effects, take_by_effects, next_service-within}
 
 -- an ask or a tell in hand finds its place

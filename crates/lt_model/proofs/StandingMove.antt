@@ -1,33 +1,27 @@
 -- Each enabled move leaves each unanswered ask of a set in one place.
-use Rattle.std.proofs.Common.{◌≡◌, ◌≢◌, ℕ, ◌+◌, ◌<◌, ◌≤◌, inl, inr, List, [], ◌∷◌, true, refl, sym, ap, subst, arith, ◌∙◌}
-use Rattle.std.specs.Prelude.{All, AllPairs, Contains, ◌⊎◌, slice_index_or, drop as drop_front}
+use Rattle.std.proofs.Common.{◌≡◌, ◌≢◌, ℕ, ◌+◌, ◌<◌, ◌≤◌, inl, inr, List, [], ◌∷◌, true, refl, sym, ap, subst, arith, ◌∙◌, All, AllPairs, Contains, ◌⊎◌, slice_index_or, drop as drop_front, ne_eqb}
 use Rattle.std.specs.List.{AllByRecursion}
-use Rattle.std.proofs.lemmas.Bool.{cases_eq, cases_lt, ne_eqb}
+use Rattle.std.proofs.lemmas.Bool.{cases_eq, cases_lt}
 use Rattle.std.proofs.lemmas.List.Elements.{recursion_from_All, Contains-get_or}
 use Rattle.lt_modes.specs.declared.ask.Ask.{Ask}
 use Rattle.lt_modes.specs.declared.moves.Step.TheVariants.{Act, Take}
 use Rattle.lt_modes.specs.Script.{ScriptData}
-use Rattle.lt_modes.specs.State.{SetState, Letter}
-use Rattle.lt_modes.specs.Made.{Post}
+use Rattle.lt_modes.specs.State.{SetState, Letter, Post, times_in}
 use Rattle.lt_modes.specs.SetMove.{take}
 use Rattle.lt_lists.specs.Below.{put}
 use Rattle.lt_spec.specs.NodeMove.{NodeState, NodeMade, next_command, act_stamp, take_stamp, at_clock, one_made, node_act, node_take}
 use Rattle.lt_spec.specs.World.{World, is_some_letter, opened, put_mail, take_front, after_made, after}
 use Rattle.lt_spec.specs.Facts.{state_at, places_in_state, places_in_body, place_count}
-use Rattle.lt_modes.specs.Queue.{times_in}
-use Rattle.lt_model.specs.Paths.{Paths}
-use Rattle.lt_model.specs.Standing.{IsMadeBy, AsksStand}
+use Rattle.lt_model.specs.Invariant.{Paths, IsMadeBy, AsksStand}
 use Rattle.lt_lists.proofs.Sums.{sum_below-same, sum_below-change, sum_below-at}
 use Rattle.lt_model.proofs.Letters.{mail_weight, IsCounted, all_sent, before_take, sent_on_way, mail_weight-sent, mail_weight-beyond}
 use Rattle.lt_model.specs.Laws.{StandingKept}
-use Rattle.lt_model.proofs.SentInMove.{take-sent}
+use Rattle.lt_model.proofs.SentInMove.{take-sent, places_weight, IsCopyHome, Stands, stands}
 use Rattle.lt_lists.proofs.AllLemmas.{all_weaker, all_any}
 use Rattle.lt_lists.proofs.Puts.{put-same, put-other}
 use Rattle.lt_model.proofs.PathsMove.{has_mail_parts, move_kept}
-use Rattle.lt_model.proofs.NodeMoves.{obey-stamped, obey-beside, touched-beside}
-use Rattle.lt_model.proofs.NodeEffects.{once_or_aside, obey_by_effects}
+use Rattle.lt_model.proofs.NodeEffects.{obey-stamped, obey-beside, touched-beside, once_or_aside, obey_by_effects}
 use Rattle.lt_model.proofs.StandingEffects.{stands_later, standing_moves, standing_take}
-use Rattle.lt_model.proofs.StandingParts.{places_weight, IsCopyHome, Stands, stands}
 use Rattle.lt_model.proofs.StandingBegins.{asked_in, elsewhere, unanswered, only_here, copy_home, other_weight, stands_of_set, stands_before, none_in_hand, left_weight, letter_taken}
 
 -- letters of the set go to nodes of the script, and others carry no ask of it

@@ -1,37 +1,27 @@
 -- The start of each script has the invariant.
-use Rattle.lt_law_accounts.proofs.FirstAccount.{empty_account, empty_is_kept}
-use Rattle.lt_modes.proofs.EachMode.{none_in_none}
+use Rattle.lt_law_accounts.proofs.AccountTells.{empty_account, empty_is_kept}
+use Rattle.lt_modes.proofs.ModeAlgebra.{none_in_none, bars_of_none}
 use Rattle.lt_lists.proofs.Sums.{sum_below-none, sum_first}
 use Rattle.lt_lists.proofs.Gathering.{gather_none}
 use Rattle.std.proofs.lemmas.List.Elements.{All-nil}
 use Rattle.lt_lists.proofs.Members.{none_in}
-use Rattle.std.proofs.Common.{◌≡◌, ◌≢◌, ℕ, zero, suc, ◌<◌, inl, inr, List, [], ◌∷◌, ◌++◌, length, Option, Some, None, Bool, true, false, refl, sym, ap, subst, arith, ◌∙◌}
-use Rattle.std.specs.Prelude.{◌==◌, if◌then◌else◌, IfSome, IsTrue, is_some, slice_index_or, unwrap_or}
-use Rattle.std.proofs.lemmas.Bool.{ne_eqb, eqb-true}
-use Rattle.std.proofs.lemmas.List.{append-nil, length-replicate, get_or-replicate}
-use Rattle.std.specs.List.{filter_map}
+use Rattle.std.proofs.Common.{◌≡◌, ◌≢◌, ℕ, zero, suc, ◌<◌, inl, inr, List, [], ◌∷◌, ◌++◌, length, Option, Some, None, Bool, true, false, refl, sym, ap, subst, arith, ◌∙◌, ◌==◌, if◌then◌else◌, IfSome, IsTrue, is_some, slice_index_or, unwrap_or, ne_eqb, eqb-true, append-nil, filter_map}
+use Rattle.std.proofs.lemmas.List.{length-replicate, get_or-replicate}
 use Rattle.lt_modes.specs.declared.ask.Ask.{Ask}
 use Rattle.lt_modes.specs.Modes.{Modes, no_modes, has, bars}
-use Rattle.lt_modes.proofs.ModeAlgebra.{bars_of_none}
 use Rattle.lt_modes.specs.Script.{ScriptData}
-use Rattle.lt_modes.specs.State.{SetState, Desk, Entry, Tell, Body, first_desk, first_entry}
-use Rattle.lt_modes.specs.Records.{entry_of, record_of}
+use Rattle.lt_modes.specs.State.{SetState, Desk, Entry, Tell, Body, first_desk, first_entry, entry_of, record_of, times_in}
 use Rattle.lt_modes.specs.Serving.{next_service, next_draw}
 use Rattle.lt_modes.specs.Fits.{Numbers, numbers_of}
 use Rattle.lt_modes.specs.Sound.{SoundSet}
 use Rattle.lt_lists.specs.Below.{sum_below, gather_below, one_if}
 use Rattle.lt_spec.specs.World.{start}
-use Rattle.lt_model.specs.Moments.{Between, is_at}
-use Rattle.lt_model.specs.OnWay.{in_set, tell_in, tell_parked, copy_in, freeze_in, tells_of, copies_to, freezes_to, account_of, news_of}
-use Rattle.lt_spec.specs.Desks.{Comes, DeskIs}
-use Rattle.lt_spec.specs.Facts.{state_at, places_in_state, place_count}
-use Rattle.lt_modes.specs.Queue.{times_in}
+use Rattle.lt_model.specs.OnWay.{Between, is_at, in_set, tell_in, tell_parked, copy_in, freeze_in, tells_of, copies_to, freezes_to, account_of, news_of}
+use Rattle.lt_spec.specs.Facts.{Comes, DeskIs, state_at, places_in_state, place_count}
 use Rattle.lt_law_accounts.specs.Account.{Account, AccountKept, counted}
 use Rattle.lt_law_accounts.specs.News.{News, Notice, NewsKept}
-use Rattle.lt_model.specs.Invariant.{DeskKept, SetKept, WorldInvariant, LinesKept}
-use Rattle.lt_model.specs.Paths.{HasWay, Paths}
+use Rattle.lt_model.specs.Invariant.{DeskKept, SetKept, WorldInvariant, LinesKept, HasWay, Paths, ClientsKept}
 use Rattle.lt_modes.specs.declared.parts.Hoped.{Hoped}
-use Rattle.lt_model.specs.SoundNode.{ClientsKept}
 
 -- what a node keeps at the start, with the desk or without
 abbrev state_if : ℕ → Bool → SetState

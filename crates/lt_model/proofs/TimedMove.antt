@@ -1,20 +1,16 @@
 -- Each enabled move keeps that nothing is younger than its clock.
-use Rattle.std.proofs.Common.{◌≡◌, ◌≢◌, ℕ, zero, suc, ◌+◌, ◌<◌, ◌≤◌, max, inl, inr, List, [], ◌∷◌, ◌++◌, Option, Some, None, Bool, true, false, refl, sym, ap, subst, arith, ◌∙◌, take as take_first}
-use Rattle.std.specs.Prelude.{◌==◌, if◌then◌else◌, IfSome, Contains, ◌⊎◌, drop as drop_front}
+use Rattle.std.proofs.Common.{◌≡◌, ◌≢◌, ℕ, zero, suc, ◌+◌, ◌<◌, ◌≤◌, max, inl, inr, List, [], ◌∷◌, ◌++◌, Option, Some, None, Bool, true, false, refl, sym, ap, subst, arith, ◌∙◌, take as take_first, ◌==◌, if◌then◌else◌, IfSome, Contains, ◌⊎◌, drop as drop_front}
 use Rattle.std.specs.List.{AllByRecursion}
 use Rattle.std.proofs.lemmas.Bool.{cases_eq, cases_lt}
 use Rattle.lt_modes.specs.declared.stamp.Stamp.{Stamp}
 use Rattle.lt_modes.specs.declared.moves.Step.TheVariants.{Act, Take}
 use Rattle.lt_modes.specs.Script.{ScriptData}
-use Rattle.lt_modes.specs.State.{SetState, Desk, Letter, first_desk}
-use Rattle.lt_modes.specs.Made.{Post}
+use Rattle.lt_modes.specs.State.{SetState, Desk, Letter, first_desk, Post}
 use Rattle.lt_modes.specs.SetMove.{take}
 use Rattle.lt_lists.specs.Below.{put}
-use Rattle.lt_spec.specs.Log.{Logged}
+use Rattle.lt_spec.specs.World.{Logged, World, start, is_some_letter, opened, put_mail, take_front, after_made, after, after_run, IsRunFrom}
 use Rattle.lt_spec.specs.NodeMove.{NodeState, NodeMade, next_command, act_stamp, take_stamp, at_clock, one_made, node_act, node_take}
-use Rattle.lt_spec.specs.World.{World, start, is_some_letter, opened, put_mail, take_front, after_made, after, after_run, IsRunFrom}
-use Rattle.lt_model.specs.Invariant.{BodyKept, LetterKept}
-use Rattle.lt_model.specs.Timed.{StateTimed, Timed}
+use Rattle.lt_model.specs.Invariant.{BodyKept, LetterKept, StateTimed, Timed}
 use Rattle.lt_model.specs.Laws.{TimedKept, TimedInRuns}
 use Rattle.lt_model.proofs.Letters.{all_sent, before_take}
 use Rattle.lt_model.proofs.SentInMove.{take-sent}
@@ -22,8 +18,7 @@ use Rattle.lt_lists.proofs.AllLemmas.{all_weaker, all_both, all_any}
 use Rattle.lt_lists.proofs.Members.{none_in}
 use Rattle.lt_lists.proofs.Puts.{put-same, put-other}
 use Rattle.lt_model.proofs.PathsMove.{has_mail_parts}
-use Rattle.lt_model.proofs.NodeMoves.{obey-stamped, obey-beside, touched-beside}
-use Rattle.lt_model.proofs.NodeEffects.{IsOfSet, once_or_aside, obey_by_effects}
+use Rattle.lt_model.proofs.NodeEffects.{obey-stamped, obey-beside, touched-beside, IsOfSet, once_or_aside, obey_by_effects}
 use Rattle.lt_model.proofs.TimedEffects.{IsUpTo, IsTold, AreTold, upto, timed_moves, timed_take}
 
 -- a letter that node p sent by this clock

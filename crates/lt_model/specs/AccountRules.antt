@@ -1,29 +1,20 @@
 -- What rules of a node do to accounts, as statements: what a rule tests of modes is what the account's step asks of them,
 -- and what it changes is that step.
-use Rattle.std.specs.Prelude.{◌≡◌, ◌≢◌, ◌⊎◌, ◌||◌, ◌==◌, ◌<◌, Bool, true, false, ℕ, List, Option, Some, None, fold, if◌then◌else◌, is_some, IsTrue, IsFalse, length}
-use Rattle.std.specs.List.{AllByRecursion, filter_map}
+use Rattle.std.specs.Prelude.{◌≡◌, ◌≢◌, ◌⊎◌, ◌||◌, ◌==◌, ◌<◌, Bool, true, false, ℕ, List, Option, Some, None, fold, if◌then◌else◌, is_some, IsTrue, IsFalse, length, filter_map}
+use Rattle.std.specs.List.{AllByRecursion}
 use Rattle.lt_modes.specs.declared.mode.Mode.{Mode}
 use Rattle.lt_modes.specs.declared.stamp.Stamp.{Stamp}
 use Rattle.lt_modes.specs.declared.ask.Ask.{Ask}
-use Rattle.lt_modes.specs.Modes.{Modes, has, union, bars, covers, same_modes}
+use Rattle.lt_modes.specs.Modes.{Modes, has, union, bars, covers, same_modes, count_of, own_modes, other_modes, held_modes}
 use Rattle.lt_modes.specs.declared.parts.Link.{Link}
 use Rattle.lt_modes.specs.Script.{ScriptData}
-use Rattle.lt_modes.specs.State.{SetState, Desk, Entry, Tell, Parked, ParkedAsk, ParkedTell}
-use Rattle.lt_modes.specs.Held.{count_of, own_modes, other_modes, held_modes}
-use Rattle.lt_modes.specs.Records.{entry_of, record_of, own_owed, modes_at, others}
-use Rattle.lt_modes.specs.Tells.{told, tell_applied}
-use Rattle.lt_modes.specs.Granting.{can_grant}
-use Rattle.lt_modes.specs.Serving.{ask_at, next_service, served, serve_copy, owing}
-use Rattle.lt_modes.specs.Freezing.{frozen_by, is_target, freeze}
-use Rattle.lt_modes.specs.HandingOver.{leaving, without_desk}
-use Rattle.lt_modes.specs.Telling.{tell_of, make_tell}
-use Rattle.lt_modes.specs.Taking.{take_copy, take_freeze, take_token}
-use Rattle.lt_modes.specs.Routing.{learn, dealt, route}
-use Rattle.lt_modes.specs.SetMove.{given, unlocked, asked, dropped}
+use Rattle.lt_modes.specs.State.{SetState, Desk, Entry, Tell, Parked, ParkedAsk, ParkedTell, entry_of, record_of, own_owed, modes_at, others}
+use Rattle.lt_modes.specs.Serving.{told, tell_applied, ask_at, next_service, served, serve_copy, owing, leaving, without_desk}
+use Rattle.lt_modes.specs.Freezing.{can_grant, frozen_by, is_target, freeze}
+use Rattle.lt_modes.specs.SetMove.{tell_of, make_tell, take_copy, take_freeze, take_token, learn, dealt, route, given, unlocked, asked, dropped}
 use Rattle.lt_spec.specs.World.{World}
 use Rattle.lt_spec.specs.Facts.{state_at}
-use Rattle.lt_model.specs.Moments.{Moment}
-use Rattle.lt_model.specs.OnWay.{tell_parked, account_of}
+use Rattle.lt_model.specs.OnWay.{Moment, tell_parked, account_of}
 use Rattle.lt_law_accounts.specs.Account.{Account, counted}
 use Rattle.lt_law_accounts.specs.AccountPlay.{others_counted}
 use Rattle.lt_model.specs.NewsRules.{frozen_desk}

@@ -1,21 +1,42 @@
--- Whose locks and asks a node has, which sets letters are of, and what the lines of a move name.
-use Rattle.std.specs.Prelude.{◌≡◌, ◌≤◌, ◌<◌, ℕ, length, IsTrue, All, Contains}
+-- How many locks the lines of a run add.
+use Rattle.std.specs.Prelude.{ℕ, List, sum_by, ◌≡◌, ◌≤◌, ◌<◌, length, IsTrue, All, Contains, ◌≢◌, take}
+use Rattle.lt_modes.specs.declared.event.Event.{Event}
+use Rattle.lt_modes.specs.declared.event.Event.TheVariants.{Grant, Wait, Try, Unlock, NotHeld, Change, DropAll, Busy, Copy, Freeze, Token, Try as TryLine, Unlock as UnlockLine, Change as ChangeLine, DropAll as Dropped}
 use Rattle.lt_modes.specs.declared.ask.Ask.{Ask}
 use Rattle.lt_modes.specs.declared.parts.Row.{Row}
 use Rattle.lt_modes.specs.declared.moves.Move.{Move}
 use Rattle.lt_modes.specs.declared.moves.Step.{Step}
 use Rattle.lt_modes.specs.declared.moves.Step.TheVariants.{Act, Take}
-use Rattle.lt_modes.specs.declared.event.Event.{Event}
-use Rattle.lt_modes.specs.declared.event.Event.TheVariants.{Grant, Wait, Try as TryLine, Unlock as UnlockLine, NotHeld, Change as ChangeLine, DropAll as Dropped, Busy, Copy, Freeze, Token}
 use Rattle.lt_modes.specs.Script.{ScriptData}
 use Rattle.lt_modes.specs.State.{SetState, Body, AskBody, TellBody, CopyBody, TokenBody, FreezeBody, Letter, Parked, ParkedAsk, ParkedTell}
 use Rattle.lt_modes.specs.Serving.{queue_of}
 use Rattle.lt_modes.specs.Fits.{is_at_home, asks_here, numbers_of}
 use Rattle.lt_modes.specs.Sound.{SoundRow, SoundParked}
-use Rattle.lt_spec.specs.Families.{home}
-use Rattle.lt_spec.specs.Log.{Logged}
-use Rattle.lt_spec.specs.World.{World}
+use Rattle.lt_lists.specs.Below.{one_if}
+use Rattle.lt_spec.specs.NodeMove.{home, IsWhole}
+use Rattle.lt_spec.specs.World.{Logged, World, is_enabled, after, world_after, IsRun}
 use Rattle.lt_spec.specs.Facts.{state_at}
+use Rattle.lt_spec.specs.Holdings.{lines_of}
+
+-- how many locks the line adds
+abbrev pub adds : Event → ℕ
+adds (Grant client s mode) = 1
+adds (Wait client s mode) = 0
+adds (Try client s mode got) = one_if got
+adds (Unlock client s mode) = 0
+adds (NotHeld client s mode) = 0
+adds (Change client s gives_up mode) = 1
+adds (DropAll client other s count) = 0
+adds (Busy client other s) = 0
+adds (Copy s to client mode) = 0
+adds (Freeze s to number modes) = 0
+adds (Token s to epoch) = 0
+
+-- how many locks the lines add together
+abbrev pub added_by : List Event → ℕ
+added_by lines = sum_by adds lines
+
+-- Whose locks and asks a node has, which sets letters are of, and what the lines of a move name.
 
 -- the row is of a client of node q, and holds some lock
 pub record IsRowAtHome (script : ScriptData) (q : ℕ) (row : Row) : Type 0 where
@@ -105,3 +126,35 @@ IsLineWithin script bound (Token s to epoch) = (s < length script.sets) × (to <
 pub record IsEntryWithin (script : ScriptData) (bound : ℕ) (entry : Logged) : Type 0 where
   pub made : IsMoveWithin script bound entry.made
   pub lines : All (IsLineWithin script bound) entry.events
+
+-- Whose locks and asks a node has, as laws over moves and runs.
+
+-- an enabled move keeps locks and asks at home
+abbrev pub HomesKept : Type 0
+HomesKept = (script : ScriptData) (w : World) → IsWhole script → Homes script w
+    → (q : ℕ) (step : Step) → IsTrue (is_enabled script w q step) → Homes script (after script w q step)
+
+-- and so it is in every run
+abbrev pub HomesInRuns : Type 0
+HomesInRuns = (script : ScriptData) (run : List Logged) → IsWhole script → IsRun script run → (k : ℕ)
+    → Homes script (world_after script (take k run))
+
+-- what the moves of a run and their lines name is of the script, and none of their numbers is above the number of moves
+abbrev pub LinesInRuns : Type 0
+LinesInRuns = (script : ScriptData) (run : List Logged) → IsWhole script → IsRun script run
+    → All (IsEntryWithin script (length run)) run
+
+-- the lines of a run add no more locks than there are moves
+abbrev pub FewAdded : Type 0
+FewAdded = (script : ScriptData) (run : List Logged) → IsWhole script → IsRun script run → added_by (lines_of run) ≤ length run
+
+-- in a run unanswered asks of different nodes have different stamps, also for different sets
+abbrev pub StampsApart : Type 0
+StampsApart = (script : ScriptData) (run : List Logged) → IsWhole script → IsRun script run → (k s t x y : ℕ) (a b : Ask)
+    → Contains (state_at (world_after script (take k run)) s x).pending a
+    → Contains (state_at (world_after script (take k run)) t y).pending b → x ≢ y → a.stamp ≢ b.stamp
+
+-- what is at home is sound, as far as homes go
+abbrev pub HomesSound : Type 0
+HomesSound = (script : ScriptData) (w : World) → IsWhole script → Homes script w
+    → (x s : ℕ) → HasSoundHomes script x (state_at w s x)

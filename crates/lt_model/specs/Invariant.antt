@@ -1,30 +1,116 @@
--- What is to hold of every world of a run: the world invariant.
-use Rattle.std.specs.Prelude.{◌≡◌, ◌≢◌, ◌⊎◌, ◌↔◌, ◌≤◌, ◌<◌, false, ℕ, List, [], Option, Some, None, length, IsTrue, All, Contains}
-use Rattle.lt_modes.specs.declared.mode.Mode.{Mode}
+-- The way of a set's token, and the links that lead to it.
+use Rattle.std.specs.Prelude.{◌≡◌, ◌≢◌, ◌⊎◌, ◌≤◌, ◌<◌, ℕ, ◌+◌, List, Option, Some, None, length, slice_index, IfSome, All, ◌&&◌, ◌==◌, false, count_by, is_none, ◌↔◌, [], IsTrue, Contains, AllPairs}
 use Rattle.lt_modes.specs.declared.ask.Ask.{Ask}
-use Rattle.lt_modes.specs.declared.event.Event.{Event}
-use Rattle.lt_modes.specs.Modes.{excludes_itself}
+use Rattle.lt_modes.specs.declared.parts.Link.{Link}
+use Rattle.lt_modes.specs.declared.parts.Hoped.{Hoped}
 use Rattle.lt_modes.specs.Script.{ScriptData}
-use Rattle.lt_modes.specs.State.{Desk, Body, AskBody, TellBody, CopyBody, TokenBody, FreezeBody, Letter, Parked, ParkedAsk, ParkedTell}
-use Rattle.lt_modes.specs.Held.{count_of}
-use Rattle.lt_modes.specs.Tells.{is_newer}
-use Rattle.lt_modes.specs.Serving.{next_service, next_draw}
+use Rattle.lt_modes.specs.State.{SetState, Desk, Body, AskBody, TellBody, CopyBody, TokenBody, FreezeBody, Letter, Parked, ParkedAsk, ParkedTell, times_in}
+use Rattle.lt_modes.specs.Modes.{locks_of, excludes_itself, count_of}
+use Rattle.lt_modes.specs.Fits.{numbers_of}
 use Rattle.lt_modes.specs.Sound.{SoundSet}
+use Rattle.lt_modes.specs.declared.mode.Mode.{Mode}
+use Rattle.lt_modes.specs.declared.event.Event.{Event}
+use Rattle.lt_modes.specs.Serving.{is_newer, next_service, next_draw}
 use Rattle.lt_lists.specs.Below.{sum_below}
 use Rattle.lt_spec.specs.World.{World}
-use Rattle.lt_spec.specs.Families.{home}
-use Rattle.lt_spec.specs.Holdings.{Holding, holding, holdings, wanted, times_held}
-use Rattle.lt_modes.specs.Fits.{numbers_of}
-use Rattle.lt_model.specs.SoundNode.{ClientsKept}
-use Rattle.lt_spec.specs.Facts.{state_at, place_count}
-use Rattle.lt_modes.specs.Queue.{times_in}
-use Rattle.lt_model.specs.Moments.{Moment, Between, is_moving, is_unfrozen}
-use Rattle.lt_model.specs.OnWay.{IsCopyTo, account_of, news_of}
-use Rattle.lt_spec.specs.Desks.{OnWay, Comes, DeskIs}
-use Rattle.lt_model.specs.Paths.{Paths}
+use Rattle.lt_spec.specs.Facts.{state_at, token_count, OnWay, place_count, Comes, DeskIs}
+use Rattle.lt_spec.specs.NodeMove.{NodeState, home}
+use Rattle.lt_spec.specs.Holdings.{Holding, holding, holdings, wanted, times_held, WaitsFor}
 use Rattle.lt_law_accounts.specs.Account.{AreClear, AccountKept, counted}
 use Rattle.lt_law_accounts.specs.News.{NewsKept}
-use Rattle.lt_spec.specs.Waits.{WaitsFor}
+use Rattle.lt_model.specs.OnWay.{Moment, Between, is_moving, is_unfrozen, IsCopyTo, account_of, news_of}
+
+-- the token went to the link's node with the link's epoch
+pub record IsTrueLink (went : List ℕ) (link : Link) : Type 0 where
+  pub epoch : link.epoch < length went
+  pub node : slice_index went link.epoch ≡ link.node
+
+-- the ask is of a node of the script
+abbrev pub IsNamed : ℕ → Ask → Type 0
+IsNamed nodes ask = ask.node < nodes
+
+abbrev pub IsParkedNamed : ℕ → Parked → Type 0
+IsParkedNamed nodes (ParkedAsk ask) = IsNamed nodes ask
+IsParkedNamed nodes (ParkedTell tell) = Unit {0}
+
+-- a desk that is at node t or on its way there has the epoch of the last token move, which was to t;
+-- it has an entry for each node, and its asks are of nodes of the script
+pub record DeskOnPath (nodes : ℕ) (went : List ℕ) (t : ℕ) (desk : Desk) : Type 0 where
+  pub epoch : desk.epoch + 1 ≡ length went
+  pub node : slice_index went desk.epoch ≡ t
+  pub entries : length desk.entries ≡ nodes
+  pub queue : All (IsNamed nodes) desk.queue
+
+-- node x knows of a token move after each one that was to it, but for the last one, with which the token is on its way
+abbrev pub KnowsLater : List ℕ → ℕ → Link → Type 0
+KnowsLater went x firm = (epoch : ℕ) → epoch < length went → slice_index went epoch ≡ x
+    → (epoch < firm.epoch) ⊎ (epoch + 1 ≡ length went)
+
+-- the firm link of the desk's node is the desk's; any other node knows of later token moves
+abbrev pub HasWay : ℕ → List ℕ → ℕ → Link → Option Desk → Type 0
+HasWay nodes went x firm None = KnowsLater went x firm
+HasWay nodes went x firm (Some desk) =
+    DeskOnPath nodes went x desk × (firm.node ≡ x) × (firm.epoch ≡ desk.epoch)
+
+-- what node x keeps leads to the token: its firm link is true, its hoped link names another node of the script
+pub record StateOnPath (nodes : ℕ) (went : List ℕ) (x : ℕ) (s : SetState) : Type 0 where
+  pub link : IsTrueLink went s.firm
+  pub way : HasWay nodes went x s.firm s.desk
+  pub hoped : IfSome s.hoped (λ (link : Hoped). (link.node < nodes) × (link.node ≢ x))
+  pub parked : All (IsParkedNamed nodes) s.parked
+
+abbrev pub BodyOnPath : ℕ → List ℕ → ℕ → Body → Type 0
+BodyOnPath nodes went q (AskBody ask marked) = IsNamed nodes ask
+BodyOnPath nodes went q (TokenBody desk) = DeskOnPath nodes went q desk
+BodyOnPath nodes went q (TellBody tell) = Unit {0}
+BodyOnPath nodes went q (CopyBody ask) = Unit {0}
+BodyOnPath nodes went q (FreezeBody number modes) = Unit {0}
+
+-- a letter from p to q goes to another node of the script, and its link is true
+pub record LetterOnPath (nodes : ℕ) (went : List ℕ) (p q : ℕ) (letter : Letter) : Type 0 where
+  pub to : q < nodes
+  pub other : q ≢ p
+  pub link : IsTrueLink went letter.link
+  pub body : BodyOnPath nodes went q letter.body
+
+-- there is one token of the set, it went from node to node of the script, and each link is true
+pub record Paths (script : ScriptData) (w : World) (s : ℕ) : Type 0 where
+  pub went : All (λ x. x < script.nodes) (w.went s)
+  pub some : 1 ≤ length (w.went s)
+  pub states : (x : ℕ) → x < script.nodes → StateOnPath script.nodes (w.went s) x (state_at w s x)
+  pub beyond : (x : ℕ) → script.nodes ≤ x → (state_at w s x).desk ≡ None
+  pub letters : (p q : ℕ) (letter : Letter) → p < script.nodes → OnWay w s p q letter
+      → LetterOnPath script.nodes (w.went s) p q letter
+  pub one_token : token_count script w s ≡ 1
+
+-- What holds of a node and of the world's numbers.
+
+-- how many asks of the client are unanswered, over all sets
+abbrev pub unanswered_asks : ScriptData → NodeState → ℕ → ℕ
+unanswered_asks script n client =
+    sum_below (length script.sets) (λ s. count_by (λ (ask : Ask). ask.client == client) (n.set s).pending)
+
+-- how many of them give up no mode
+abbrev pub new_asks_of : ScriptData → NodeState → ℕ → ℕ
+new_asks_of script n client =
+    sum_below (length script.sets)
+    (λ s. count_by (λ (ask : Ask). ask.client == client && is_none ask.gives_up) (n.set s).pending)
+
+-- how many locks the client holds, over all sets
+abbrev pub locks_in_all : ScriptData → NodeState → ℕ → ℕ
+locks_in_all script n client = sum_below (length script.sets) (λ s. locks_of (n.set s).held client)
+
+-- a client waits for at most one ask, and each of its locks and of its asks for one more came by a command of its own
+pub record ClientsKept (script : ScriptData) (n : NodeState) : Type 0 where
+  pub one_ask : (client : ℕ) → unanswered_asks script n client ≤ 1
+  pub counts : (client : ℕ) → locks_in_all script n client + new_asks_of script n client ≤ n.made client
+
+-- between moves each set is sound, and so is what the clients hold and wait for
+pub record SoundNode (script : ScriptData) (q : ℕ) (n : NodeState) : Type 0 where
+  pub sets : (s : ℕ) → s < length script.sets → SoundSet (numbers_of script) q false false n.clock (n.set s)
+  pub clients : ClientsKept script n
+
+-- What is to hold of every world of a run: the world invariant.
 
 -- what the letter says is not younger than the letter, and a tell is of a node of the script
 abbrev pub BodyKept : ScriptData → ℕ → Body → Type 0
@@ -102,3 +188,29 @@ pub record LinesKept (script : ScriptData) (lines : List Event) (w : World) : Ty
       → times_held (holdings script lines) (holding client s mode) ≡ count_of (state_at w s (home script client)).held client mode
   pub waits : (client s : ℕ) (mode : Mode) → client < length script.clients → s < length script.sets
       → (wanted client lines ≡ Some (holding client s mode)) ↔ WaitsFor script w client s mode
+
+-- Where the asks of a set stand, and whose they are.
+
+-- the ask was made by this node, no later than this clock
+abbrev pub IsMadeBy : ℕ → ℕ → Ask → Type 0
+IsMadeBy node clock ask = (ask.node ≡ node) × (ask.stamp.clock ≤ clock)
+
+-- each unanswered ask stands in one place; unanswered at a node are its own asks, with different stamps
+pub record AsksStand (script : ScriptData) (w : World) (s : ℕ) : Type 0 where
+  pub places : PlacesKept script w s
+  pub own : (x : ℕ) → x < script.nodes → All (IsMadeBy x (w.node x).clock) (state_at w s x).pending
+  pub apart : (x : ℕ) → x < script.nodes → AllPairs (λ (a b : Ask). a.stamp ≢ b.stamp) (state_at w s x).pending
+
+-- No node keeps an epoch or a freeze number, and no letter says an epoch, a freeze number or a tell, that is younger than its
+-- clock.
+
+-- neither an epoch nor a freeze number that is kept for a set is above the clock
+pub record StateTimed (clock : ℕ) (s : SetState) : Type 0 where
+  pub epoch : s.firm.epoch ≤ clock
+  pub number : s.number ≤ clock
+  pub desk : IfSome s.desk (λ (desk : Desk). (desk.epoch ≤ clock) × (desk.number ≤ clock))
+
+-- at no node, and in no letter of the set
+pub record Timed (script : ScriptData) (w : World) (s : ℕ) : Type 0 where
+  pub states : (x : ℕ) → x < script.nodes → StateTimed (w.node x).clock (state_at w s x)
+  pub letters : (p q : ℕ) (letter : Letter) → p < script.nodes → OnWay w s p q letter → LetterKept script w p letter

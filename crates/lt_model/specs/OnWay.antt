@@ -1,19 +1,47 @@
--- Where the desk of a set is, and which letters are on their way.
-use Rattle.std.specs.Prelude.{◌≡◌, ◌⊎◌, ◌==◌, ◌<◌, ℕ, List, ◌++◌, Option, Some, None, if◌then◌else◌, Contains}
-use Rattle.std.specs.List.{filter_map}
+-- Moments at which a set is looked at.
+use Rattle.std.specs.Prelude.{Bool, false, ◌==◌, ℕ, Option, Some, None, ◌≡◌, ◌⊎◌, ◌<◌, List, ◌++◌, if◌then◌else◌, Contains, ◌↔◌, filter_map}
 use Rattle.lt_modes.specs.declared.ask.Ask.{Ask}
 use Rattle.lt_modes.specs.Modes.{Modes}
 use Rattle.lt_modes.specs.Script.{ScriptData}
-use Rattle.lt_modes.specs.State.{Desk, Tell, Body, AskBody, TellBody, CopyBody, TokenBody, FreezeBody, Letter, Parked, ParkedAsk, ParkedTell}
-use Rattle.lt_modes.specs.Records.{entry_of, record_of}
+use Rattle.lt_modes.specs.State.{Desk, Tell, Body, AskBody, TellBody, CopyBody, TokenBody, FreezeBody, Letter, Parked, ParkedAsk, ParkedTell, entry_of, record_of}
 use Rattle.lt_modes.specs.Freezing.{frozen_by}
 use Rattle.lt_lists.specs.Below.{gather_below}
-use Rattle.lt_model.specs.Moments.{Moment, is_at, is_moving, is_serving}
+use Rattle.lt_spec.specs.World.{World}
+use Rattle.lt_spec.specs.Facts.{state_at, Comes}
 use Rattle.lt_law_accounts.specs.Account.{Account}
 use Rattle.lt_law_accounts.specs.News.{News, Notice}
-use Rattle.lt_spec.specs.World.{World}
-use Rattle.lt_spec.specs.Facts.{state_at}
-use Rattle.lt_spec.specs.Desks.{Comes}
+
+-- between moves; or in the middle of a move of a node on the set, after its clock was set: before it has frozen, or, where
+-- the desk is there, after it has frozen and before the desk leaves
+pub data Moment : Type 0 where
+  Between : Moment
+  Acting : ℕ → Moment
+  Frozen : ℕ → Moment
+
+-- the desk is at node x
+abbrev pub is_at : Option ℕ → ℕ → Bool
+is_at None x = false
+is_at (Some t) x = x == t
+
+-- node x is in the middle of a move
+abbrev pub is_moving : Moment → ℕ → Bool
+is_moving Between x = false
+is_moving (Acting q) x = x == q
+is_moving (Frozen q) x = x == q
+
+-- and it hasn't frozen yet
+abbrev pub is_unfrozen : Moment → ℕ → Bool
+is_unfrozen Between x = false
+is_unfrozen (Acting q) x = x == q
+is_unfrozen (Frozen q) x = false
+
+-- the desk, at this place, is at the node that is in its move and hasn't frozen yet
+abbrev pub is_serving : Moment → Option ℕ → Bool
+is_serving Between place = false
+is_serving (Acting q) place = is_at place q
+is_serving (Frozen q) place = false
+
+-- Where the desk of a set is, and which letters are on their way.
 
 -- the tell is parked at q or on its way to q
 abbrev pub IsTellAt : ScriptData → World → ℕ → ℕ → Tell → Type 0
@@ -106,3 +134,16 @@ news_of script moment w s place desk x = record {
   here = is_at place x;
   serving = is_serving moment place;
 }
+
+-- What is gathered for a node is what is on its way, as statements.
+
+-- the tells of a node are in letters on their way between nodes of the script, or parked at one
+abbrev pub TellsAreOnWay : Type 0
+TellsAreOnWay = (script : ScriptData) (w : World) (s x : ℕ) (tell : Tell) → Contains (tells_of script w s x) tell ↔ IsTellOf script w s x tell
+
+abbrev pub CopiesAreOnWay : Type 0
+CopiesAreOnWay = (script : ScriptData) (w : World) (s x : ℕ) (ask : Ask) → Contains (copies_to script w s x) ask ↔ IsCopyTo script w s x ask
+
+abbrev pub FreezesAreOnWay : Type 0
+FreezesAreOnWay = (script : ScriptData) (w : World) (s x : ℕ) (notice : Notice)
+    → Contains (freezes_to script w s x) notice ↔ Comes script w s x (FreezeBody notice.number notice.modes)

@@ -4,19 +4,14 @@ use Rattle.std.specs.List.{AllByRecursion}
 use Rattle.lt_modes.specs.declared.mode.Mode.{Mode}
 use Rattle.lt_modes.specs.declared.stamp.Stamp.{Stamp}
 use Rattle.lt_modes.specs.declared.parts.Link.{Link}
-use Rattle.lt_modes.specs.State.{SetState, Desk, Letter, Parked}
-use Rattle.lt_modes.specs.Made.{Made, Post}
-use Rattle.lt_modes.specs.Serving.{serve}
+use Rattle.lt_modes.specs.State.{SetState, Desk, Letter, Parked, Made, Post}
+use Rattle.lt_modes.specs.Serving.{serve, hand_over}
 use Rattle.lt_modes.specs.Freezing.{freeze}
-use Rattle.lt_modes.specs.HandingOver.{hand_over}
-use Rattle.lt_modes.specs.Routing.{learn, route}
-use Rattle.lt_modes.specs.Telling.{tell, finish}
-use Rattle.lt_modes.specs.Taking.{take_token}
-use Rattle.lt_modes.specs.SetMove.{lock, try, unlock, change, drop, take}
+use Rattle.lt_modes.specs.SetMove.{learn, route, tell, finish, take_token, lock, try, unlock, change, drop, take}
 use Rattle.lt_spec.specs.World.{token_to}
 use Rattle.lt_spec.specs.Facts.{tokens_in}
 use Rattle.lt_lists.specs.Below.{one_if}
-use Rattle.lt_model.specs.Paths.{IsTrueLink, IsParkedNamed, DeskOnPath, StateOnPath, LetterOnPath}
+use Rattle.lt_model.specs.Invariant.{IsTrueLink, IsParkedNamed, DeskOnPath, StateOnPath, LetterOnPath}
 
 -- there are nodes, and the token went to nodes
 pub record Ground (nodes : ℕ) (went : List ℕ) : Type 0 where

@@ -1,7 +1,6 @@
-ghost use Rattle.lt_model.specs.MomentLaws.{MoveBegins, AsideStays, MovesInSteps, MovesAreParts};
+ghost use Rattle.lt_model.specs.Laws.{MoveBegins, AsideStays, MovesInSteps, MovesAreParts, StartKept, StartLines, PathsKept, PathsInRuns, DeskSomewhere, TokenComes, OneToken, OthersStay, ClockMoves, OtherClocksStay, StampsKept, ClocksInRuns, TimedKept, TimedInRuns, StandingKept, StandingInRuns, StandsOnce, OnePlace, ServedKept, ServedInRuns, TryIsExact, TriesAreExact, TriesInRuns};
 ghost use Rattle.lt_model.specs.PathEffects.{EffectsOnPath};
-ghost use Rattle.lt_model.specs.HomeLaws.{HomesKept, HomesInRuns, HomesSound, StampsApart, LinesInRuns, FewAdded};
-ghost use Rattle.lt_model.specs.Laws.{StartKept, StartLines, PathsKept, PathsInRuns, DeskSomewhere, TokenComes, OneToken, OthersStay, ClockMoves, OtherClocksStay, StampsKept, ClocksInRuns, TimedKept, TimedInRuns, StandingKept, StandingInRuns, StandsOnce, OnePlace, ServedKept, ServedInRuns, TryIsExact, TriesAreExact, TriesInRuns};
+ghost use Rattle.lt_model.specs.Homes.{HomesKept, HomesInRuns, HomesSound, StampsApart, LinesInRuns, FewAdded};
 
 /// The world invariant holds at the start of each script.
 pub fn law_start()

@@ -1,6 +1,6 @@
 ghost use Rattle.lt_model.specs.AccountRules.{GrantsByRule, FrozenIsNotGranted, CommandsAreSteps, ServesByRule, ServicesAreSteps, CopiesAreDelivered, TellsAreApplied, TellsAreMade, HandingOverSettles, TokensArrive, FreezesAreSteps, OthersChangeNothing, RulesCount};
 ghost use Rattle.lt_model.specs.NewsRules.{FreezingIsSteps, FreezesAreTaken, DesksComeAndGo};
-ghost use Rattle.lt_model.specs.OnWayLaws.{TellsAreOnWay, CopiesAreOnWay, FreezesAreOnWay};
+ghost use Rattle.lt_model.specs.OnWay.{TellsAreOnWay, CopiesAreOnWay, FreezesAreOnWay};
 
 /// Rules of a node are steps of accounts: what a rule tests of modes is what its step asks of them, and what it changes is
 /// the step. What a rule sends is not read: tells and copies on their way are arguments.

@@ -1,8 +1,6 @@
-pub mod EachMode
 pub mod ModeAlgebra
 mod MaskLemmas
 pub mod ServingLemmas
 mod FiveModesKept
 mod PlaceLemmas
-pub mod SetLemmas
 pub mod StampOrder

@@ -1,12 +1,9 @@
 -- What `|` and `&` do on masks below 64, as tables that the check computes.
-use Rattle.std.proofs.Common.{◌≡◌, ℕ, ◌<◌, Bool, true, false, refl, bit_or, bit_and}
-use Rattle.std.specs.Prelude.{◌==◌, not, nat_lt}
-use Rattle.std.proofs.lemmas.Bool.{ltb-true}
+use Rattle.std.proofs.Common.{◌≡◌, ℕ, ◌<◌, Bool, true, false, refl, bit_or, bit_and, ◌==◌, not, nat_lt, ltb-true}
 use Rattle.lt_modes.specs.declared.mode.Mode.{Mode}
 use Rattle.lt_modes.specs.declared.mode.Mode.TheVariants.{IntentionRead, Read, Upgrade, IntentionWrite, ReadIntentionWrite, Write}
 use Rattle.lt_modes.specs.Modes.{same_modes, has, union, is_within}
-use Rattle.lt_modes.specs.FiveModes.{five_of}
-use Rattle.lt_modes.specs.Masks.{bit_of, modes_of_mask, all_below, all_below_at}
+use Rattle.lt_modes.specs.FiveModes.{five_of, bit_of, modes_of_mask, all_below, all_below_at}
 use Rattle.lt_modes.proofs.ModeAlgebra.{same_modes-true}
 
 all_pairs_at : (test : ℕ → ℕ → Bool) (i j : ℕ) → all_below 64 (λ a. all_below 64 (test a)) ≡ true → i < 64 → j < 64 → test i j ≡ true

@@ -1,13 +1,10 @@
 -- Numbers by mode, which are written one after the other.
-use Rattle.std.proofs.Common.{◌≡◌, ◌∙◌, ℕ, ◌+◌, ◌<◌, ◌≤◌, inl, inr, List, length, get_or, set, refl, sym, ap, subst, arith, length-set, get_or-set_same, get_or-set_other}
-use Rattle.std.specs.Prelude.{◌==◌, fold}
-use Rattle.std.proofs.lemmas.Bool.{eqb-true}
+use Rattle.std.proofs.Common.{◌≡◌, ◌∙◌, ℕ, ◌+◌, ◌<◌, ◌≤◌, inl, inr, List, length, get_or, set, refl, sym, ap, subst, arith, length-set, get_or-set_same, get_or-set_other, ◌==◌, fold, eqb-true}
 use Rattle.std.proofs.lemmas.Bool.Decides.{eqb_tells}
 use Rattle.lt_modes.specs.declared.mode.Mode.{Mode}
 use Rattle.lt_modes.specs.declared.mode.TheConstants.{MODES}
 use Rattle.lt_modes.specs.Modes.{Modes, no_modes}
-use Rattle.lt_modes.specs.Masks.{all_below, all_below_at}
-use Rattle.lt_modes.specs.Counts.{place_of_mode, mode_count, IsShifted, modes_beyond, with_beyond}
+use Rattle.lt_modes.specs.FiveModes.{all_below, all_below_at, place_of_mode, mode_count, IsShifted, modes_beyond, with_beyond}
 
 -- of the new numbers those of the first modes are written
 pub record Placed (old : List ℕ) (from to : Modes) (first : ℕ) (new : List ℕ) : Type 0 where

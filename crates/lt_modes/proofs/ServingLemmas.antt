@@ -1,11 +1,9 @@
 -- One service and then the rest is all services: the count of steps is seen nowhere else.
-use Rattle.std.proofs.Common.{◌≡◌, ℕ, zero, suc, ◌<◌, List, length, Option, Some, None, Bool, true, false, refl, sym, subst, arith}
-use Rattle.std.specs.Prelude.{remove, ◌==◌, if◌then◌else◌}
+use Rattle.std.proofs.Common.{◌≡◌, ℕ, zero, suc, ◌<◌, List, length, Option, Some, None, Bool, true, false, refl, sym, subst, arith, remove, ◌==◌, if◌then◌else◌}
 use Rattle.std.proofs.lemmas.List.Edits.{length-remove}
 use Rattle.lt_modes.specs.declared.stamp.Stamp.{Stamp}
 use Rattle.lt_modes.specs.declared.ask.Ask.{Ask}
-use Rattle.lt_modes.specs.State.{SetState, Desk}
-use Rattle.lt_modes.specs.Made.{silent}
+use Rattle.lt_modes.specs.State.{SetState, Desk, silent}
 use Rattle.lt_modes.specs.Serving.{queue_of, queue_of_desk, put_queue, owed_at, ask_at, next_service, serve_local, serve_copy, serve_one, serve, serve_step, serve_up_to}
 
 queue-put : (queue : List Ask) (desk : Option Desk) (k : ℕ) → k < length (queue_of_desk desk) → queue_of_desk (put_queue queue desk) ≡ queue

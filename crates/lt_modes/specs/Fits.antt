@@ -3,8 +3,7 @@ use Rattle.std.specs.Prelude.{Bool, true, ◌&&◌, ◌||◌, ◌==◌, ◌+◌,
 use Rattle.std.specs.List.{list_any, list_all}
 use Rattle.lt_modes.specs.declared.ask.Ask.{Ask}
 use Rattle.lt_modes.specs.Script.{ScriptData, ClientData}
-use Rattle.lt_modes.specs.State.{SetState, Desk, Tell, Body, AskBody, TellBody, CopyBody, TokenBody, FreezeBody, Letter, Parked, ParkedAsk, ParkedTell}
-use Rattle.lt_modes.specs.Queue.{same_ask}
+use Rattle.lt_modes.specs.State.{SetState, Desk, Tell, Body, AskBody, TellBody, CopyBody, TokenBody, FreezeBody, Letter, Parked, ParkedAsk, ParkedTell, same_ask}
 use Rattle.lt_modes.specs.Serving.{queue_of}
 
 -- the numbers of a script: its nodes, its sets, and the node of each client

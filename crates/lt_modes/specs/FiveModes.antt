@@ -1,8 +1,41 @@
--- The five modes without `read_intention_write`, which are those of version 1 of a script: what the sixth one leaves as it is.
-use Rattle.std.specs.Prelude.{◌≡◌, ◌==◌, ℕ, Bool, true, false, ◌||◌, ◌&&◌, not, IsTrue, if◌then◌else◌}
+-- For each mode a number.
+use Rattle.std.specs.Prelude.{ℕ, ◌≡◌, ◌+◌, ◌<◌, ◌≤◌, ◌^◌, Bool, List, slice_index_or, position, unwrap_or, if◌then◌else◌, nat_lt, ◌==◌, true, false, ◌||◌, ◌&&◌, not, IsTrue, zero, suc, ◌/◌, ◌%◌, refl}
+use Rattle.std.proofs.Common.{arith, inl, inr, subst}
+use Rattle.std.proofs.lemmas.Bool.{and_parts, cases_lt, eqb-true}
 use Rattle.lt_modes.specs.declared.mode.Mode.{Mode}
+use Rattle.lt_modes.specs.Modes.{Modes, has, modes_by, with_mode, same_mode, modes_in_order, conflicts, excludes_itself, any_mode, one, bars, is_within, covers, has_none, same_modes}
 use Rattle.lt_modes.specs.declared.mode.Mode.TheVariants.{IntentionRead, Read, Upgrade, IntentionWrite, ReadIntentionWrite, Write}
-use Rattle.lt_modes.specs.Modes.{Modes, conflicts, excludes_itself, same_mode, has, modes_by, any_mode, one, bars, is_within, covers, has_none, same_modes}
+
+-- the mode's place among all modes
+abbrev pub place_of_mode : Mode → ℕ
+place_of_mode mode = unwrap_or (position (same_mode mode) modes_in_order) 0
+
+-- the mode's number
+abbrev pub mode_count : Mode → List ℕ → ℕ
+mode_count mode counts = slice_index_or counts (place_of_mode mode) 0
+
+abbrev pub count_if : Bool → ℕ
+count_if here = if here then 1 else 0
+
+-- the numbers stay numbers where one set of the first modes gets the second ones
+pub record CanShift (counts : List ℕ) (from to : Modes) (mode : Mode) : Type 0 where
+  pub there : count_if (has mode from) ≤ mode_count mode counts
+  pub within : mode_count mode counts + count_if (has mode to) < 2 ^ 32 + count_if (has mode from)
+
+-- the mode's number once it did
+abbrev pub IsShifted : List ℕ → Modes → Modes → Mode → ℕ → Type 0
+IsShifted counts from to mode count = count + count_if (has mode from) ≡ mode_count mode counts + count_if (has mode to)
+
+-- the modes that more sets have than these two make up
+abbrev pub modes_beyond : List ℕ → Modes → Modes → Modes
+modes_beyond counts a b = modes_by (λ mode. nat_lt (count_if (has mode a) + count_if (has mode b)) (mode_count mode counts))
+
+-- the set, and the mode where more sets have it than these two make up
+abbrev pub with_beyond : List ℕ → Modes → Mode → Modes → Modes → Modes
+with_beyond counts all mode a b =
+    if nat_lt (count_if (has mode a) + count_if (has mode b)) (mode_count mode counts) then with_mode all mode else all
+
+-- The five modes without `read_intention_write`, which are those of version 1 of a script: what the sixth one leaves as it is.
 
 -- the conflict table of the five modes, as it stands where there is no sixth
 abbrev pub conflicts_of_five : Mode → Mode → Bool
@@ -82,3 +115,44 @@ SameBarsAsBefore = (s t : Modes) → IsTrue (has_five_alone s) → IsTrue (has_f
 -- a set of the five bars nothing just where it does by the table of five
 abbrev pub NoneBarredAsBefore : Type 0
 NoneBarredAsBefore = (s : Modes) → IsTrue (has_five_alone s) → has_none (bars s) ≡ has_none (bars_of_five s)
+
+-- Sets of modes as bit masks below 64: how they are stored.
+
+abbrev pub bit_of : Mode → ℕ
+bit_of IntentionRead = 1
+bit_of Read = 2
+bit_of Upgrade = 4
+bit_of IntentionWrite = 8
+bit_of ReadIntentionWrite = 16
+bit_of Write = 32
+
+-- the set that a mask stands for
+abbrev pub modes_of_mask : ℕ → Modes
+modes_of_mask mask = modes_by (λ m. (mask / bit_of m) % 2 == 1)
+
+abbrev pub bit_if : Bool → ℕ → ℕ
+bit_if held bit = if held then bit else 0
+
+-- the mask of a set
+abbrev pub mask_of : Modes → ℕ
+mask_of s = bit_if s.intention_read 1 + bit_if s.read 2 + bit_if s.upgrade 4 + bit_if s.intention_write 8 + bit_if s.read_intention_write 16 + bit_if s.write 32
+
+-- the test passes at each number below n
+unfoldable pub all_below : ℕ → (ℕ → Bool) → Bool
+all_below zero test = true
+all_below (suc n) test = test n && all_below n test
+
+pub all_below_at : (n : ℕ) (test : ℕ → Bool) (k : ℕ) → all_below n test ≡ true → k < n → test k ≡ true
+unfolding all_below
+all_below_at zero test k e h = absurd (omega arith)
+all_below_at (suc n) test k e h =
+    elim (cases_lt k n) [
+      | inl below ↦ all_below_at n test k (and_parts (test n) (all_below n test) e).1 below
+      | inr above ↦ subst (λ (i : ℕ). test i ≡ true) (omega arith) (and_parts (test n) (all_below n test) e).0
+    ]
+
+-- a mask below 64 is the mask of its set
+pub mask_of_modes_of : (mask : ℕ) → mask < 64 → mask_of (modes_of_mask mask) ≡ mask
+unfolding all_below
+mask_of_modes_of mask h =
+    eqb-true _ _ (all_below_at 64 (λ i. mask_of (modes_of_mask i) == i) mask refl h)

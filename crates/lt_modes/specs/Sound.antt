@@ -4,10 +4,9 @@ use Rattle.lt_modes.specs.declared.mode.Mode.{Mode}
 use Rattle.lt_modes.specs.declared.ask.Ask.{Ask}
 use Rattle.lt_modes.specs.declared.parts.Row.{Row}
 use Rattle.lt_modes.specs.declared.parts.Hoped.{Hoped}
-use Rattle.lt_modes.specs.Modes.{Modes, conflicts, bars}
+use Rattle.lt_modes.specs.Modes.{Modes, conflicts, bars, count_of, held_modes}
 use Rattle.lt_modes.specs.ModeLaws.{IsBelowBy}
 use Rattle.lt_modes.specs.State.{SetState, Desk, Parked, ParkedAsk, ParkedTell}
-use Rattle.lt_modes.specs.Held.{count_of, held_modes}
 use Rattle.lt_modes.specs.Fits.{Numbers, is_at_home, is_known, are_apart, asks_here}
 
 -- no later than the clock; in the middle of a move, which has set the clock, before it

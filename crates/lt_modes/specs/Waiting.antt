@@ -1,12 +1,11 @@
 -- Which asks of a set stand before a client's ask here.
-use Rattle.std.specs.Prelude.{Bool, false, ◌&&◌, ◌||◌, ◌==◌, ℕ, List, [], ◌∷◌, Option}
-use Rattle.std.specs.List.{list_any, find}
+use Rattle.std.specs.Prelude.{Bool, false, ◌&&◌, ◌||◌, ◌==◌, ℕ, List, [], ◌∷◌, Option, find}
+use Rattle.std.specs.List.{list_any}
 use Rattle.lt_modes.specs.declared.ask.Ask.{Ask}
 use Rattle.lt_modes.specs.Modes.{excludes_itself}
 use Rattle.lt_modes.specs.State.{SetState}
 use Rattle.lt_modes.specs.Fits.{parked_asks, has_client}
-use Rattle.lt_modes.specs.Serving.{queue_of}
-use Rattle.lt_modes.specs.Tells.{is_newer}
+use Rattle.lt_modes.specs.Serving.{queue_of, is_newer}
 
 -- the client's first unanswered ask here, where it has one
 abbrev pub pending_ask : SetState → ℕ → Option Ask

@@ -1,7 +1,7 @@
 ghost use Rattle.std.specs.Prelude.{◌≡◌, ◌<◌};
 ghost use Rattle.lt_modes.specs.declared.mode.Mode.{Mode as AnyMode};
 ghost use Rattle.lt_modes.specs.Modes.{has};
-ghost use Rattle.lt_modes.specs.Counts.{place_of_mode, mode_count, CanShift, IsShifted, modes_beyond, with_beyond};
+ghost use Rattle.lt_modes.specs.FiveModes.{place_of_mode, mode_count, CanShift, IsShifted, modes_beyond, with_beyond};
 
 use crate::mode::{MODES, Mode};
 use crate::mode_set::ModeSet;

@@ -1,7 +1,6 @@
 ghost use Rattle.std.specs.Prelude.{◌≡◌};
 ghost use Rattle.lt_modes.specs.Modes.{Modes, no_modes, one, with_mode, union, has, bars, covers, has_none, is_within, same_modes};
-ghost use Rattle.lt_modes.specs.FiveModes.{five_of};
-ghost use Rattle.lt_modes.specs.Masks.{bit_of};
+ghost use Rattle.lt_modes.specs.FiveModes.{five_of, bit_of};
 
 use crate::mode::Mode;
 use std::marker::Model;
@@ -19,7 +18,7 @@ impl Model for ModeSet {
 
     ghost Value = { Modes };
 
-    ghost use Rattle.lt_modes.specs.Masks.{modes_of_mask, mask_of, mask_of_modes_of};
+    ghost use Rattle.lt_modes.specs.FiveModes.{modes_of_mask, mask_of, mask_of_modes_of};
     ghost use Rattle.std.specs.Prelude.{◌≡◌};
     ghost use Rattle.std.proofs.Common.{ap};
 

@@ -1,7 +1,6 @@
 -- Sets that the end of a transaction changes, and sets that it leaves as they are.
-use Rattle.std.proofs.Common.{◌≡◌, ℕ, suc, ◌+◌, ◌<◌, ◌≤◌, List, [], ◌∷◌, ◌++◌, length, Bool, true, false, not, refl, sym, ap, subst, arith, ◌∙◌, Option, Some, None, take, drop, map, append_assoc}
-use Rattle.std.specs.Prelude.{if◌then◌else◌, slice_index_or, slice_set, position, filter, All}
-use Rattle.std.proofs.lemmas.List.{drop_more, take_more_set, drop-set-lt}
+use Rattle.std.proofs.Common.{◌≡◌, ℕ, suc, ◌+◌, ◌<◌, ◌≤◌, List, [], ◌∷◌, ◌++◌, length, Bool, true, false, not, refl, sym, ap, subst, arith, ◌∙◌, Option, Some, None, take, drop, map, append_assoc, if◌then◌else◌, slice_index_or, slice_set, position, filter, All, drop-set-lt}
+use Rattle.std.proofs.lemmas.List.{drop_more, take_more_set}
 use Rattle.std.proofs.lemmas.List.Elements.{All-weaker}
 use Rattle.lt_lists.proofs.Sums.{none_found}
 use Rattle.lt_nest.specs.declared.forest.Transaction.{Transaction}
@@ -11,18 +10,14 @@ use Rattle.lt_nest.specs.declared.change.Change.{Change}
 use Rattle.lt_nest.specs.declared.change.Change.TheVariants.{Inherit, KeepOpen}
 use Rattle.lt_nest.specs.declared.answers.Ended.TheVariants.{Done}
 use Rattle.lt_nest.specs.Forest.{parent_of, is_open_transaction, is_own, end_one, end_under}
-use Rattle.lt_nest.specs.Locks.{LockSet, is_held_by, nth_ask, inherit, of_open}
-use Rattle.lt_nest.specs.Serving.{first_free, serve_set, grant_in, serve_from}
+use Rattle.lt_nest.specs.Locks.{LockSet, is_held_by, nth_ask, inherit, of_open, first_free, serve_set, grant_in, serve_from}
 use Rattle.lt_nest.specs.Calls.{NestState, commit_answer}
-use Rattle.lt_nest.specs.Kept.{LockSetKept, NoneFree, Kept}
-use Rattle.lt_nest.specs.Counts.{load}
-use Rattle.lt_nest.specs.Changes.{after_change}
+use Rattle.lt_nest.specs.Kept.{LockSetKept, NoneFree, Kept, load, after_change}
 use Rattle.lt_nest.proofs.Ancestors.{open_within}
-use Rattle.lt_nest.proofs.BegunTransactions.{free_same}
+use Rattle.lt_nest.proofs.AddedLocks.{free_same}
 use Rattle.lt_nest.proofs.EndedTransactions.{parent_ended, own_everywhere, parent_under, transactions_aborted}
 use Rattle.lt_nest.proofs.NestStays.{locks_filtered, length_filtered, locks_inherited, committed_open}
-use Rattle.lt_nest.proofs.ServedSets.{first_is_free, serve_none}
-use Rattle.lt_nest.proofs.ServedCounts.{pass_none}
+use Rattle.lt_nest.proofs.ServedSets.{first_is_free, serve_none, pass_none}
 
 -- a set without a free ask needs no serving
 none_first : (ts : List Transaction) (s : LockSet) → NoneFree ts s → first_free ts s ≡ None

@@ -1,19 +1,15 @@
 -- Who waits no more after serving, and who waits as before.
-use Rattle.std.proofs.Common.{◌≡◌, ◌≢◌, ℕ, zero, suc, ◌+◌, ◌<◌, ◌≤◌, List, [], ◌∷◌, ◌++◌, length, Bool, true, false, refl, sym, ap, subst, arith, ◌∙◌, inl, inr, Option, Some, None, map}
-use Rattle.std.specs.Prelude.{◌==◌, if◌then◌else◌, count_by}
-use Rattle.std.proofs.lemmas.Bool.{cases_eq, ne_eqb, eq-eqb}
-use Rattle.std.proofs.lemmas.List.{length-set, get_or-set_same, get_or-set_other}
+use Rattle.std.proofs.Common.{◌≡◌, ◌≢◌, ℕ, zero, suc, ◌+◌, ◌<◌, ◌≤◌, List, [], ◌∷◌, ◌++◌, length, Bool, true, false, refl, sym, ap, subst, arith, ◌∙◌, inl, inr, Option, Some, None, map, ◌==◌, if◌then◌else◌, count_by, ne_eqb, eq-eqb, length-set, get_or-set_same, get_or-set_other}
+use Rattle.std.proofs.lemmas.Bool.{cases_eq}
 use Rattle.std.proofs.lemmas.List.Edits.{length-remove}
 use Rattle.std.proofs.lemmas.List.Sums.{sum_by-cons, sum_by-append, sum_by-remove}
 use Rattle.lt_modes.specs.declared.mode.Mode.{Mode}
 use Rattle.lt_nest.specs.declared.forest.Transaction.{Transaction}
 use Rattle.lt_nest.specs.declared.locks.Ask.{Ask}
 use Rattle.lt_nest.specs.declared.tally.Tally.{Tally}
-use Rattle.lt_nest.specs.Locks.{LockSet, missing_ask, nth_ask, is_asked_by}
-use Rattle.lt_nest.specs.Serving.{Grant, first_free, with_grant, Served, serve_set, grant_in, serve_from}
+use Rattle.lt_nest.specs.Locks.{LockSet, missing_ask, nth_ask, is_asked_by, Grant, first_free, with_grant, Served, serve_set, grant_in, serve_from}
 use Rattle.lt_nest.specs.Calls.{asked_in, wish_or, waiting_from}
-use Rattle.lt_nest.specs.Kept.{waiting_asks_of}
-use Rattle.lt_nest.specs.Tallies.{empty_tally, nth_tally, with_wish, tallies_granted}
+use Rattle.lt_nest.specs.Kept.{waiting_asks_of, empty_tally, nth_tally, with_wish, tallies_granted}
 use Rattle.lt_nest.proofs.ServedSets.{first_is_free, serve_more, serve_none}
 use Rattle.lt_nest.proofs.Wishes.{asked_without, waiting_none}
 

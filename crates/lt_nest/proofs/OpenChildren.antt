@@ -1,21 +1,44 @@
--- How many open children transactions have, as others begin and end.
-use Rattle.std.proofs.Common.{◌≡◌, ◌≢◌, ℕ, suc, ◌+◌, ◌<◌, ◌≤◌, inl, inr, List, [], ◌∷◌, length, Bool, true, false, not, refl, sym, ap, subst, arith, ◌∙◌, Option, Some, None}
-use Rattle.std.specs.Prelude.{nat_lt, if◌then◌else◌, slice_index_or, count_by}
+-- The first one that conflicts, among those that may stand against a mode.
+use Rattle.std.proofs.Common.{◌≡◌, ℕ, List, Bool, true, false, not, refl, sym, ap, ◌∙◌, Some, None, slice_index_or, true≢false, ◌≢◌, suc, ◌+◌, ◌<◌, ◌≤◌, inl, inr, [], ◌∷◌, length, subst, arith, Option, ◌-◌, ◌&&◌, position, nat_lt, if◌then◌else◌, count_by, ◌==◌, eqb-true, lt-ltb, eq-eqb, ne_eqb, length-set, get_or-set_other, get_or-set_same}
 use Rattle.std.specs.List.{list_any}
-use Rattle.std.proofs.lemmas.Bool.{cases_eq, eqb-true, false_from_ne_true, lt-ltb}
-use Rattle.std.proofs.lemmas.List.{length-set, get_or-set_other, get_or-set_same, get_or_default, same_lists}
+use Rattle.std.proofs.lemmas.Bool.{and_parts, false_from_ne_true, cases_eq}
 use Rattle.std.proofs.lemmas.List.Elements.{Contains-get_or}
+use Rattle.std.proofs.lemmas.List.Quantifiers.{position-Some}
+use Rattle.std.proofs.lemmas.List.{get_or_default, same_lists}
 use Rattle.std.proofs.lemmas.List.Sums.{sum_by-cons, sum_by_push, sum_by-set}
 use Rattle.lt_lists.proofs.Members.{list_any-at, list_any-which}
-use Rattle.lt_lists.proofs.Sums.{sum_by-zero, counted_some}
+use Rattle.lt_lists.proofs.Sums.{none_found, sum_by-zero, counted_some}
 use Rattle.lt_nest.specs.declared.forest.Transaction.{Transaction}
 use Rattle.lt_nest.specs.Forest.{missing_transaction, transaction_at, parent_of, is_open_transaction, is_own, with_begun, same_parent, is_open_child, end_one, end_if, end_under, IsOver}
 use Rattle.lt_nest.specs.Forest.IsOver.{itself, above}
-use Rattle.lt_nest.specs.Kept.{IsForest, TransactionsKept}
-use Rattle.lt_nest.specs.Tallies.{open_children}
+use Rattle.lt_nest.specs.Kept.{IsForest, TransactionsKept, open_children, empty_tally, nth_tally, with_child, without_child}
 use Rattle.lt_nest.proofs.Ancestors.{open_within, own_over, over_own, own_itself, open_child}
 use Rattle.lt_nest.proofs.EndedTransactions.{at_under}
 use Rattle.lt_nest.proofs.NestStays.{length_end_under}
+use Rattle.lt_nest.specs.declared.tally.Tally.{Tally}
+
+both : (a b : Bool) → a ≡ true → b ≡ false → (a && not b) ≡ true
+both true false first second = refl
+both true true first second = absurd (cc second)
+both false b first second = absurd (cc first)
+
+-- where the first one isn't own, one bars
+pub first_bars : {X : Type 0} (conflicts own : X → Bool) (xs : List X) (k : ℕ) (d : X) → position conflicts xs ≡ Some k → own (slice_index_or xs k d) ≡ false
+    → list_any (λ x. conflicts x && not (own x)) xs ≡ true
+first_bars conflicts own xs k d e other =
+    let there = position-Some conflicts xs k d e in
+    list_any-at (λ x. conflicts x && not (own x)) xs (slice_index_or xs k d) (Contains-get_or xs k d there.0) (both _ _ there.1 other)
+
+-- where none conflicts, none bars
+pub none_bars : {X : Type 0} (conflicts own : X → Bool) (xs : List X) → position conflicts xs ≡ None → list_any (λ x. conflicts x && not (own x)) xs ≡ false
+none_bars conflicts own xs e = false_from_ne_true (list_any (λ x. conflicts x && not (own x)) xs) (λ one.
+    let which = list_any-which (λ x. conflicts x && not (own x)) xs one in
+    let place = which.1 in
+    let yes : conflicts which.0 ≡ true = (and_parts (conflicts which.0) (not (own which.0)) which.2).0 in
+    let no : conflicts which.0 ≡ false = ap conflicts (sym place.2) ∙ none_found conflicts xs e place.0 which.0 place.1 in
+    true≢false (sym yes ∙ no))
+
+-- How many open children transactions have, as others begin and end.
 
 abbrev one_child : ℕ → Transaction → ℕ
 one_child y t = if is_open_child y t then 1 else 0
@@ -175,3 +198,65 @@ under_childless ts x kept opened childless =
           get_or-set_other ts x i ended missing_transaction another ∙ at_other i another (is_own ts x i) refl
           ∙ ap (λ (b : Bool). end_if b (transaction_at ts i)) refl ∙ sym (at_under ts x i)
     ]
+
+-- What is kept of each transaction once an open child of one is counted, or is counted no more.
+
+with_child_at : (tallies : List Tally) (p x : ℕ) → p ≢ x → nth_tally (with_child tallies (Some p)) x ≡ nth_tally tallies x
+with_child_at tallies p x other = get_or-set_other tallies p x (record (nth_tally tallies p) { children = (nth_tally tallies p).children + 1 }) empty_tally (λ same. other (sym same))
+
+with_child_itself : (tallies : List Tally) (p : ℕ) → p < length tallies → nth_tally (with_child tallies (Some p)) p ≡ record (nth_tally tallies p) { children = (nth_tally tallies p).children + 1 }
+with_child_itself tallies p within = get_or-set_same tallies p (record (nth_tally tallies p) { children = (nth_tally tallies p).children + 1 }) empty_tally within
+
+pub counted_more : (tallies : List Tally) (parent : Option ℕ) (x : ℕ) → x < length tallies → (nth_tally (with_child tallies parent) x).children ≡ (nth_tally tallies x).children + one_if_parent parent x
+counted_more tallies None x within = omega arith
+counted_more tallies (Some p) x within = elim (cases_eq p x) [
+  | inl same ↦
+      let one : ◌≡◌ {A = ℕ} (if p == x then 1 else 0) 1 = ap (λ (b : Bool). if b then 1 else 0) (eq-eqb p x same) in
+      let at : (nth_tally (with_child tallies (Some p)) x).children ≡ (nth_tally tallies x).children + 1 =
+      subst (λ (i : ℕ). (nth_tally (with_child tallies (Some i)) x).children ≡ (nth_tally tallies x).children + 1) (sym same) (ap (λ (t : Tally). t.children) (with_child_itself tallies x within)) in
+      omega (arith, one, at)
+  | inr other ↦
+      let none : ◌≡◌ {A = ℕ} (if p == x then 1 else 0) 0 = ap (λ (b : Bool). if b then 1 else 0) (ne_eqb p x other) in
+      omega (arith, none, ap (λ (t : Tally). t.children) (with_child_at tallies p x other))
+]
+
+pub wish_counted : (tallies : List Tally) (parent : Option ℕ) (x : ℕ) → x < length tallies → (nth_tally (with_child tallies parent) x).wish ≡ (nth_tally tallies x).wish
+wish_counted tallies None x within = refl
+wish_counted tallies (Some p) x within = elim (cases_eq p x) [
+  | inl same ↦ subst (λ (i : ℕ). (nth_tally (with_child tallies (Some i)) x).wish ≡ (nth_tally tallies x).wish) (sym same) (ap (λ (t : Tally). t.wish) (with_child_itself tallies x within))
+  | inr other ↦ ap (λ (t : Tally). t.wish) (with_child_at tallies p x other)
+]
+
+pub length_counted : (tallies : List Tally) (parent : Option ℕ) → length (with_child tallies parent) ≡ length tallies
+length_counted tallies None = refl
+length_counted tallies (Some p) = length-set tallies p (record (nth_tally tallies p) { children = (nth_tally tallies p).children + 1 })
+
+less_at : (tallies : List Tally) (p x : ℕ) → p ≢ x → nth_tally (without_child tallies (Some p)) x ≡ nth_tally tallies x
+less_at tallies p x other = get_or-set_other tallies p x (record (nth_tally tallies p) { children = (nth_tally tallies p).children - 1 }) empty_tally (λ same. other (sym same))
+
+less_itself : (tallies : List Tally) (p : ℕ) → p < length tallies → nth_tally (without_child tallies (Some p)) p ≡ record (nth_tally tallies p) { children = (nth_tally tallies p).children - 1 }
+less_itself tallies p within = get_or-set_same tallies p (record (nth_tally tallies p) { children = (nth_tally tallies p).children - 1 }) empty_tally within
+
+pub counted_less : (tallies : List Tally) (parent : Option ℕ) (x : ℕ) → x < length tallies → (nth_tally (without_child tallies parent) x).children ≡ (nth_tally tallies x).children - one_if_parent parent x
+counted_less tallies None x within = omega arith
+counted_less tallies (Some p) x within = elim (cases_eq p x) [
+  | inl same ↦
+      let one : ◌≡◌ {A = ℕ} (if p == x then 1 else 0) 1 = ap (λ (b : Bool). if b then 1 else 0) (eq-eqb p x same) in
+      let at : (nth_tally (without_child tallies (Some p)) x).children ≡ (nth_tally tallies x).children - 1 =
+      subst (λ (i : ℕ). (nth_tally (without_child tallies (Some i)) x).children ≡ (nth_tally tallies x).children - 1) (sym same) (ap (λ (t : Tally). t.children) (less_itself tallies x within)) in
+      omega (arith, one, at)
+  | inr other ↦
+      let none : ◌≡◌ {A = ℕ} (if p == x then 1 else 0) 0 = ap (λ (b : Bool). if b then 1 else 0) (ne_eqb p x other) in
+      omega (arith, none, ap (λ (t : Tally). t.children) (less_at tallies p x other))
+]
+
+pub wish_less : (tallies : List Tally) (parent : Option ℕ) (x : ℕ) → x < length tallies → (nth_tally (without_child tallies parent) x).wish ≡ (nth_tally tallies x).wish
+wish_less tallies None x within = refl
+wish_less tallies (Some p) x within = elim (cases_eq p x) [
+  | inl same ↦ subst (λ (i : ℕ). (nth_tally (without_child tallies (Some i)) x).wish ≡ (nth_tally tallies x).wish) (sym same) (ap (λ (t : Tally). t.wish) (less_itself tallies x within))
+  | inr other ↦ ap (λ (t : Tally). t.wish) (less_at tallies p x other)
+]
+
+pub length_less : (tallies : List Tally) (parent : Option ℕ) → length (without_child tallies parent) ≡ length tallies
+length_less tallies None = refl
+length_less tallies (Some p) = length-set tallies p (record (nth_tally tallies p) { children = (nth_tally tallies p).children - 1 })

@@ -1,7 +1,6 @@
 -- What is kept of each transaction stays so.
-use Rattle.std.proofs.Common.{◌≡◌, ℕ, ◌+◌, ◌<◌, ◌≤◌, inl, inr, List, [], ◌∷◌, ◌++◌, length, Bool, true, false, not, refl, sym, ap, subst, arith, ◌∙◌, Option, Some, None}
-use Rattle.std.specs.Prelude.{◌⊎◌, nat_lt, if◌then◌else◌, slice_index_or, slice_set, is_some}
-use Rattle.std.proofs.lemmas.Bool.{cases_eq, cases_lt, ne_eqb}
+use Rattle.std.proofs.Common.{◌≡◌, ℕ, ◌+◌, ◌<◌, ◌≤◌, inl, inr, List, [], ◌∷◌, ◌++◌, length, Bool, true, false, not, refl, sym, ap, subst, arith, ◌∙◌, Option, Some, None, ◌⊎◌, nat_lt, if◌then◌else◌, slice_index_or, slice_set, is_some, ne_eqb}
+use Rattle.std.proofs.lemmas.Bool.{cases_eq, cases_lt}
 use Rattle.std.proofs.lemmas.List.{length_push, get_or_append_left, get_or_push, get_or_past}
 use Rattle.std.proofs.lemmas.List.Sums.{count_by-le-length}
 use Rattle.lt_modes.specs.declared.mode.Mode.{Mode}
@@ -10,18 +9,14 @@ use Rattle.lt_nest.specs.declared.tally.Tally.{Tally}
 use Rattle.lt_nest.specs.declared.answers.Asked.{Asked}
 use Rattle.lt_nest.specs.declared.answers.Asked.TheVariants.{Granted, Waits, False}
 use Rattle.lt_nest.specs.Forest.{missing_transaction, is_open_transaction, with_begun, is_open_child}
-use Rattle.lt_nest.specs.Locks.{LockSet, no_set, is_free_for}
-use Rattle.lt_nest.specs.Serving.{with_lock}
+use Rattle.lt_nest.specs.Locks.{LockSet, no_set, is_free_for, with_lock}
 use Rattle.lt_nest.specs.Calls.{NestState, new_nest, has_parent, after_begin, has_open_child, waiting, waiting_from, ask_answer_from, ask_answer, queued, after_asked}
-use Rattle.lt_nest.specs.Kept.{Kept}
-use Rattle.lt_nest.specs.Counts.{IsNest}
-use Rattle.lt_nest.specs.Tallies.{empty_tally, nth_tally, with_wish, tallies_begun, tallies_asked, open_children, IsTally, AreTallied}
+use Rattle.lt_nest.specs.Kept.{Kept, IsNest, empty_tally, nth_tally, with_wish, tallies_begun, tallies_asked, open_children, IsTally, AreTallied}
 use Rattle.lt_nest.proofs.Ancestors.{open_within}
-use Rattle.lt_nest.proofs.BegunTransactions.{begun_was_open}
+use Rattle.lt_nest.proofs.AddedLocks.{begun_was_open}
 use Rattle.lt_nest.proofs.Wishes.{asked_before, waiting_put, waiting_queued, closed_waits}
 use Rattle.lt_nest.proofs.GrantedWishes.{length_with_wish, wish_kept, wish_set, children_kept}
-use Rattle.lt_nest.proofs.OpenChildren.{has_children_is, children_begun, children_unbegun}
-use Rattle.lt_nest.proofs.CountedChildren.{counted_more, wish_counted, length_counted}
+use Rattle.lt_nest.proofs.OpenChildren.{has_children_is, children_begun, children_unbegun, counted_more, wish_counted, length_counted}
 
 -- what the code reads
 

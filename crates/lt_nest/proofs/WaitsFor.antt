@@ -1,8 +1,7 @@
 -- For whom a transaction waits.
-use Rattle.std.proofs.Common.{◌≡◌, ℕ, ◌+◌, ◌<◌, inl, inr, List, [], ◌∷◌, length, Bool, true, false, not, refl, ap, subst, ◌∙◌, Option, Some, None, take}
-use Rattle.std.specs.Prelude.{◌⊎◌, ◌&&◌, ◌||◌, ◌==◌, Contains, is_some, position}
+use Rattle.std.proofs.Common.{◌≡◌, ℕ, ◌+◌, ◌<◌, inl, inr, List, [], ◌∷◌, length, Bool, true, false, not, refl, ap, subst, ◌∙◌, Option, Some, None, take, ◌⊎◌, ◌&&◌, ◌||◌, ◌==◌, Contains, is_some, position, eqb-true, eq-eqb}
 use Rattle.std.specs.List.{list_any}
-use Rattle.std.proofs.lemmas.Bool.{and_parts, or_cases, or_left, or_right, eqb-true, eq-eqb, not-true}
+use Rattle.std.proofs.lemmas.Bool.{and_parts, or_cases, or_left, or_right, not-true}
 use Rattle.std.proofs.lemmas.List.Elements.{All-contains, All-take}
 use Rattle.std.proofs.lemmas.List.Quantifiers.{position-Some}
 use Rattle.lt_lists.proofs.Members.{contains_first, contains_later, list_any-at, list_any-which}

@@ -1,18 +1,129 @@
--- What a transaction waits for, as asks come and go.
-use Rattle.std.proofs.Common.{◌≡◌, ℕ, zero, suc, ◌+◌, ◌<◌, List, [], ◌∷◌, ◌++◌, length, Bool, true, false, not, refl, sym, ap, arith, ◌∙◌, Option, Some, None, map}
-use Rattle.std.specs.Prelude.{nat_lt, if◌then◌else◌, slice_index_or, slice_set, remove, filter, count_by, is_some}
+-- What a call that asks for a lock keeps.
+use Rattle.std.proofs.Common.{◌≡◌, ℕ, ◌+◌, ◌<◌, ◌≤◌, inl, inr, List, [], ◌∷◌, ◌++◌, length, Bool, true, false, refl, sym, ap, subst, arith, ◌∙◌, Option, Some, None, take, zero, suc, not, map, ◌⊎◌, ◌==◌, if◌then◌else◌, slice_set, position, is_some, count_by, nat_lt, slice_index_or, remove, filter, eqb-true, eq-eqb, lt-ltb, take_at}
+use Rattle.std.proofs.lemmas.Bool.{cases_lt}
+use Rattle.std.proofs.lemmas.List.{get_or_append_left, get_or_push, length_push, take-append-le}
+use Rattle.std.proofs.lemmas.List.Elements.{All-get_or, All-set, All-push}
+use Rattle.std.proofs.lemmas.List.Sums.{sum_by-cons, sum_by-set, sum_by_push}
 use Rattle.std.specs.List.{position_or_len}
-use Rattle.std.proofs.lemmas.Bool.{eqb-true, eq-eqb, lt-ltb}
 use Rattle.std.proofs.lemmas.Bool.Decides.{nat_tests}
-use Rattle.std.proofs.lemmas.List.Sums.{sum_by-cons}
-use Rattle.lt_lists.proofs.Sums.{sum_by-zero}
-use Rattle.std.proofs.lemmas.List.Elements.{All-get_or}
 use Rattle.lt_modes.specs.declared.mode.Mode.{Mode}
+use Rattle.lt_lists.proofs.Sums.{none_found, sum_by-zero}
+use Rattle.lt_nest.specs.declared.forest.Transaction.{Transaction}
 use Rattle.lt_nest.specs.declared.locks.Ask.{Ask}
+use Rattle.lt_nest.specs.declared.answers.Asked.{Asked}
+use Rattle.lt_nest.specs.declared.answers.Asked.TheVariants.{Waits, False}
 use Rattle.lt_nest.specs.Forest.{is_open_transaction}
-use Rattle.lt_nest.specs.Locks.{LockSet, no_set, nth_ask, is_asked_by}
-use Rattle.lt_nest.specs.Calls.{NestState, mode_asked_at, asked_in, wish_or, waiting_from, waiting, queued}
+use Rattle.lt_nest.specs.Locks.{LockSet, no_set, missing_ask, nth_ask, is_free_for, is_asked_by, with_lock}
+use Rattle.lt_nest.specs.Calls.{NestState, nth_set, put_set, mode_asked_at, wish_or, waiting_from, waiting, ask_answer_from, ask_answer, one_asked, queued, after_asked, asked_in}
 use Rattle.lt_nest.specs.Kept.{IsAsker, LockSetKept, waiting_asks_of, Kept}
+use Rattle.lt_nest.proofs.AddedLocks.{locked_sound, still_barred}
+
+-- a transaction that doesn't wait has no ask
+pub no_ask_waits : (k : ℕ) (sets : List LockSet) (x : ℕ) → is_some (waiting_from k sets x) ≡ false → waiting_asks_of x sets ≡ 0
+no_ask_waits k [] x e = refl
+no_ask_waits k (s ∷ rest) x e = by_place (position (is_asked_by x) s.queue) refl e (λ f. no_ask_waits (k + 1) rest x f)
+  where
+    asks : LockSet → ℕ
+    asks t = count_by (is_asked_by x) t.queue
+
+    by_place : (o : Option ℕ) → position (is_asked_by x) s.queue ≡ o → is_some (wish_or k (waiting_from (k + 1) rest x) (mode_asked_at s.queue o)) ≡ false
+        → (is_some (waiting_from (k + 1) rest x) ≡ false → waiting_asks_of x rest ≡ 0) → waiting_asks_of x (s ∷ rest) ≡ 0
+    by_place None found f again =
+        let here : asks s ≡ 0 = sum_by-zero (λ (a : Ask). if is_asked_by x a then 1 else 0) s.queue
+        (λ i d within. ap (λ (b : Bool). if b then 1 else 0) (none_found (is_asked_by x) s.queue found i d within)) in
+        omega (arith, sum_by-cons asks s rest, here, again f)
+    by_place (Some j) found f again = absurd (cc f)
+
+one_asked_kept : (st : NestState) → Kept st → Kept (one_asked st)
+one_asked_kept st kept = record { transactions = kept.transactions; sets = kept.sets; one_ask = kept.one_ask }
+
+put_kept : (st : NestState) (set : ℕ) (s : LockSet) → Kept st → LockSetKept st.transactions s → ((y : ℕ) → waiting_asks_of y (slice_set st.sets set s) ≤ 1) → Kept (put_set (one_asked st) set s)
+put_kept st set s kept new asks = record {
+  transactions = kept.transactions;
+  sets = All-set (LockSetKept st.transactions) st.sets set s new kept.sets;
+  one_ask = asks;
+}
+
+locked_kept : (ts : List Transaction) (s : LockSet) (x : ℕ) (mode : Mode) → LockSetKept ts s → is_open_transaction ts x ≡ true → is_free_for ts s.entries s.queue x mode ≡ true → LockSetKept ts (with_lock s x mode)
+locked_kept ts s x mode kept opened free = record {
+  sound = locked_sound ts s s.queue x mode kept.sound opened free;
+  none_free = λ k within. still_barred ts s.entries (take k s.queue) (nth_ask s.queue k).owner (nth_ask s.queue k).mode x mode 1 (kept.none_free k within);
+}
+
+queued_kept : (ts : List Transaction) (s : LockSet) (x : ℕ) (mode : Mode) → LockSetKept ts s → is_open_transaction ts x ≡ true → is_free_for ts s.entries s.queue x mode ≡ false → LockSetKept ts (queued s x mode)
+queued_kept ts s x mode kept opened barred = record {
+  sound = record { holders = kept.sound.holders; askers = All-push (IsAsker ts) s.queue new kept.sound.askers opened; apart = kept.sound.apart };
+  none_free = λ k within. elim (cases_lt k (length s.queue)) [
+    | inl old ↦
+        let first : take k (s.queue ++ new ∷ []) ≡ take k s.queue = take-append-le k s.queue (new ∷ []) (omega (arith, old)) in
+        let same : nth_ask (s.queue ++ new ∷ []) k ≡ nth_ask s.queue k = get_or_append_left s.queue (new ∷ []) missing_ask k old in
+        ap (λ (q : List Ask). is_free_for ts s.entries q (nth_ask (s.queue ++ new ∷ []) k).owner (nth_ask (s.queue ++ new ∷ []) k).mode) first
+        ∙ ap (λ (a : Ask). is_free_for ts s.entries (take k s.queue) a.owner a.mode) same ∙ kept.none_free k old
+    | inr last ↦
+        let is_last : length s.queue ≡ k = omega (arith, last, within, length_push s.queue new) in
+        let first : take k (s.queue ++ new ∷ []) ≡ s.queue = take_at s.queue (new ∷ []) k is_last in
+        let same : nth_ask (s.queue ++ new ∷ []) k ≡ new = get_or_push s.queue new missing_ask k is_last in
+        ap (λ (q : List Ask). is_free_for ts s.entries q (nth_ask (s.queue ++ new ∷ []) k).owner (nth_ask (s.queue ++ new ∷ []) k).mode) first
+        ∙ ap (λ (a : Ask). is_free_for ts s.entries s.queue a.owner a.mode) same ∙ barred
+  ];
+}
+  where
+    new : Ask
+    new = record { owner = x; mode = mode }
+
+-- how many asks of y a new ask makes
+queued_asks : (st : NestState) (x set : ℕ) (mode : Mode) → set < length st.sets → Kept st → is_some (waiting st x) ≡ false
+    → (y : ℕ) → waiting_asks_of y (slice_set st.sets set (queued (nth_set st set) x mode)) ≤ 1
+queued_asks st x set mode within kept free y = by_owner (x == y) refl
+  where
+    asks : LockSet → ℕ
+    asks t = count_by (is_asked_by y) t.queue
+
+    new : Ask
+    new = record { owner = x; mode = mode }
+
+    sums : waiting_asks_of y (slice_set st.sets set (queued (nth_set st set) x mode)) ≡ waiting_asks_of y st.sets + (if x == y then 1 else 0)
+    sums =
+        omega (
+          arith,
+          sum_by-set asks st.sets set (queued (nth_set st set) x mode) no_set within,
+          sum_by_push (λ (a : Ask). if is_asked_by y a then 1 else 0) (nth_set st set).queue new,
+        )
+
+    by_owner : (own : Bool) → (x == y) ≡ own → waiting_asks_of y (slice_set st.sets set (queued (nth_set st set) x mode)) ≤ 1
+    by_owner true e =
+        let none : waiting_asks_of y st.sets ≡ 0 = subst (λ (i : ℕ). waiting_asks_of i st.sets ≡ 0) (eqb-true x y e) (no_ask_waits 0 st.sets x free) in
+        let one : ◌≡◌ {A = ℕ} (if x == y then 1 else 0) 1 = ap (λ (b : Bool). if b then 1 else 0) e in
+        omega (arith, sums, none, one)
+    by_owner false e =
+        let none : ◌≡◌ {A = ℕ} (if x == y then 1 else 0) 0 = ap (λ (b : Bool). if b then 1 else 0) e in
+        omega (arith, sums, none, kept.one_ask y)
+
+pub asked_kept : (st : NestState) (x set : ℕ) (mode : Mode) (otherwise : Asked) → (otherwise ≡ Waits) ⊎ (otherwise ≡ False) → set < length st.sets → Kept st
+    → Kept (after_asked st x set mode (ask_answer otherwise st x set mode))
+asked_kept st x set mode otherwise which within kept = by_test (is_open_transaction st.transactions x) refl (is_some (waiting st x)) refl (is_free_for st.transactions (nth_set st set).entries (nth_set st set).queue x mode) refl
+  where
+    here : LockSetKept st.transactions (nth_set st set)
+    here = All-get_or (LockSetKept st.transactions) st.sets set no_set within kept.sets
+
+    by_other : (other : Asked) → (other ≡ Waits) ⊎ (other ≡ False) → is_open_transaction st.transactions x ≡ true → is_some (waiting st x) ≡ false
+        → is_free_for st.transactions (nth_set st set).entries (nth_set st set).queue x mode ≡ false → Kept (after_asked st x set mode other)
+    by_other other (inl waits) e f g = subst (λ (a : Asked). Kept (after_asked st x set mode a)) (sym waits)
+        (put_kept st set (queued (nth_set st set) x mode) kept (queued_kept st.transactions (nth_set st set) x mode here e g) (queued_asks st x set mode within kept f))
+    by_other other (inr refused) e f g = subst (λ (a : Asked). Kept (after_asked st x set mode a)) (sym refused) (one_asked_kept st kept)
+
+    same_asks : (y : ℕ) → waiting_asks_of y (slice_set st.sets set (with_lock (nth_set st set) x mode)) ≤ 1
+    same_asks y = omega (arith, kept.one_ask y, sum_by-set (λ (t : LockSet). count_by (is_asked_by y) t.queue) st.sets set (with_lock (nth_set st set) x mode) no_set within)
+
+    by_test : (o : Bool) → is_open_transaction st.transactions x ≡ o → (w : Bool) → is_some (waiting st x) ≡ w
+        → (f : Bool) → is_free_for st.transactions (nth_set st set).entries (nth_set st set).queue x mode ≡ f
+        → Kept (after_asked st x set mode (ask_answer_from o w f otherwise))
+    by_test false e w g f h = one_asked_kept st kept
+    by_test true e true g f h = one_asked_kept st kept
+    by_test true e false g true h = put_kept st set (with_lock (nth_set st set) x mode) kept (locked_kept st.transactions (nth_set st set) x mode here e h) same_asks
+    by_test true e false g false h = by_other otherwise which e g h
+
+-- What a transaction waits for, as asks come and go.
 
 -- one ask of x, or none
 abbrev one_if : ℕ → Ask → ℕ

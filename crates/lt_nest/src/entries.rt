@@ -7,7 +7,7 @@ use crate::forest::{Transaction, is_open};
 use crate::locks::Entry;
 use lt_modes::Mode;
 
-#[tactic(auto, using(crate::proofs::LockSums::locks_more, crate::proofs::LockSums::locks_within))]
+#[tactic(auto, using(crate::proofs::ServedSets::locks_more, crate::proofs::ServedSets::locks_within))]
 pub(crate) fn count(entries: &[Entry], x: u16, mode: Mode) -> u32
     requires { total_locks entries.now < 2 ^ 32 }
     ensures { result ≡ locks_held_by entries.now x mode }

@@ -1,7 +1,6 @@
 ghost use Rattle.std.specs.Prelude.{◌≡◌};
-ghost use Rattle.lt_nest.specs.Forest.{is_own};
+ghost use Rattle.lt_nest.specs.Forest.{is_own, MarksOwn};
 ghost use Rattle.lt_nest.specs.Kept.{IsForest};
-ghost use Rattle.lt_nest.specs.Marks.{MarksOwn};
 
 use crate::forest::{Transaction, is_own, parent};
 

@@ -1,12 +1,10 @@
 ghost use Rattle.std.specs.Prelude.{◌≡◌, ◌<◌, ◌≤◌, length, filter, position, vec_len, IfSome};
 ghost use Rattle.std.specs.List.{list_any};
 ghost use Rattle.lt_nest.specs.declared.locks.Ask.{Ask as AnyAsk};
-ghost use Rattle.lt_nest.specs.Forest.{is_open_transaction};
-ghost use Rattle.lt_nest.specs.Locks.{is_against, entry_is_against, ask_is_against, is_free_for, is_asked_by};
-ghost use Rattle.lt_nest.specs.Serving.{first_free};
+ghost use Rattle.lt_nest.specs.Forest.{is_open_transaction, MarksOwn, entry_conflicts, ask_conflicts};
+ghost use Rattle.lt_nest.specs.Locks.{is_against, entry_is_against, ask_is_against, is_free_for, is_asked_by, first_free};
 ghost use Rattle.lt_nest.specs.Calls.{holder_is_against, asker_is_against, waits_in};
 ghost use Rattle.lt_nest.specs.Kept.{IsForest};
-ghost use Rattle.lt_nest.specs.Marks.{MarksOwn, entry_conflicts, ask_conflicts};
 
 use crate::forest::{Transaction, is_open, is_own};
 use crate::locks::{Ask, Entry};
@@ -101,7 +99,7 @@ fn is_against(
     mode.conflicts(other) && !marks.is_own(transactions, owner, x)
 }
 
-#[tactic(auto, using(crate::proofs::FirstFree::free_here, crate::proofs::FirstFree::free_later), unfolding(crate::specs::Serving::first_free))]
+#[tactic(auto, using(crate::proofs::AddedLocks::free_here, crate::proofs::AddedLocks::free_later), unfolding(crate::specs::Locks::first_free))]
 pub(crate) fn first_free(
     transactions: &[Transaction],
     entries: &[Entry],

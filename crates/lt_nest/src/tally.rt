@@ -1,7 +1,7 @@
 ghost use Rattle.std.specs.Prelude.{◌≡◌, ◌<◌, ◌++◌, [], ◌∷◌, None, length, if◌then◌else◌, IfSome, OnOk, OnErr};
 ghost use Rattle.std.specs.Prelude.{nat_lt};
 ghost use Rattle.lt_nest.specs.Forest.{is_open_transaction, with_begun};
-ghost use Rattle.lt_nest.specs.Tallies.{nth_tally, with_wish, with_child, without_child, tallies_begun, tallies_asked};
+ghost use Rattle.lt_nest.specs.Kept.{nth_tally, with_wish, with_child, without_child, tallies_begun, tallies_asked};
 
 use crate::answers::Asked;
 use crate::forest::{Transaction, is_open};

@@ -1,7 +1,6 @@
 -- What an answer says of the bytes that were read: the text of their lines, or why there is none.
 use Rattle.std.proofs.Common.{ℕ, List, Option, Some, None, sym, subst}
-use Rattle.lt_io.specs.Source.{SourceState}
-use Rattle.lt_io.specs.Whole.{Left, IsReadWhole}
+use Rattle.lt_io.specs.Streams.{SourceState, Left, IsReadWhole}
 use Rattle.lt_call.specs.declared.outcome.Outcome.TheVariants as outcome
 use Rattle.lt_call.specs.Outcomes.{IsRefusal, SaysOfSource}
 use Rattle.lt_call.proofs.Answering.{memory_reading, refused_reading}

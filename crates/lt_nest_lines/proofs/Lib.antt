@@ -2,5 +2,4 @@ pub mod ReadLines
 pub mod SetsAsked
 pub mod Pieces
 pub mod Sizes
-pub mod FollowedOrders
 pub mod Judged

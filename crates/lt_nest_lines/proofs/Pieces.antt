@@ -1,11 +1,8 @@
 -- Text that is written piece by piece.
-use Rattle.std.proofs.Common.{◌≡◌, ℕ, suc, ◌+◌, ◌<◌, List, [], ◌∷◌, ◌++◌, length, sym, ap, arith, ◌∙◌, Option, Some, append_assoc, get_or, take, drop}
-use Rattle.std.specs.Prelude.{slice_get}
-use Rattle.std.specs.List.{flat_map}
+use Rattle.std.proofs.Common.{◌≡◌, ℕ, suc, ◌+◌, ◌<◌, List, [], ◌∷◌, ◌++◌, length, sym, ap, arith, ◌∙◌, Option, Some, append_assoc, get_or, take, drop, append-nil, slice_get, flat_map}
 use Rattle.std.proofs.lemmas.List.{take_more}
 use Rattle.std.proofs.lemmas.List.Concat.{flat_map-append}
-use Rattle.std.proofs.Common.{append-nil}
-use Rattle.lt_nest.specs.Serving.{Grant}
+use Rattle.lt_nest.specs.Locks.{Grant}
 use Rattle.lt_nest_lines.specs.Input.{InputData}
 use Rattle.lt_nest_lines.specs.Play.{line_of_words, grant_words, grants_text}
 use Rattle.lt_nest_lines.specs.Written.{each_below}

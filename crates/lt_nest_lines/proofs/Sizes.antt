@@ -3,8 +3,7 @@ use Rattle.std.proofs.Common.{◌≡◌, ℕ, ◌+◌, ◌≤◌, arith, length,
 use Rattle.std.proofs.lemmas.List.{length_push}
 use Rattle.lt_nest.specs.declared.answers.Asked.TheVariants.{Waits, False}
 use Rattle.lt_nest.specs.Calls.{has_parent, ask_answer, commit_answer, abort_answer}
-use Rattle.lt_nest.proofs.NestStays.{length_asked}
-use Rattle.lt_nest.proofs.NestSizes.{commit_sizes, abort_sizes}
+use Rattle.lt_nest.proofs.NestStays.{length_asked, commit_sizes, abort_sizes}
 use Rattle.lt_nest_lines.specs.declared.order.Order.{Order}
 use Rattle.lt_nest_lines.specs.declared.order.Order.TheVariants.{Begin, BeginIn, Lock, Try, Commit, Abort}
 use Rattle.lt_nest_lines.specs.Play.{PlayState, nest_number_of, after_begin_under, after_begin_if, after_order}

@@ -1,6 +1,5 @@
 -- The forms of lines, with their words.
-use Rattle.std.specs.Prelude.{ℕ, List, [], ◌∷◌, Option, Some, None, codes, if◌then◌else◌}
-use Rattle.std.specs.Str.{bytes_eq}
+use Rattle.std.specs.Prelude.{ℕ, List, [], ◌∷◌, Option, Some, None, codes, if◌then◌else◌, bytes_eq}
 use Rattle.lt_nest_lines.specs.declared.form.Form.{Form}
 use Rattle.lt_nest_lines.specs.declared.form.Form.TheVariants.{Set, Begin, BeginIn, Lock, Try, Commit, Abort}
 

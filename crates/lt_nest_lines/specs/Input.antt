@@ -1,10 +1,9 @@
 -- The input that a text denotes, or the first line that is refused.
-use Rattle.std.specs.Prelude.{◌≡◌, ◌≤◌, ◌<◌, ℕ, ◌+◌, Bool, true, false, not, ◌||◌, ◌&&◌, nat_lt, is_some, List, [], ◌∷◌, ◌++◌, All, Option, Some, None, Result, Ok, Err, length, position, codes, if◌then◌else◌}
-use Rattle.std.specs.Str.{bytes_eq}
+use Rattle.std.specs.Prelude.{◌≡◌, ◌≤◌, ◌<◌, ℕ, ◌+◌, Bool, true, false, not, ◌||◌, ◌&&◌, nat_lt, is_some, List, [], ◌∷◌, ◌++◌, All, Option, Some, None, Result, Ok, Err, length, position, codes, if◌then◌else◌, bytes_eq}
 use Rattle.lt_modes.specs.declared.mode.Mode.{Mode}
 use Rattle.lt_modes.specs.Modes.{mode_of}
 use Rattle.lt_text.specs.Text.{lines, words}
-use Rattle.lt_spec.specs.Names.{is_name}
+use Rattle.lt_spec.specs.Script.{is_name}
 use Rattle.lt_script.specs.Reading.{says_nothing}
 use Rattle.lt_nest_lines.specs.declared.limits.TheConstants.{MAX_SETS, MAX_TRANSACTIONS, MAX_LINES}
 use Rattle.lt_nest_lines.specs.declared.order.Order.{Order}

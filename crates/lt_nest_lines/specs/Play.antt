@@ -1,13 +1,12 @@
 -- What an order does to the nest, and what is written of it.
-use Rattle.std.specs.Prelude.{ℕ, Bool, true, false, ◌==◌, List, [], ◌∷◌, ◌++◌, Option, Some, None, length, position, codes, slice_index_or, unwrap_or}
-use Rattle.std.specs.List.{flat_map}
+use Rattle.std.specs.Prelude.{ℕ, Bool, true, false, ◌==◌, List, [], ◌∷◌, ◌++◌, Option, Some, None, length, position, codes, slice_index_or, unwrap_or, flat_map}
 use Rattle.lt_modes.specs.Modes.{word_of}
 use Rattle.lt_text.specs.Text.{spaced}
 use Rattle.lt_nest.specs.declared.answers.Asked.{Asked}
 use Rattle.lt_nest.specs.declared.answers.Asked.TheVariants.{Granted, Waits, False, NotOpen, Busy}
 use Rattle.lt_nest.specs.declared.answers.Ended.{Ended}
 use Rattle.lt_nest.specs.declared.answers.Ended.TheVariants as ended
-use Rattle.lt_nest.specs.Serving.{Grant}
+use Rattle.lt_nest.specs.Locks.{Grant}
 use Rattle.lt_nest.specs.Calls.{NestState, new_nest, has_parent, after_begin, ask_answer, after_asked, commit_answer, after_commit, abort_answer, after_abort}
 use Rattle.lt_nest_lines.specs.declared.play.TheConstants.{NOBODY}
 use Rattle.lt_nest_lines.specs.declared.order.Order.{Order}

@@ -1,4 +1,4 @@
-ghost use Rattle.lt_nest_lines.specs.Rows.{ChildBesideParentText, SiblingsWaitText, EmptyInput, HolderWaitsBehindOutsiderText, ParentHolds, UnknownSet, Repeated, BeginIsNoName};
+ghost use Rattle.lt_nest_lines.specs.Serves.{ChildBesideParentText, SiblingsWaitText, EmptyInput, HolderWaitsBehindOutsiderText, ParentHolds, UnknownSet, Repeated, BeginIsNoName};
 
 /// Worked rows.
 pub fn law_rows()

@@ -3,7 +3,7 @@
 ghost use Rattle.std.specs.Prelude.{◌≡◌, slice_index};
 ghost use Rattle.std.specs.List.{list_all};
 ghost use Rattle.std.specs.Char.{is_ascii_alphabetic};
-ghost use Rattle.lt_spec.specs.Names.{is_name_byte, is_reserved, is_name};
+ghost use Rattle.lt_spec.specs.Script.{is_name_byte, is_reserved, is_name};
 
 use lt_script::MAX_NAME;
 use lt_text::is;

@@ -1,7 +1,7 @@
 ghost use Rattle.std.specs.Prelude.{◌≡◌, ◌<◌, ◌++◌, [], length, position, IfOk, OnOk, IfSome};
 ghost use Rattle.lt_modes.specs.Modes.{word_of};
 ghost use Rattle.lt_nest.specs.Calls.{has_parent, most_transactions, held, waiting};
-ghost use Rattle.lt_nest.specs.Counts.{most_asked};
+ghost use Rattle.lt_nest.specs.Kept.{most_asked};
 ghost use Rattle.lt_nest_lines.specs.Input.{AsksWithin};
 ghost use Rattle.lt_nest_lines.specs.Play.{PlayState, first_play, nest_number_of, after_begin_under, after_call, with_grants_taken, after_order, line_of_words, name_at, next_name, answer_words, is_nest_number, owner_name, grant_words, grants_text, told_text, order_text};
 ghost use Rattle.lt_nest_lines.specs.declared.order.Order.TheVariants as orders;

@@ -6,13 +6,11 @@ use Rattle.lt_modes.specs.declared.event.Event.TheVariants.{Busy, DropAll as Dro
 use Rattle.lt_modes.specs.declared.command.Command.{Command}
 use Rattle.lt_modes.specs.declared.command.Command.TheVariants as commands
 use Rattle.lt_modes.specs.Script.{ScriptData}
-use Rattle.lt_desk.specs.OutData.{OutData}
+use Rattle.lt_desk.specs.DeskData.{OutData}
 use Rattle.lt_core.specs.CoreData.{CoreData}
-use Rattle.lt_spec.specs.Families.{related}
-use Rattle.lt_spec.specs.NodeMove.{NodeState, NodeMade, drop_all, each_touched, answered_first, locks_in_sets, one_made, at_clock}
-use Rattle.lt_node.specs.NodeData.{NodeData, NodeDoes, state_of, with_sent}
-use Rattle.lt_node.specs.Family.{SetsDo, ending, with_sets}
-use Rattle.lt_node.specs.Answers.{answer_to}
+use Rattle.lt_spec.specs.NodeMove.{related, NodeState, NodeMade, drop_all, each_touched, answered_first, locks_in_sets, one_made, at_clock}
+use Rattle.lt_node.specs.NodeData.{NodeData, NodeDoes, state_of, with_sent, SetsDo, ending, with_sets}
+use Rattle.lt_node.specs.Clients.{answer_to}
 
 ends_here : (n : NodeData) (rule : NodeState → NodeMade) (q : ℕ) (event : Event) (had mid out : OutData) (cores : List CoreData) → q ≡ n.me → mid ≡ record had { events = had.events ++ event ∷ [] }
     → SetsDo n.script q rule n.cores mid cores out (state_of n) → NodeDoes (answered_first event (rule (state_of n))) n had (record n { cores = cores }) out

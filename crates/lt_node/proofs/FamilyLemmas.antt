@@ -1,26 +1,53 @@
--- The sets of a family one after the other.
-use Rattle.std.proofs.Common.{◌≡◌, ◌+◌, ◌<◌, ◌≤◌, ◌==◌, ◌++◌, ℕ, List, [], ◌∷◌, Option, Some, None, length, drop, slice_index_or, slice_set, sum_by, arith, refl, sym, ap, subst, ◌∙◌, append_assoc, if◌then◌else◌, Bool, true, false}
+-- What a command asks of a set.
+use Rattle.std.proofs.Common.{◌≡◌, ◌<◌, ◌≤◌, ℕ, List, length, slice_index_or, sum_by, arith, sym, subst, ◌+◌, ◌==◌, ◌++◌, [], ◌∷◌, Option, Some, None, drop, slice_set, refl, ap, ◌∙◌, append_assoc, if◌then◌else◌, Bool, true, false, filter, ◌*◌, All, drop-set-lt, length-set, append-nil}
+use Rattle.std.proofs.lemmas.List.Sums.{get_or-le-sum_by, sum_by-cons}
 use Rattle.std.proofs.lemmas.Option.{slice_get-get_or}
-use Rattle.std.proofs.lemmas.List.{drop_more, drop_all, drop-set-lt, length-set, get_or_default, append-nil}
+use Rattle.std.proofs.lemmas.List.{drop_more, drop_all, get_or_default}
 use Rattle.std.proofs.lemmas.Grind.{drop_more_same}
-use Rattle.std.proofs.lemmas.List.Sums.{sum_by-cons}
 use Rattle.lt_modes.specs.declared.stamp.Stamp.{Stamp}
-use Rattle.lt_modes.specs.Places.{places_from}
+use Rattle.lt_modes.specs.Freezing.{places_from}
 use Rattle.lt_modes.specs.Script.{ScriptData, SetData, family_at, family_of_set}
-use Rattle.lt_modes.specs.State.{SetState}
-use Rattle.lt_modes.specs.Made.{Made}
-use Rattle.lt_desk.specs.OutData.{OutData, FitsOut}
+use Rattle.lt_modes.specs.State.{SetState, Made}
+use Rattle.lt_modes.specs.declared.parts.Row.{Row}
+use Rattle.lt_modes.specs.Modes.{locks_of, is_of}
+use Rattle.lt_lists.specs.Below.{put}
+use Rattle.lt_spec.specs.NodeMove.{family, related, NodeState, each_touched, touched, locks_in_sets}
+use Rattle.lt_desk.specs.DeskData.{OutData, FitsOut}
+use Rattle.lt_core.specs.declared.set_command.SetCommand.{SetCommand}
+use Rattle.lt_core.specs.declared.set_command.SetCommand.TheVariants.{Lock, Try, Unlock, Change, DropAll}
+use Rattle.lt_core.specs.CoreData.{CoreData, HasRoom, RoomToAsk, move_of, RoomForCommand, Does}
+use Rattle.lt_core.proofs.NoticeLemmas.{room_less}
+use Rattle.lt_core.proofs.BoundLemmas.{commands_fit, ends_fit}
 use Rattle.lt_core.specs.declared.set_command.SetCommand.TheVariants as set_commands
 use Rattle.lt_core.specs.Bound.{RoomToSend}
-use Rattle.lt_core.specs.CoreData.{CoreData, Does}
-use Rattle.lt_core.proofs.BoundLemmas.{ends_fit, commands_fit}
-use Rattle.lt_lists.specs.Below.{put}
-use Rattle.lt_spec.specs.Families.{family, related}
-use Rattle.lt_spec.specs.NodeMove.{NodeState, each_touched, touched}
-use Rattle.lt_node.specs.NodeData.{IsCoreOf, first_core, with_sent}
-use Rattle.lt_node.specs.Family.{ending, with_sets, sets_in, SetsDo}
-use Rattle.lt_node.specs.Room.{most_sent}
+use Rattle.lt_node.specs.NodeData.{IsReady, LeavesAsk, most_sent, IsCoreOf, first_core, with_sent, ending, with_sets, sets_in, SetsDo, HasFewLocks}
 use Rattle.lt_node.proofs.NodeLemmas.{put_read, places_set}
+
+-- there is room for each command
+room_for : (clock : ℕ) (core : CoreData) (command : SetCommand) → RoomToAsk clock core → RoomForCommand clock core command
+room_for clock core (Lock mode) h = h
+room_for clock core (Try mode) h = h.move
+room_for clock core (Unlock mode) h = room_less 1 clock core h.move
+room_for clock core (Change gives_up mode) h = h
+room_for clock core DropAll h = room_less 1 clock core h.move
+
+pub ready_for : (clock : ℕ) (cores : List CoreData) (out : OutData) (k : ℕ) (core : CoreData) (command : SetCommand) → IsReady clock cores out → k < length cores
+    → core ≡ slice_index_or cores k core → RoomForCommand clock core command
+ready_for clock cores out k core command ready inside at =
+    room_for clock core command
+    (record {
+      move = subst (λ (c : CoreData). HasRoom 2 clock c) (sym at) (ready.rooms k core inside);
+      pending = subst LeavesAsk (sym at) (ready.asks k core inside);
+    })
+
+pub command_fits : (clock : ℕ) (cores : List CoreData) (out : OutData) (k : ℕ) (core : CoreData) (stamp : Stamp) (client : ℕ) (command : SetCommand) → IsReady clock cores out → k < length cores
+    → core ≡ slice_index_or cores k core → FitsOut (move_of stamp client command core.set core.state) out
+command_fits clock cores out k core stamp client command ready inside at =
+    let within = subst (λ (c : CoreData). most_sent c ≤ sum_by most_sent cores) (sym at) (get_or-le-sum_by most_sent cores k core inside) in
+    commands_fit stamp client command core.set core.state out
+    (record { posts = omega (arith, within, ready.send.posts); events = omega (arith, within, ready.send.events) })
+
+-- The sets of a family one after the other.
 
 -- the sets of the family from place k on
 abbrev pub related_from : ScriptData → ℕ → ℕ → List ℕ
@@ -164,3 +191,52 @@ at_end script stamp dropped set old had k cores out at all n =
     all_done script stamp.node (ending dropped stamp) (related script set) old cores had out n
     (subst (λ (l : List SetData). IsLeft script stamp.node (ending dropped stamp) (places_from (λ j (x : SetData). x.family == family script set) k l) cores out (related_from script set 0) old had n)
     (drop_all k script.sets all) (at.left n))
+
+-- How many locks a client has in a family.
+
+sum_filtered : (test : Row → Bool) (rows : List Row) → sum_by (λ (row : Row). row.count) (filter test rows) ≤ sum_by (λ (row : Row). row.count) rows
+sum_filtered test [] = omega arith
+sum_filtered test (row ∷ rest) = by_test (test row) (sum_filtered test rest)
+  where
+    by_test : (passes : Bool) → sum_by (λ (row : Row). row.count) (filter test rest) ≤ sum_by (λ (row : Row). row.count) rest
+        → sum_by (λ (row : Row). row.count) (if passes then row ∷ filter test rest else filter test rest) ≤ sum_by (λ (row : Row). row.count) (row ∷ rest)
+    by_test true h = omega (arith, h, sum_by-cons (λ (row : Row). row.count) row (filter test rest), sum_by-cons (λ (row : Row). row.count) row rest)
+    by_test false h = omega (arith, h, sum_by-cons (λ (row : Row). row.count) row rest)
+
+-- a set in hand has few of them
+pub few_of : (cores : List CoreData) (j k client : ℕ) (core : CoreData) → All HasFewLocks cores → k < length cores → j ≡ k → core ≡ slice_index_or cores j core → locks_of core.state.held client ≤ 65536
+few_of cores j k client core few inside place at =
+    let most : HasFewLocks core = subst HasFewLocks (sym (at ∙ ap (λ (i : ℕ). slice_index_or cores i core) place)) (few k core inside) in
+    omega (arith, most, sum_filtered (is_of client) core.state.held)
+
+-- the locks counted so far, with those that are left, are all
+pub record IsCounted (script : ScriptData) (set client : ℕ) (cores : List CoreData) (k locks : ℕ) : Type 0 where
+  pub few : locks ≤ k * 65536
+  pub left : (n : NodeState) (q : ℕ) → locks + locks_in_sets (with_sets script q cores n) client (related_from script set k) ≡ locks_in_sets (with_sets script q cores n) client (related script set)
+
+pub counted_in : (script : ScriptData) (set client : ℕ) (cores : List CoreData) (k j locks : ℕ) (core : CoreData) → IsCounted script set client cores k locks → All HasFewLocks cores
+    → k < length cores → k < length script.sets → (family_at script.sets k == family script set) ≡ true → j ≡ k → core ≡ slice_index_or cores j core
+    → IsCounted script set client cores (k + 1) (locks + locks_of core.state.held client)
+counted_in script set client cores k j locks core counted few inside within mine place at = record {
+  few = omega (arith, counted.few, few_of cores j k client core few inside place at);
+  left = λ n q.
+      let s = with_sets script q cores n in
+      let here : core ≡ slice_index_or cores k (first_core script q k) = at ∙ ap (λ (i : ℕ). slice_index_or cores i core) place ∙ get_or_default cores k core (first_core script q k) inside in
+      let own = ap (λ (c : CoreData). locks_of c.state.held client) here in
+      let all = ap (λ (l : List ℕ). locks_in_sets s client l) (related_in script set k within mine) in
+      omega (arith, counted.left n q, own, all, sum_by-cons (λ (i : ℕ). locks_of (s.set i).held client) k (related_from script set (k + 1)));
+}
+
+pub counted_out : (script : ScriptData) (set client : ℕ) (cores : List CoreData) (k locks : ℕ) → IsCounted script set client cores k locks
+    → k < length script.sets → (family_at script.sets k == family script set) ≡ false → IsCounted script set client cores (k + 1) locks
+counted_out script set client cores k locks counted within other = record {
+  few = omega (arith, counted.few);
+  left = λ n q. subst (λ (l : List ℕ). locks + locks_in_sets (with_sets script q cores n) client l ≡ locks_in_sets (with_sets script q cores n) client (related script set))
+      (related_out script set k within other) (counted.left n q);
+}
+
+pub counted_all : (script : ScriptData) (set client : ℕ) (cores : List CoreData) (k locks : ℕ) → IsCounted script set client cores k locks → length script.sets ≤ k
+    → (n : NodeState) (q : ℕ) → locks ≡ locks_in_sets (with_sets script q cores n) client (related script set)
+counted_all script set client cores k locks counted past n q =
+    let rest = ap (λ (l : List SetData). locks_in_sets (with_sets script q cores n) client (places_from (λ j (x : SetData). x.family == family script set) k l)) (drop_all k script.sets past) in
+    omega (arith, counted.left n q, rest)

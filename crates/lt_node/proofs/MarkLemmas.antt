@@ -1,27 +1,56 @@
--- The masks tell who waits, set by set.
-use Rattle.std.proofs.Common.{◌≡◌, ◌≢◌, ◌<◌, ◌≤◌, ◌==◌, ◌&&◌, ◌||◌, ◌^◌, ◌*◌, ◌%◌, Bool, true, false, ℕ, zero, suc, List, length, map, inl, inr, refl, sym, ap, subst, arith, ◌∙◌, slice_index_or, slice_set, bit_or, bit_and, w8, if◌then◌else◌}
-use Rattle.std.specs.Prelude.{not}
+-- Which ask of a client a node finds, set by set.
+use Rattle.std.proofs.Common.{◌≡◌, ◌==◌, ◌∙◌, ◌≤◌, ℕ, zero, suc, ◌||◌, Bool, Option, Some, None, inl, inr, refl, sym, ap, ap₂, arith, ◌≢◌, ◌<◌, ◌&&◌, ◌^◌, ◌*◌, ◌%◌, true, false, List, length, map, subst, slice_index_or, slice_set, bit_or, bit_and, w8, if◌then◌else◌, nat_le, is_some, not, eq-eqb, ne_eqb, le-leb, leb-true, get_or-set_other, length-set}
+use Rattle.std.specs.Option.{option_or}
+use Rattle.std.proofs.lemmas.Bool.{cases_eq, cases_lt, false≢true, and_from, and_parts, not-true, not-false}
 use Rattle.std.specs.Int.{bit_at, bit_not}
-use Rattle.std.proofs.lemmas.Bool.{cases_eq, cases_lt, eq-eqb, ne_eqb, false≢true}
 use Rattle.std.proofs.lemmas.Grind.{get_or-set_at}
-use Rattle.std.proofs.lemmas.List.{get_or-set_other, get_or_default, get_or_past}
+use Rattle.std.proofs.lemmas.List.{get_or_default, get_or_past}
 use Rattle.std.proofs.lemmas.Nat.Bits.{bit_at-zero, bit_at_and, bit_at_set_same, bit_at_set_other, bit_at_clear_same, bit_at_clear_other, bit_at_above, same_from_bits}
+use Rattle.std.proofs.lemmas.Option.{none-some}
 use Rattle.lt_modes.specs.declared.ask.Ask.{Ask}
-use Rattle.lt_modes.specs.declared.command.Command.{Command}
-use Rattle.lt_modes.specs.Fits.{has_client}
-use Rattle.lt_modes.specs.Masks.{bit_if}
-use Rattle.lt_modes.specs.Script.{ScriptData}
 use Rattle.lt_modes.specs.Serving.{waits}
-use Rattle.lt_modes.specs.State.{SetState}
+use Rattle.lt_modes.specs.Waiting.{pending_ask}
+use Rattle.lt_modes.specs.declared.command.Command.{Command}
+use Rattle.lt_modes.specs.Fits.{has_client, asks_here}
+use Rattle.lt_modes.specs.FiveModes.{bit_if}
+use Rattle.lt_modes.specs.Script.{ScriptData}
+use Rattle.lt_modes.specs.State.{SetState, Desk}
+use Rattle.lt_modes.specs.Modes.{locks_in}
 use Rattle.lt_lists.specs.Below.{any_below}
 use Rattle.lt_lists.proofs.Searches.{any_below_none}
+use Rattle.lt_spec.specs.NodeMove.{NodeState, desk_within, set_within, node_within}
+use Rattle.lt_core.proofs.BoundLemmas.{find_some}
 use Rattle.lt_core.specs.CoreData.{CoreData}
-use Rattle.lt_node.specs.NodeData.{first_core}
-use Rattle.lt_node.specs.Appending.{with_request}
-use Rattle.lt_node.specs.Family.{sets_in}
-use Rattle.lt_node.specs.Marks.{Marked, Remarked, TellsWaiting}
-use Rattle.lt_node.specs.Room.{kept_of, KeptData}
-use Rattle.lt_node.proofs.KeptLemmas.{kept_at}
+use Rattle.lt_node.specs.NodeData.{ask_with_set, ask_below, first_core, sets_in, Marked, Remarked, TellsWaiting, kept_of, KeptData, NodeData, IsNode, state_of, core_at, KnowsNone, KnowsWithin}
+use Rattle.lt_node.specs.Clients.{with_request}
+use Rattle.lt_node.proofs.NodeLemmas.{kept_at, kept_length}
+
+-- what is found among the first sets stays
+pub ask_stays : (n : NodeState) (client k sets : ℕ) (found : ℕ × Ask) → k ≤ sets → ask_below n client k ≡ Some found → ask_below n client sets ≡ Some found
+ask_stays n client zero zero found h e = e
+ask_stays n client (suc k) zero found h e = absurd (omega (arith, h))
+ask_stays n client k (suc sets) found h e = elim (cases_eq k (suc sets)) [
+  | inl same ↦ ap (ask_below n client) (sym same) ∙ e
+  | inr less ↦ ap (λ (o : Option (ℕ × Ask)). option_or o (ask_with_set n client sets)) (ask_stays n client k sets found (omega (arith, h, less)) e)
+]
+
+some_of_two : {X : Type 0} (a b : Option X) → is_some (option_or a b) ≡ (is_some a || is_some b)
+some_of_two None b = refl
+some_of_two (Some x) b = refl
+
+some_with_set : (n : NodeState) (client s : ℕ) (o : Option Ask) → pending_ask (n.set s) client ≡ o → is_some (ask_with_set n client s) ≡ is_some o
+some_with_set n client s None e = rw e refl
+some_with_set n client s (Some ask) e = rw e refl
+
+-- some ask is found exactly where one is unanswered
+pub ask_found : (n : NodeState) (client sets : ℕ) → is_some (ask_below n client sets) ≡ any_below sets (λ s. waits (n.set s) client)
+ask_found n client zero = refl
+ask_found n client (suc s) =
+    some_of_two (ask_below n client s) (ask_with_set n client s)
+    ∙ ap₂ (λ (a b : Bool). a || b) (ask_found n client s)
+    (some_with_set n client s (pending_ask (n.set s) client) refl ∙ find_some (λ (ask : Ask). ask.client == client) (n.set s).pending)
+
+-- The masks tell who waits, set by set.
 
 -- one bit of a mask
 pub bit_set : (mask set : ℕ) → set < 8 → (s : ℕ) → bit_at (bit_or mask (1 * 2 ^ set % 2 ^ 8)) s ≡ (if s == set then bit_if true 1 else bit_at mask s)
@@ -173,3 +202,74 @@ mask_tells script me cores masks client tells count inside = by_search (any_belo
         let none : any_below (length script.sets) test ≡ false =
         none_below (length script.sets) test (λ s below. no_bit (test s) (sym (tells.bits client s inside) ∙ ap (λ (k : ℕ). bit_at k s) same ∙ bit_at-zero s)) in
         false≢true (sym none ∙ e)))
+
+-- Sets that are known to have memory for a move still keep no more than they may.
+
+desk_later : (a b : ℕ) (desk : Option Desk) → a ≤ b → desk_within a desk ≡ true → desk_within b desk ≡ true
+desk_later a b None later h = refl
+desk_later a b (Some desk) later h =
+    let parts = and_parts (nat_le desk.epoch a) (nat_le desk.number a) h in
+    let epoch = leb-true desk.epoch a parts.0 in
+    let number = leb-true desk.number a parts.1 in
+    and_from (nat_le desk.epoch b) (nat_le desk.number b) (le-leb desk.epoch b (omega (arith, epoch, later))) (le-leb desk.number b (omega (arith, number, later)))
+
+-- a later clock allows as much
+within_later : (a b : ℕ) (s : SetState) → a ≤ b → set_within a s ≡ true → set_within b s ≡ true
+within_later a b s later h =
+    let first = and_parts (nat_le (locks_in s.held) 4096) _ h in
+    let second = and_parts (nat_le (length (asks_here s)) 256) (desk_within a s.desk) first.1 in
+    and_from (nat_le (locks_in s.held) 4096) _ first.0
+    (and_from (nat_le (length (asks_here s)) 256) (desk_within b s.desk) second.0 (desk_later a b s.desk later second.1))
+
+pub known_later : (a b : ℕ) (cores : List CoreData) (sent : List (Option ℕ)) → a ≤ b → KnowsWithin a cores sent → KnowsWithin b cores sent
+known_later a b cores sent later known = λ s d number inside is. within_later a b (slice_index_or cores s d).state later (known s d number inside is)
+
+-- a set that a move touched isn't known to
+pub within_forgotten : (clock : ℕ) (cores : List CoreData) (old new : List (Option ℕ)) (k j : ℕ) (core : CoreData) → k < length cores → j ≡ k → length old ≡ length cores → new ≡ slice_set old k None
+    → KnowsWithin clock cores old → KnowsWithin clock (slice_set cores j core) new
+within_forgotten clock cores old new k j core within place count is known =
+    subst (λ (i : ℕ). KnowsWithin clock (slice_set cores i core) new) (sym place)
+    (subst (λ (l : List (Option ℕ)). KnowsWithin clock (slice_set cores k core) l) (sym is) (λ s d number inside. elim (cases_eq s k) [
+      | inl same ↦ λ known_here. absurd (none-some number (sym (get_or-set_at old k s None None same (omega (arith, within, count))) ∙ known_here))
+      | inr other ↦ λ known_here.
+          subst (λ (c : CoreData). set_within clock c.state ≡ true) (sym (get_or-set_other cores k s core d other))
+          (known s d number (omega (arith, inside, length-set cores k core)) (sym (get_or-set_other old k s None None other) ∙ known_here))
+    ]))
+
+pub within_none : (clock sets : ℕ) (cores : List CoreData) (sent : List (Option ℕ)) → KnowsNone sets sent → KnowsWithin clock cores sent
+within_none clock sets cores sent none = λ s d number inside is. absurd (none-some number (sym (none.none s) ∙ is))
+
+each_within : (n : NodeData) → IsNode n → node_within n.script (state_of n) ≡ true → (s : ℕ) → s < length n.cores → set_within n.clock (core_at n s).state ≡ true
+each_within n node h s inside =
+    not-false (set_within n.clock (core_at n s).state)
+    (any_below_none (length n.script.sets) (λ k. not (set_within n.clock ((state_of n).set k)))
+    (not-true _ h) s (omega (arith, inside, node.sets)))
+
+-- where memory is taken, all sets keep no more than they may
+pub within_reserved : (m n : NodeData) (cores : List CoreData) (sent : List (Option ℕ)) → m ≡ n → IsNode m → node_within n.script (state_of n) ≡ true → map kept_of cores ≡ map kept_of m.cores
+    → KnowsWithin m.clock cores sent
+within_reserved m n cores sent same node h kept = λ s d number inside is.
+    let here : set_within m.clock (core_at m s).state ≡ true =
+    each_within m node (subst (λ (n : NodeData). node_within n.script (state_of n) ≡ true) (sym same) h) s (omega (arith, inside, kept_length cores m.cores kept)) in
+    subst (λ (t : SetState). set_within m.clock t ≡ true)
+    (ap (λ (c : CoreData). c.state) (get_or_default m.cores s (first_core m.script m.me s) d (omega (arith, inside, kept_length cores m.cores kept)))
+    ∙ sym (ap (λ (k : KeptData). k.state) (kept_at cores m.cores s d kept)))
+    here
+
+number_known : (known : Option ℕ) → is_some known ≡ true → (number : ℕ) × (known ≡ Some number)
+number_known None is = cc
+number_known (Some number) is = (number, refl)
+
+-- what is known of a set
+pub within_known : (m n : NodeData) (sent : List (Option ℕ)) (s : ℕ) (number : Option ℕ) → m ≡ n → KnowsWithin m.clock m.cores sent → length sent ≡ length m.cores → s < length n.cores
+    → number ≡ slice_index_or sent s number → is_some number ≡ true → true ≡ set_within n.clock (core_at n s).state
+within_known m n sent s number same known count =
+    subst (λ (n : NodeData). s < length n.cores → number ≡ slice_index_or sent s number → is_some number ≡ true → true ≡ set_within n.clock (core_at n s).state) same
+    (λ inside at some.
+    let here = number_known number some in
+    sym (known s (first_core m.script m.me s) here.0 inside (sym (at ∙ get_or_default sent s number None (omega (arith, inside, count))) ∙ here.1)))
+
+-- what the code has in hand is what the node keeps for the set
+pub within_at : (m n : NodeData) (s : ℕ) (core : CoreData) → m ≡ n → s < length n.cores → core ≡ slice_index_or m.cores s core → set_within m.clock core.state ≡ set_within n.clock (core_at n s).state
+within_at m n s core same = subst (λ (n : NodeData). s < length n.cores → core ≡ slice_index_or m.cores s core → set_within m.clock core.state ≡ set_within n.clock (core_at n s).state) same
+    (λ inside at. ap (λ (c : CoreData). set_within m.clock c.state) (at ∙ get_or_default m.cores s core (first_core m.script m.me s) inside))

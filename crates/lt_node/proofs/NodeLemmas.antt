@@ -1,17 +1,23 @@
 -- One set or one client of a node changes.
-use Rattle.std.proofs.Common.{◌≡◌, ◌<◌, Bool, true, ℕ, List, length, inl, inr, refl, sym, ap, subst, arith, ◌∙◌, slice_index_or, slice_set}
+use Rattle.std.proofs.Common.{◌≡◌, ◌<◌, Bool, true, ℕ, List, length, inl, inr, refl, sym, ap, subst, arith, ◌∙◌, slice_index_or, slice_set, ◌≤◌, Option, Some, None, nat_le, IsTrue, length-append, ◌+◌, [], ◌∷◌, map, All, sum_by, eq-eqb, ne_eqb, leb-true, ltb-true, get_or-set_other, length-set, not}
 use Rattle.std.proofs.Math.Path.{fun_ext}
-use Rattle.std.proofs.lemmas.Bool.{cases_eq, eq-eqb, ne_eqb}
-use Rattle.std.proofs.lemmas.List.{get_or-set_other, length-set, get_or_default}
+use Rattle.std.proofs.lemmas.Bool.{cases_eq, and_parts, not-true, not-false}
+use Rattle.std.proofs.lemmas.List.{get_or_default, length-map}
 use Rattle.std.proofs.lemmas.Grind.{get_or-set_at}
-use Rattle.lt_modes.specs.State.{SetState}
-use Rattle.lt_modes.specs.Made.{Made}
+use Rattle.std.proofs.Math.ListN.{get_or-map as map_read}
+use Rattle.std.proofs.Math.Seq.{map-set_same}
+use Rattle.std.proofs.lemmas.List.Sums.{sum_by-cons}
+use Rattle.lt_modes.specs.State.{SetState, Made, Desk}
+use Rattle.lt_modes.specs.Modes.{locks_in}
+use Rattle.lt_modes.specs.Serving.{queue_of}
+use Rattle.lt_modes.specs.Fits.{parked_asks, asks_here}
 use Rattle.lt_lists.specs.Below.{put, any_below}
-use Rattle.lt_lists.proofs.Searches.{any_below_at}
-use Rattle.lt_desk.specs.OutData.{OutData}
-use Rattle.lt_core.specs.CoreData.{CoreData, Does}
-use Rattle.lt_spec.specs.NodeMove.{NodeState, touched}
-use Rattle.lt_node.specs.NodeData.{NodeData, NodeDoes, IsNode, IsCoreOf, state_of, core_at, first_core}
+use Rattle.lt_lists.proofs.Searches.{any_below_at, any_below_none}
+use Rattle.lt_spec.specs.NodeMove.{NodeState, touched, desk_within, set_within, leaves_ask, node_within, leaves_asks}
+use Rattle.lt_desk.specs.DeskData.{OutData}
+use Rattle.lt_core.specs.CoreData.{CoreData, Does, HasRoom, HasMemory, waiting_here, epoch_of, freeze_number_of}
+use Rattle.lt_core.specs.Bound.{most}
+use Rattle.lt_node.specs.NodeData.{NodeData, NodeDoes, IsNode, IsCoreOf, state_of, core_at, first_core, LeavesAsk, RoomToAct, IsReady, SameNode, KeptData, HasFewAsks, kept_of, most_sent}
 
 -- a list written at one place is a function changed at one number
 pub put_read : {X Y : Type 0} (f : X → Y) (xs : List X) (d : ℕ → X) (i : ℕ) (x : X) → i < length xs
@@ -95,3 +101,137 @@ touch_done m n k s rule core new had out same place touch does =
     subst (λ (m : NodeData). NodeDoes (touched (state_of n) s (rule s (core_at n s).state)) n had (record m { cores = slice_set m.cores k new }) out) (sym same)
     (subst (λ (k : ℕ). NodeDoes (touched (state_of n) s (rule s (core_at n s).state)) n had (record n { cores = slice_set n.cores k new }) out) (sym place)
     (touch_does n had out s (rule s (core_at n s).state) new touch.inside now))
+
+-- What the limits of a node give of the premises of its moves.
+
+-- what a set keeps, in numbers
+pub record IsWithin (clock : ℕ) (s : SetState) : Type 0 where
+  pub locks : locks_in s.held ≤ 4096
+  pub asks : waiting_here s ≤ 256
+  pub epoch : epoch_of s.desk ≤ clock
+  pub number : freeze_number_of s.desk ≤ clock
+
+desk_numbers : (clock : ℕ) (desk : Option Desk) → desk_within clock desk ≡ true → (epoch_of desk ≤ clock) × (freeze_number_of desk ≤ clock)
+desk_numbers clock None h = (omega arith, omega arith)
+desk_numbers clock (Some desk) h =
+    let parts = and_parts (nat_le desk.epoch clock) (nat_le desk.number clock) h in
+    (leb-true desk.epoch clock parts.0, leb-true desk.number clock parts.1)
+
+pub set_numbers : (clock : ℕ) (s : SetState) → set_within clock s ≡ true → IsWithin clock s
+set_numbers clock s h =
+    let first = and_parts (nat_le (locks_in s.held) 4096) _ h in
+    let second = and_parts (nat_le (length (asks_here s)) 256) (desk_within clock s.desk) first.1 in
+    let desk = desk_numbers clock s.desk second.1 in
+    record {
+      locks = leb-true (locks_in s.held) 4096 first.0;
+      asks = omega (arith, leb-true (length (asks_here s)) 256 second.0, length-append (parked_asks s) (queue_of s));
+      epoch = desk.0;
+      number = desk.1;
+    }
+
+-- each set of a node within its limits is within them
+pub each_within : (n : NodeData) → IsNode n → IsTrue (node_within n.script (state_of n)) → (s : ℕ) → s < length n.cores → IsWithin n.clock (core_at n s).state
+each_within n node h s inside =
+    set_numbers n.clock (core_at n s).state
+    (not-false (set_within n.clock (core_at n s).state)
+    (any_below_none (length n.script.sets) (λ k. not (set_within n.clock ((state_of n).set k)))
+    (not-true _ h) s (omega (arith, inside, node.sets))))
+
+pub each_leaves_ask : (n : NodeData) → IsNode n → IsTrue (leaves_asks n.script (state_of n)) → (s : ℕ) → s < length n.cores → LeavesAsk (core_at n s)
+each_leaves_ask n node h s inside =
+    ltb-true (length (core_at n s).state.pending) 16
+    (not-false (leaves_ask (core_at n s).state)
+    (any_below_none (length n.script.sets) (λ k. not (leaves_ask ((state_of n).set k)))
+    (not-true _ h) s (omega (arith, inside, node.sets))))
+
+-- with memory there is room for a later move
+pub room_later : (clock now more : ℕ) (core : CoreData) → IsWithin clock core.state → clock < now → HasMemory more core → HasRoom 2 now core
+room_later clock now more core within later memory = record {
+  rows = omega (arith, memory.asks);
+  parked = memory.parked;
+  locks = omega (arith, within.locks, within.asks);
+  epoch = omega (arith, within.epoch, later);
+  number = omega (arith, within.number, later);
+  tells = memory.tells;
+}
+
+-- so a node with room for a command is ready for it
+pub ready_to_act : (n : NodeData) (out : OutData) (now : ℕ) → IsNode n → IsTrue (node_within n.script (state_of n)) → IsTrue (leaves_asks n.script (state_of n))
+    → RoomToAct n out → n.clock < now → IsReady now n.cores out
+ready_to_act n out now node within asks room later = record {
+  rooms = λ s d inside. subst (λ (core : CoreData). HasRoom 2 now core) (get_or_default n.cores s (first_core n.script n.me s) d inside)
+      (room_later n.clock now 0 (core_at n s) (each_within n node within s inside) later
+      (room.cores s (first_core n.script n.me s) inside));
+  asks = λ s d inside. subst LeavesAsk (get_or_default n.cores s (first_core n.script n.me s) d inside) (each_leaves_ask n node asks s inside);
+  send = room.send;
+}
+
+-- Where memory is taken, all else stays.
+
+pub kept_one : (old new : CoreData) → new.state ≡ old.state → (new.node ≡ old.node) × (new.set ≡ old.set) → kept_of new ≡ kept_of old
+kept_one old new state place = λ i. record { node = place.0 i; set = place.1 i; state = state i }
+
+pub kept_set : (cores : List CoreData) (k : ℕ) (core new : CoreData) → core ≡ slice_index_or cores k core → kept_of new ≡ kept_of core → map kept_of (slice_set cores k new) ≡ map kept_of cores
+kept_set cores k core new at same = map-set_same kept_of cores k new core (same ∙ ap kept_of at)
+
+pub kept_at : (xs ys : List CoreData) (k : ℕ) (d : CoreData) → map kept_of xs ≡ map kept_of ys → kept_of (slice_index_or xs k d) ≡ kept_of (slice_index_or ys k d)
+kept_at xs ys k d same = sym (map_read kept_of xs k d) ∙ ap (λ (l : List KeptData). slice_index_or l k (kept_of d)) same ∙ map_read kept_of ys k d
+
+pub kept_length : (xs ys : List CoreData) → map kept_of xs ≡ map kept_of ys → length xs ≡ length ys
+kept_length xs ys same = sym (length-map xs kept_of) ∙ ap (λ (l : List KeptData). length l) same ∙ length-map ys kept_of
+
+pub few_kept : (xs ys : List CoreData) → map kept_of xs ≡ map kept_of ys → All HasFewAsks ys → All HasFewAsks xs
+few_kept xs ys same few k d inside =
+    let states = ap (λ (x : KeptData). x.state) (kept_at xs ys k d same) in
+    subst (λ (s : SetState). waiting_here s ≤ 256) (sym states) (few k d (omega (arith, inside, kept_length xs ys same)))
+
+abbrev pub most_kept : KeptData → ℕ
+most_kept kept = most kept.state + 2
+
+sent_by_kept : (cores : List CoreData) → sum_by most_sent cores ≡ sum_by most_kept (map kept_of cores)
+sent_by_kept [] = refl
+sent_by_kept (core ∷ rest) =
+    sum_by-cons most_sent core rest ∙ ap (λ (k : ℕ). most_sent core + k) (sent_by_kept rest)
+    ∙ sym (sum_by-cons most_kept (kept_of core) (map kept_of rest))
+
+-- so no more is sent
+pub sent_kept : (xs ys : List CoreData) → map kept_of xs ≡ map kept_of ys → sum_by most_sent xs ≡ sum_by most_sent ys
+sent_kept xs ys same = sent_by_kept xs ∙ ap (λ (l : List KeptData). sum_by most_kept l) same ∙ sym (sent_by_kept ys)
+
+-- one more has memory
+pub memory_more : (cores : List CoreData) (k : ℕ) (new : CoreData) → k < length cores → HasMemory 0 new → ((s : ℕ) (d : CoreData) → s < k → HasMemory 0 (slice_index_or cores s d))
+    → (s : ℕ) (d : CoreData) → s < k + 1 → HasMemory 0 (slice_index_or (slice_set cores k new) s d)
+memory_more cores k new inside has before s d below = elim (cases_eq s k) [
+  | inl same ↦ subst (λ (c : CoreData). HasMemory 0 c) (sym (get_or-set_at cores k s new d same inside)) has
+  | inr other ↦ subst (λ (c : CoreData). HasMemory 0 c) (sym (get_or-set_other cores k s new d other)) (before s d (omega (arith, below, other)))
+]
+
+-- it is the same node, still
+pub node_same : (m : NodeData) (cores : List CoreData) → IsNode m → map kept_of cores ≡ map kept_of m.cores → IsNode (record m { cores = cores })
+node_same m cores node same = record {
+  is_script = node.is_script;
+  within = node.within;
+  clients = node.clients;
+  sets = kept_length cores m.cores same ∙ node.sets;
+  places = λ s inside.
+      let place = node.places s (omega (arith, inside, kept_length cores m.cores same)) in
+      let kept = kept_at cores m.cores s (first_core m.script m.me s) same in
+      record { node = ap (λ (x : KeptData). x.node) kept ∙ place.node; set = ap (λ (x : KeptData). x.set) kept ∙ place.set };
+}
+
+pub same_node : (m n : NodeData) (cores : List CoreData) → m ≡ n → map kept_of cores ≡ map kept_of m.cores → SameNode n (record m { cores = cores })
+same_node m n cores same kept =
+    subst (λ (n : NodeData). SameNode n (record m { cores = cores })) same
+    (record {
+      script = refl;
+      me = refl;
+      made = refl;
+      state = ap (λ (f : ℕ → SetState). let s : NodeState = record { clock = m.clock; made = λ c. slice_index_or m.made c 0; set = f } in s)
+          (fun_ext (λ s. ap (λ (x : KeptData). x.state) (kept_at cores m.cores s (first_core m.script m.me s) kept)));
+    })
+
+pub few_asks : (m n : NodeData) → m ≡ n → IsNode m → IsTrue (node_within n.script (state_of n)) → All HasFewAsks m.cores
+few_asks m n same node within =
+    subst (λ (m : NodeData). All HasFewAsks m.cores) (sym same)
+    (λ k d inside. subst (λ (c : CoreData). HasFewAsks c) (get_or_default n.cores k (first_core n.script n.me k) d inside)
+    (each_within n (node_is m n same node) within k inside).asks)

@@ -1,12 +1,10 @@
 -- The clients of a node, in order, and the first of them that can act.
-use Rattle.std.proofs.Common.{◌≡◌, ◌≢◌, ◌+◌, ◌<◌, ◌≤◌, ◌++◌, ◌&&◌, Bool, true, false, ℕ, List, [], ◌∷◌, Some, None, length, drop, arith, sym, ap, subst, ◌∙◌, inl, inr, slice_index_or}
-use Rattle.std.specs.Prelude.{not}
-use Rattle.std.proofs.lemmas.Bool.{cases_eq, cases_lt, eq-eqb, ne_eqb}
+use Rattle.std.proofs.Common.{◌≡◌, ◌≢◌, ◌+◌, ◌<◌, ◌≤◌, ◌++◌, ◌&&◌, Bool, true, false, ℕ, List, [], ◌∷◌, Some, None, length, drop, arith, sym, ap, subst, ◌∙◌, inl, inr, slice_index_or, not, eq-eqb, ne_eqb}
+use Rattle.std.proofs.lemmas.Bool.{cases_eq, cases_lt}
 use Rattle.std.proofs.lemmas.List.{drop_more, drop_all}
 use Rattle.lt_modes.specs.Script.{ScriptData, ClientData, home_at}
-use Rattle.lt_spec.specs.Families.{home}
-use Rattle.lt_spec.specs.NodeMove.{NodeState, node_waits, has_command}
-use Rattle.lt_node.specs.Running.{AreOwn, NoneOwn, IsLeast, is_runnable_here}
+use Rattle.lt_spec.specs.NodeMove.{home, NodeState, node_waits, has_command}
+use Rattle.lt_node.specs.Clients.{AreOwn, NoneOwn, IsLeast, is_runnable_here}
 
 -- the next number isn't that of a client of the node
 pub own_passed : (clients : List ClientData) (q from to : ℕ) (own : List ℕ) → AreOwn clients q from to own → home_at clients to ≢ q → AreOwn clients q from (to + 1) own

@@ -1,14 +1,13 @@
 -- What a node knows of its sets, after a move and after it made room.
-use Rattle.std.proofs.Common.{◌≡◌, ◌+◌, ◌<◌, ◌≤◌, ℕ, List, Option, Some, None, length, map, arith, refl, sym, ap, subst, ◌∙◌, inl, inr, slice_index_or, slice_set, drop, sum_by}
+use Rattle.std.proofs.Common.{◌≡◌, ◌+◌, ◌<◌, ◌≤◌, ℕ, List, Option, Some, None, length, map, arith, refl, sym, ap, subst, ◌∙◌, inl, inr, slice_index_or, slice_set, drop, sum_by, get_or-set_other, length-set, drop-set-lt}
 use Rattle.std.proofs.lemmas.Bool.{cases_eq}
 use Rattle.std.proofs.lemmas.Grind.{get_or-set_at}
 use Rattle.std.proofs.lemmas.Option.{none-some, same_Some}
-use Rattle.std.proofs.lemmas.List.{get_or-set_other, get_or_default, length-set, drop-set-lt, drop_all}
+use Rattle.std.proofs.lemmas.List.{get_or_default, drop_all}
 use Rattle.lt_core.specs.CoreData.{CoreData}
-use Rattle.lt_node.specs.Ready.{IsReadySet, IsReadyIfKnown, KnowsReady, KnowsNone}
-use Rattle.lt_node.specs.Room.{KeptData, kept_of, most_sent}
+use Rattle.lt_node.specs.NodeData.{IsReadySet, IsReadyIfKnown, KnowsReady, KnowsNone, KeptData, kept_of, most_sent}
 use Rattle.lt_node.proofs.FamilyLemmas.{sum_at}
-use Rattle.lt_node.proofs.KeptLemmas.{most_kept, sent_kept}
+use Rattle.lt_node.proofs.NodeLemmas.{most_kept, sent_kept}
 
 -- what isn't known tells nothing
 nothing_told : (core : CoreData) (known : Option ℕ) → known ≡ None → IsReadyIfKnown core known

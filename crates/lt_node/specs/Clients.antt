@@ -1,10 +1,67 @@
--- What a node keeps of the clients of the script.
-use Rattle.std.specs.Prelude.{◌≡◌, ◌<◌, ℕ, ◌+◌, ◌==◌, List, [], ◌∷◌, ◌++◌, length, map, take, filter_map, slice_index_or, slice_set, if◌then◌else◌}
-use Rattle.lt_modes.specs.declared.mode.Mode.TheVariants.{IntentionRead}
+-- What a client is told at once.
+use Rattle.std.specs.Prelude.{ℕ, Option, Some, None, if◌then◌else◌, ◌≡◌, ◌≢◌, ◌<◌, ◌≤◌, ◌+◌, ◌==◌, ◌&&◌, Bool, true, false, not, List, [], ◌∷◌, ◌++◌, length, map, take, filter_map, slice_index_or, slice_set}
 use Rattle.lt_modes.specs.declared.command.Command.{Command}
+use Rattle.lt_modes.specs.declared.command.Command.TheVariants as commands
+use Rattle.lt_modes.specs.Script.{ScriptData, ClientData, home_at}
+use Rattle.lt_modes.specs.declared.mode.Mode.TheVariants.{IntentionRead}
 use Rattle.lt_modes.specs.declared.command.Command.TheVariants.{Unlock}
-use Rattle.lt_modes.specs.Script.{ScriptData, ClientData}
-use Rattle.lt_spec.specs.Families.{command_if, commands_of, home}
+use Rattle.lt_spec.specs.NodeMove.{related, NodeState, node_waits, next_command, locks_in_sets, home, has_command, command_if, commands_of}
+use Rattle.lt_core.specs.declared.set_command.SetCommand.TheVariants as set_commands
+use Rattle.lt_core.specs.declared.set_command.Answer.{Answer}
+use Rattle.lt_core.specs.declared.set_command.Answer.TheVariants.{Dropped, Busy}
+use Rattle.lt_core.specs.CoreData.{answer_of}
+
+-- the answer to the command
+abbrev pub answer_to : ScriptData → ℕ → ℕ → NodeState → Command → Answer
+answer_to script q client n (commands.Lock s mode) = answer_of q client (set_commands.Lock mode) (n.set s)
+answer_to script q client n (commands.Try s mode) = answer_of q client (set_commands.Try mode) (n.set s)
+answer_to script q client n (commands.Unlock s mode) = answer_of q client (set_commands.Unlock mode) (n.set s)
+answer_to script q client n (commands.Change s gives_up mode) = answer_of q client (set_commands.Change gives_up mode) (n.set s)
+answer_to script q client n (commands.DropAll other s) =
+    if node_waits script n other then Busy else Dropped (locks_in_sets n other (related script s))
+
+abbrev pub answer_if : ScriptData → ℕ → ℕ → NodeState → Option Command → Option Answer
+answer_if script q client n None = None
+answer_if script q client n (Some command) = Some (answer_to script q client n command)
+
+-- the answer to the client's next command at node q
+abbrev pub answer_of_act : ScriptData → ℕ → ℕ → NodeState → Option Answer
+answer_of_act script q client n = answer_if script q client n (next_command script n client)
+
+-- The clients of a node, and which of them can act.
+
+-- the client is one of node q; it doesn't wait, and has a command left
+abbrev pub is_runnable_here : ScriptData → ℕ → NodeState → ℕ → Bool
+is_runnable_here script q n client = home script client == q && (not (node_waits script n client) && has_command script n client)
+
+-- the least number below n that passes, where one does
+abbrev pub IsLeast : ℕ → (ℕ → Bool) → Option ℕ → Type 0
+IsLeast n test None = (k : ℕ) → k < n → test k ≡ false
+IsLeast n test (Some least) = (least < n) × (test least ≡ true) × ((k : ℕ) → k < least → test k ≡ false)
+
+-- no client of node q is among those from a number to another
+abbrev pub NoneOwn : List ClientData → ℕ → ℕ → ℕ → Type 0
+NoneOwn clients q from to = (k : ℕ) → from ≤ k → k < to → home_at clients k ≢ q
+
+-- the first of them is this one
+pub record IsFirstOwn (clients : List ClientData) (q from to client : ℕ) : Type 0 where
+  pub above : from ≤ client
+  pub below : client < to
+  pub here : home_at clients client ≡ q
+  pub none : NoneOwn clients q from client
+
+-- they are these, in order
+abbrev pub AreOwn : List ClientData → ℕ → ℕ → ℕ → List ℕ → Type 0
+AreOwn clients q from to [] = NoneOwn clients q from to
+AreOwn clients q from to (client ∷ rest) = IsFirstOwn clients q from to client × AreOwn clients q (client + 1) to rest
+
+-- A command more.
+
+-- the script with one command more, the last one of its client
+abbrev pub with_request : ScriptData → ℕ → Command → ScriptData
+with_request script client command = record script { commands = script.commands ++ (client, command) ∷ [] }
+
+-- What a node keeps of the clients of the script.
 
 -- the commands of a client, and how many of them it has made
 pub record Progress : Type 0 where

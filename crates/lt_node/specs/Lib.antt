@@ -1,10 +1,2 @@
 pub mod NodeData
-pub mod Room
-pub mod Answers
 pub mod Clients
-pub mod Family
-pub mod Asks
-pub mod Appending
-pub mod Marks
-pub mod Running
-pub mod Ready

@@ -1,11 +1,39 @@
--- What contracts see of a node, and what a move of it does.
-use Rattle.std.specs.Prelude.{◌≡◌, ◌<◌, ◌++◌, ℕ, List, length, slice_index_or}
+-- Which ask of a client a node finds first.
+use Rattle.std.specs.Prelude.{ℕ, zero, suc, Option, None, length, option_map, ◌≡◌, ◌<◌, ◌++◌, List, slice_index_or, Some, ◌+◌, ◌≤◌, All, sum_by, ◌==◌, ◌&&◌, Bool, true, false, if◌then◌else◌, IsTrue}
+use Rattle.std.specs.Option.{option_or}
+use Rattle.std.specs.Int.{bit_at}
+use Rattle.lt_modes.specs.declared.ask.Ask.{Ask}
 use Rattle.lt_modes.specs.Script.{ScriptData}
-use Rattle.lt_modes.specs.State.{first_state}
-use Rattle.lt_desk.specs.OutData.{OutData}
-use Rattle.lt_core.specs.CoreData.{CoreData}
+use Rattle.lt_modes.specs.Waiting.{pending_ask}
+use Rattle.lt_modes.specs.State.{first_state, SetState, Made}
+use Rattle.lt_modes.specs.declared.stamp.Stamp.{Stamp}
+use Rattle.lt_modes.specs.SetMove.{finish, drop}
+use Rattle.lt_modes.specs.Modes.{locks_in}
+use Rattle.lt_modes.specs.Fits.{has_client}
+use Rattle.lt_modes.specs.FiveModes.{bit_if}
+use Rattle.lt_modes.specs.Serving.{waits}
+use Rattle.lt_spec.specs.NodeMove.{NodeState, NodeMade, set_within}
 use Rattle.lt_spec.specs.Script.{IsScript}
-use Rattle.lt_spec.specs.NodeMove.{NodeState, NodeMade}
+use Rattle.lt_held.specs.HeldData.{most_locks}
+use Rattle.lt_desk.specs.DeskData.{OutData}
+use Rattle.lt_desk.specs.declared.letter.Letter.{Letter}
+use Rattle.lt_desk.specs.LetterSeen.{body_seen, asks_in, RoomIn}
+use Rattle.lt_core.specs.CoreData.{CoreData, HasMemory, HasRoom, waiting_here}
+use Rattle.lt_core.specs.Bound.{RoomToSend, most, brought}
+
+abbrev pub ask_with_set : NodeState → ℕ → ℕ → Option (ℕ × Ask)
+ask_with_set n client s = option_map (λ (ask : Ask). (s, ask)) (pending_ask (n.set s) client)
+
+-- the client's unanswered ask in the first of so many sets that has one, with that set
+abbrev pub ask_below : NodeState → ℕ → ℕ → Option (ℕ × Ask)
+ask_below n client zero = None
+ask_below n client (suc s) = option_or (ask_below n client s) (ask_with_set n client s)
+
+-- the client's unanswered ask in the first set that has one, with that set
+abbrev pub first_ask : ScriptData → NodeState → ℕ → Option (ℕ × Ask)
+first_ask script n client = ask_below n client (length script.sets)
+
+-- What contracts see of a node, and what a move of it does.
 
 -- the script, the node's number and clock, how many commands each client has made here, and its sets
 pub record NodeData : Type 0 where
@@ -69,3 +97,118 @@ pub record IsNode (n : NodeData) : Type 0 where
   pub clients : length n.made ≡ length n.script.clients
   pub sets : length n.cores ≡ length n.script.sets
   pub places : (s : ℕ) → s < length n.cores → IsCoreOf n.me s (core_at n s)
+
+-- The end of a move in all sets of a family.
+
+-- the state of each set
+abbrev pub sets_in : ScriptData → ℕ → List CoreData → ℕ → SetState
+sets_in script me cores s = (slice_index_or cores s (first_core script me s)).state
+
+-- the node with these sets
+abbrev pub with_sets : ScriptData → ℕ → List CoreData → NodeState → NodeState
+with_sets script me cores n = record n { set = sets_in script me cores }
+
+-- the end of a move in a set; where a client is named, all its locks go first
+abbrev pub ending : Option ℕ → Stamp → ℕ → SetState → Made
+ending None stamp = λ s. finish s stamp
+ending (Some client) stamp = λ s. drop s stamp client
+
+-- the sets after a move, and what they sent out, are what the rule makes of a node with the sets before
+pub record SetsDo (script : ScriptData) (me : ℕ) (rule : NodeState → NodeMade) (old : List CoreData) (had : OutData) (new : List CoreData) (out : OutData) (n : NodeState) : Type 0 where
+  pub node : with_sets script me new n ≡ (rule (with_sets script me old n)).node
+  pub sent : out ≡ with_sent (rule (with_sets script me old n)) had
+
+-- Room for one move of a node.
+
+-- so many letters at most, and so many event lines, come from a set in one move
+abbrev pub most_sent : CoreData → ℕ
+most_sent core = most core.state + 2
+
+-- room for one command, which may touch all sets and has a line of its own
+pub record RoomToAct (n : NodeData) (out : OutData) : Type 0 where
+  pub cores : All (HasMemory 0) n.cores
+  pub send : RoomToSend (sum_by most_sent n.cores + 1) out
+
+-- room for the letter, in its set and in the desk that it brings
+pub record RoomForLetter (core : CoreData) (letter : Letter) (out : OutData) : Type 0 where
+  pub memory : HasMemory (asks_in letter.body) core
+  pub desk : RoomIn (waiting_here core.state + asks_in letter.body + 2) letter.body
+  pub send : RoomToSend (most_sent core + brought (body_seen letter.body)) out
+
+-- the same at the node
+abbrev pub RoomToTake : NodeData → Letter → OutData → Type 0
+RoomToTake n letter out = RoomForLetter (core_at n letter.set) letter out
+
+-- no more asks wait in the set than a script has clients
+abbrev pub HasFewAsks : CoreData → Type 0
+HasFewAsks core = waiting_here core.state ≤ 256
+
+-- what stays of a set where memory is taken
+pub record KeptData : Type 0 where
+  pub node : ℕ
+  pub set : ℕ
+  pub state : SetState
+
+abbrev pub kept_of : CoreData → KeptData
+kept_of core = record { node = core.node; set = core.set; state = core.state }
+
+-- one client more may wait in the set
+abbrev pub LeavesAsk : CoreData → Type 0
+LeavesAsk core = length core.state.pending < 16
+
+-- no more locks are held than one client may hold of one mode
+abbrev pub HasFewLocks : CoreData → Type 0
+HasFewLocks core = locks_in core.state.held ≤ most_locks
+
+-- the sets are ready for a move with this clock
+pub record IsReady (clock : ℕ) (cores : List CoreData) (out : OutData) : Type 0 where
+  pub rooms : All (HasRoom 2 clock) cores
+  pub asks : All LeavesAsk cores
+  pub send : RoomToSend (sum_by most_sent cores + 1) out
+
+-- Who waits in which sets of a node: a mask for each client.
+
+-- the set's bit of these asks' clients tells this now, and nothing else changed
+pub record Marked (set : ℕ) (waiting : Bool) (asks : List Ask) (old new : List ℕ) : Type 0 where
+  pub count : length new ≡ length old
+  pub bits : (client s : ℕ) → client < length old → bit_at (slice_index_or new client 0) s
+      ≡ (if s == set && has_client client asks then bit_if waiting 1 else bit_at (slice_index_or old client 0) s)
+
+-- the bits of those who waited in the set are gone, and those who wait there now have it
+pub record Remarked (set : ℕ) (before after : SetState) (old new : List ℕ) : Type 0 where
+  pub between : List ℕ
+  pub gone : Marked set false before.pending old between
+  pub here : Marked set true after.pending between new
+
+-- bit s of a client's mask is set where an ask of the client is unanswered in set s
+pub record TellsWaiting (script : ScriptData) (me : ℕ) (cores : List CoreData) (masks : List ℕ) : Type 0 where
+  pub count : length masks ≡ length script.clients
+  pub bits : (client s : ℕ) → client < length masks
+      → bit_at (slice_index_or masks client 0) s ≡ bit_if (waits (sets_in script me cores s) client) 1
+
+-- What a node knows of its sets from one move to the next: a number for each set, where it is known.
+
+-- the set has memory for one move, and may send so much in it
+pub record IsReadySet (core : CoreData) (sent : ℕ) : Type 0 where
+  pub memory : HasMemory 0 core
+  pub most : sent ≡ most_sent core
+  pub few : sent ≤ 323
+
+-- so it is where the number is known
+abbrev pub IsReadyIfKnown : CoreData → Option ℕ → Type 0
+IsReadyIfKnown core known = (sent : ℕ) → known ≡ Some sent → IsReadySet core sent
+
+-- the number of each set tells this
+pub record KnowsReady (cores : List CoreData) (sent : List (Option ℕ)) : Type 0 where
+  pub count : length sent ≡ length cores
+  pub sets : (s : ℕ) (d : CoreData) → s < length cores → IsReadyIfKnown (slice_index_or cores s d) (slice_index_or sent s None)
+
+-- no number is known
+pub record KnowsNone (sets : ℕ) (sent : List (Option ℕ)) : Type 0 where
+  pub count : length sent ≡ sets
+  pub none : (s : ℕ) → slice_index_or sent s None ≡ None
+
+-- and what such a set keeps leaves room for a move
+abbrev pub KnowsWithin : ℕ → List CoreData → List (Option ℕ) → Type 0
+KnowsWithin clock cores sent =
+    (s : ℕ) (d : CoreData) (number : ℕ) → s < length cores → slice_index_or sent s None ≡ Some number → IsTrue (set_within clock (slice_index_or cores s d).state)

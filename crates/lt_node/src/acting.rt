@@ -1,13 +1,10 @@
 ghost use Rattle.std.specs.Prelude.{◌≡◌, ◌+◌, ◌<◌, ◌&&◌, ◌^◌, not, length, Some, IsTrue};
-ghost use Rattle.lt_core.specs.SetCommands.{answer_of, move_of};
-ghost use Rattle.lt_spec.specs.Limits.{node_within, leaves_asks};
+ghost use Rattle.lt_core.specs.CoreData.{answer_of, move_of};
+ghost use Rattle.lt_spec.specs.NodeMove.{node_within, leaves_asks, home, node_waits, has_command, next_command, node_act, one_made, at_clock, obey, touched};
 ghost use Rattle.lt_spec.specs.Script.{HasTargets};
-ghost use Rattle.lt_spec.specs.Families.{home};
-ghost use Rattle.lt_spec.specs.NodeMove.{node_waits, has_command, next_command, node_act, one_made, at_clock, obey, touched};
 ghost use Rattle.lt_modes.specs.declared.command.Command.TheVariants as commands;
-ghost use Rattle.lt_node.specs.NodeData.{NodeDoes, IsNode, state_of};
-ghost use Rattle.lt_node.specs.Answers.{answer_of_act, answer_to};
-ghost use Rattle.lt_node.specs.Room.{RoomToAct, IsReady};
+ghost use Rattle.lt_node.specs.NodeData.{NodeDoes, IsNode, state_of, RoomToAct, IsReady};
+ghost use Rattle.lt_node.specs.Clients.{answer_of_act, answer_to};
 
 use crate::family;
 use crate::marks::mark;
@@ -119,7 +116,7 @@ impl Node {
     }
 
     // Drops all locks of a client in a family, unless it waits; the answer stands before what the sets send.
-    #[tactic(auto, using(crate::proofs::ReadyLemmas::all_forgotten, crate::proofs::StillWithin::within_none))]
+    #[tactic(auto, using(crate::proofs::ReadyLemmas::all_forgotten, crate::proofs::MarkLemmas::within_none))]
     fn drop_all(&mut self, client: u16, other: u16, set: u8, stamp: Stamp, out: &mut Out) -> Answer
         requires node { stamp.node ≡ self.old.me }
         requires set { set < length self.old.script.sets }

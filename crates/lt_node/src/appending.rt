@@ -2,9 +2,8 @@
 ghost use Rattle.std.specs.Prelude.{◌≡◌, ◌<◌, length, OnOk, OnErr};
 ghost use Rattle.lt_spec.specs.Script.{HasTargets, HasModesOf};
 ghost use Rattle.lt_spec.specs.declared.limits.TheConstants.{MAX_COMMANDS};
-ghost use Rattle.lt_spec.specs.Families.{home};
-ghost use Rattle.lt_node.specs.Appending.{with_request};
-ghost use Rattle.lt_node.specs.Clients.{with_command};
+ghost use Rattle.lt_spec.specs.NodeMove.{home};
+ghost use Rattle.lt_node.specs.Clients.{with_request, with_command};
 
 use crate::client::Client;
 use crate::node::Node;

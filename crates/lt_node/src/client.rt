@@ -1,6 +1,6 @@
 ghost use Rattle.std.specs.Prelude.{◌≡◌, ◌<◌, ◌+◌, ◌==◌, ◌^◌, [], ℕ, length, nat_lt, IfOk, OnOk, slice_index_or, if◌then◌else◌};
 ghost use Rattle.lt_spec.specs.Script.{IsScript};
-ghost use Rattle.lt_spec.specs.Families.{commands_of, home};
+ghost use Rattle.lt_spec.specs.NodeMove.{commands_of, home};
 ghost use Rattle.lt_node.specs.Clients.{HaveFirst, homes_in, with_own_request, progress_of, no_progress, next_of, one_command_more, with_command};
 
 use lt_modes::Command;

@@ -1,12 +1,8 @@
 ghost use Rattle.std.specs.Prelude.{◌≡◌, ◌+◌, ◌≤◌, ◌<◌, ℕ, All, length, slice_index_or, sum_by};
 ghost use Rattle.lt_core.specs.Bound.{RoomToSend};
 ghost use Rattle.lt_core.specs.CoreData.{Does, HasRoom};
-ghost use Rattle.lt_spec.specs.Families.{related};
-ghost use Rattle.lt_spec.specs.NodeMove.{NodeState, each_touched, locks_in_sets};
-ghost use Rattle.lt_node.specs.NodeData.{IsCoreOf, first_core};
-ghost use Rattle.lt_node.specs.Family.{SetsDo, ending, with_sets};
-ghost use Rattle.lt_node.specs.Marks.{TellsWaiting, Remarked};
-ghost use Rattle.lt_node.specs.Room.{HasFewLocks, most_sent};
+ghost use Rattle.lt_spec.specs.NodeMove.{related, NodeState, each_touched, locks_in_sets};
+ghost use Rattle.lt_node.specs.NodeData.{IsCoreOf, first_core, SetsDo, ending, with_sets, TellsWaiting, Remarked, HasFewLocks, most_sent};
 
 use crate::marks::mark;
 use lt_core::{Answer, Core, SetCommand};

@@ -1,5 +1,5 @@
 ghost use Rattle.std.specs.Prelude.{◌≡◌, ◌<◌, length};
-ghost use Rattle.lt_spec.specs.Limits.{set_within, node_within, leaves_ask, leaves_asks};
+ghost use Rattle.lt_spec.specs.NodeMove.{set_within, node_within, leaves_ask, leaves_asks};
 ghost use Rattle.lt_node.specs.NodeData.{core_at, state_of};
 
 use crate::node::Node;

@@ -1,8 +1,8 @@
 // Who waits in which sets: a mask for each client.
 ghost use Rattle.std.specs.Prelude.{◌≡◌, ◌<◌, ◌==◌, ◌&&◌, ℕ, length, slice_index_or, IfOk, if◌then◌else◌};
 ghost use Rattle.std.specs.Int.{bit_at};
-ghost use Rattle.lt_modes.specs.Masks.{bit_if};
-ghost use Rattle.lt_node.specs.Marks.{Marked};
+ghost use Rattle.lt_modes.specs.FiveModes.{bit_if};
+ghost use Rattle.lt_node.specs.NodeData.{Marked};
 
 use lt_modes::Ask;
 use lt_script::Script;

@@ -1,9 +1,8 @@
 ghost use Rattle.std.specs.Prelude.{◌≡◌, ◌<◌, ◌+◌, ◌&&◌, ◌^◌, ℕ, not, length, IfOk, slice_index_or};
 ghost use Rattle.lt_modes.specs.Fits.{fits, numbers_of};
 ghost use Rattle.lt_desk.specs.LetterSeen.{letter_seen};
-ghost use Rattle.lt_core.specs.Tests.{rule_numbers as numbers_seen};
-ghost use Rattle.lt_spec.specs.Families.{home};
-ghost use Rattle.lt_spec.specs.NodeMove.{node_waits, has_command, act_stamp, take_stamp};
+ghost use Rattle.lt_core.specs.Steps.{rule_numbers as numbers_seen};
+ghost use Rattle.lt_spec.specs.NodeMove.{home, node_waits, has_command, act_stamp, take_stamp};
 ghost use Rattle.lt_spec.specs.World.{start};
 ghost use Rattle.lt_node.specs.NodeData.{IsNode, IsCoreOf, state_of, first_core};
 
@@ -39,11 +38,8 @@ pub struct Node {
 
 impl Model for Node {
     ghost use Rattle.std.specs.Prelude.{length, map};
-    ghost use Rattle.lt_node.specs.NodeData.{NodeData, IsNode};
-    ghost use Rattle.lt_node.specs.Clients.{progress_made, KnowsClients};
-    ghost use Rattle.lt_node.specs.Marks.{TellsWaiting};
-    ghost use Rattle.lt_node.specs.Running.{AreOwn};
-    ghost use Rattle.lt_node.specs.Ready.{KnowsReady, KnowsWithin};
+    ghost use Rattle.lt_node.specs.NodeData.{NodeData, IsNode, TellsWaiting, KnowsReady, KnowsWithin};
+    ghost use Rattle.lt_node.specs.Clients.{progress_made, KnowsClients, AreOwn};
 
     ghost Value = { NodeData };
 

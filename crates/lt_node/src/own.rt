@@ -1,7 +1,7 @@
 // The clients of a node, and the first of them that can act.
 ghost use Rattle.std.specs.Prelude.{◌<◌, ◌+◌, length, IfOk, OnOk};
 ghost use Rattle.lt_node.specs.NodeData.{state_of};
-ghost use Rattle.lt_node.specs.Running.{AreOwn, IsLeast, is_runnable_here};
+ghost use Rattle.lt_node.specs.Clients.{AreOwn, IsLeast, is_runnable_here};
 
 use crate::node::Node;
 use lt_script::{MAX_CLIENTS_OF_NODE, Script};

@@ -1,8 +1,7 @@
 // Which sets have memory for a move, and how much they may send in it: a number for each set, where it is known.
 ghost use Rattle.std.specs.Prelude.{◌≡◌, ◌+◌, ◌≤◌, ◌<◌, ◌^◌, All, IfOk, IsOk, None, OnErr, OnOk, length, map, slice_set, sum_by};
 ghost use Rattle.lt_core.specs.CoreData.{HasMemory};
-ghost use Rattle.lt_node.specs.Ready.{IsReadySet, IsReadyIfKnown, KnowsNone, KnowsReady};
-ghost use Rattle.lt_node.specs.Room.{HasFewAsks, kept_of, most_sent};
+ghost use Rattle.lt_node.specs.NodeData.{IsReadySet, IsReadyIfKnown, KnowsNone, KnowsReady, HasFewAsks, kept_of, most_sent};
 
 use lt_core::Core;
 use lt_script::Script;

@@ -1,11 +1,9 @@
 ghost use Rattle.std.specs.Prelude.{◌≡◌, ◌+◌, ◌≤◌, ◌<◌, ◌^◌, IsOk, IsTrue, OnOk};
 ghost use Rattle.lt_modes.specs.Fits.{fits, numbers_of};
-ghost use Rattle.lt_desk.specs.LetterSeen.{letter_seen, body_seen};
-ghost use Rattle.lt_desk.specs.Hands.{asks_in};
+ghost use Rattle.lt_desk.specs.LetterSeen.{letter_seen, body_seen, asks_in};
 ghost use Rattle.lt_core.specs.Bound.{brought};
-ghost use Rattle.lt_spec.specs.Limits.{node_within};
-ghost use Rattle.lt_node.specs.NodeData.{SameNode, state_of};
-ghost use Rattle.lt_node.specs.Room.{RoomToAct, RoomToTake, RoomForLetter, HasFewAsks, kept_of};
+ghost use Rattle.lt_spec.specs.NodeMove.{node_within};
+ghost use Rattle.lt_node.specs.NodeData.{SameNode, state_of, RoomToAct, RoomToTake, RoomForLetter, HasFewAsks, kept_of};
 
 use crate::node::Node;
 use crate::ready::{forget, reserve_each};

@@ -1,10 +1,8 @@
 ghost use Rattle.std.specs.Prelude.{◌+◌, ◌<◌, ◌^◌, IsTrue};
 ghost use Rattle.lt_modes.specs.Fits.{fits, numbers_of};
 ghost use Rattle.lt_desk.specs.LetterSeen.{letter_seen};
-ghost use Rattle.lt_spec.specs.Limits.{node_within};
-ghost use Rattle.lt_spec.specs.NodeMove.{node_take};
-ghost use Rattle.lt_node.specs.NodeData.{NodeDoes, state_of};
-ghost use Rattle.lt_node.specs.Room.{RoomToTake};
+ghost use Rattle.lt_spec.specs.NodeMove.{node_within, node_take};
+ghost use Rattle.lt_node.specs.NodeData.{NodeDoes, state_of, RoomToTake};
 
 use crate::marks::mark;
 use crate::node::Node;

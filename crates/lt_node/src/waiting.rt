@@ -1,9 +1,8 @@
 ghost use Rattle.std.specs.Prelude.{◌≡◌, ◌<◌, is_some, length};
-ghost use Rattle.lt_modes.specs.Held.{count_of};
+ghost use Rattle.lt_modes.specs.Modes.{count_of};
 ghost use Rattle.lt_modes.specs.Waiting.{pending_ask, stands_before, parked_behind};
 ghost use Rattle.lt_spec.specs.NodeMove.{node_waits};
-ghost use Rattle.lt_node.specs.Asks.{first_ask};
-ghost use Rattle.lt_node.specs.NodeData.{core_at, state_of};
+ghost use Rattle.lt_node.specs.NodeData.{first_ask, core_at, state_of};
 
 use crate::node::Node;
 use lt_core::Core;

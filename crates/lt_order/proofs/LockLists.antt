@@ -1,14 +1,13 @@
 -- Locks as one mode at most for each set, through what a command does.
-use Rattle.std.proofs.Common.{◌≡◌, ℕ, zero, suc, ◌+◌, ◌<◌, ◌≤◌, List, [], ◌∷◌, ◌++◌, length, Option, Some, None, Bool, true, false, refl, sym, ap, arith, ◌∙◌, take, drop, ◌-◌}
-use Rattle.std.specs.Prelude.{◌==◌, ◌&&◌, not, nat_lt, cond, if◌then◌else◌, filter, is_none, slice_index_or, slice_set}
+use Rattle.std.proofs.Common.{◌≡◌, ℕ, zero, suc, ◌+◌, ◌<◌, ◌≤◌, List, [], ◌∷◌, ◌++◌, length, Option, Some, None, Bool, true, false, refl, sym, ap, arith, ◌∙◌, take, drop, ◌-◌, ◌==◌, ◌&&◌, not, nat_lt, cond, if◌then◌else◌, filter, is_none, slice_index_or, slice_set, eq-eqb, ne_eqb, lt-ltb, le-ltb, ltb-true, ltb-false}
 use Rattle.std.specs.List.{list_all, position_or_len}
-use Rattle.std.proofs.lemmas.Bool.{and_left, and_right, eq-eqb, ne_eqb, lt-ltb, le-ltb, ltb-true, ltb-false, false≢true}
+use Rattle.std.proofs.lemmas.Bool.{and_left, and_right, false≢true}
 use Rattle.lt_modes.specs.declared.mode.Mode.{Mode}
 use Rattle.lt_modes.specs.Modes.{same_mode}
 use Rattle.lt_modes.specs.Script.{ScriptData}
-use Rattle.lt_spec.specs.Families.{is_related}
+use Rattle.lt_spec.specs.NodeMove.{is_related}
 use Rattle.lt_spec.specs.Holdings.{Holding, holding, same_holding, without_holding, without_one, is_dropped}
-use Rattle.lt_spec.specs.Ordered.{are_below, holds_none}
+use Rattle.lt_spec.specs.Script.{are_below, holds_none}
 use Rattle.lt_order.specs.Locks.{locks_from, is_mode}
 
 -- locks from set s on are below no smaller bound, unless they are none

@@ -1,13 +1,12 @@
 -- A client's commands in order, one request of the script after the other.
-use Rattle.std.proofs.Common.{◌≡◌, ℕ, zero, suc, ◌+◌, ◌<◌, List, [], ◌∷◌, length, Option, Some, None, Bool, true, false, refl, sym, ap, arith, ◌∙◌, drop}
-use Rattle.std.specs.Prelude.{◌==◌, ◌&&◌, filter_map, is_some, not, slice_index_or, if◌then◌else◌}
+use Rattle.std.proofs.Common.{◌≡◌, ℕ, zero, suc, ◌+◌, ◌<◌, List, [], ◌∷◌, length, Option, Some, None, Bool, true, false, refl, sym, ap, arith, ◌∙◌, drop, ◌==◌, ◌&&◌, filter_map, is_some, not, slice_index_or, if◌then◌else◌}
 use Rattle.std.specs.List.{cons_option}
 use Rattle.std.proofs.lemmas.Bool.{false≢true}
 use Rattle.lt_modes.specs.declared.command.Command.{Command}
 use Rattle.lt_modes.specs.Script.{ScriptData}
-use Rattle.lt_spec.specs.Families.{command_if}
+use Rattle.lt_spec.specs.NodeMove.{command_if}
 use Rattle.lt_spec.specs.Holdings.{Holding}
-use Rattle.lt_spec.specs.Ordered.{keeps_order, may_hold_after, is_orderly_from}
+use Rattle.lt_spec.specs.Script.{keeps_order, may_hold_after, is_orderly_from}
 
 drop_first : {X : Type 0} (i : ℕ) (xs : List X) (d : X) → i < length xs → drop i xs ≡ slice_index_or xs i d ∷ drop (i + 1) xs
 drop_first i [] d h = absurd (omega (arith, h))

@@ -1,8 +1,8 @@
 ghost use Rattle.std.specs.Prelude.{◌≡◌, ◌<◌, ◌++◌, ◌∷◌, [], ℕ, not, filter, is_none, IsTrue};
 ghost use Rattle.std.specs.List.{list_all};
-ghost use Rattle.lt_spec.specs.Families.{family};
+ghost use Rattle.lt_spec.specs.NodeMove.{family};
 ghost use Rattle.lt_spec.specs.Holdings.{Holding, holding, without_one, is_dropped};
-ghost use Rattle.lt_spec.specs.Ordered.{are_below, holds_none, keeps_order, may_hold_after};
+ghost use Rattle.lt_spec.specs.Script.{are_below, holds_none, keeps_order, may_hold_after};
 ghost use Rattle.lt_order.specs.Locks.{locks_for, set_named, is_mode};
 
 use lt_modes::{Command, Mode};

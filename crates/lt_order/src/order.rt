@@ -1,5 +1,5 @@
 ghost use Rattle.std.specs.Prelude.{◌≡◌, ◌↔◌, ◌<◌, length, IsTrue, IsFalse, IfSome};
-ghost use Rattle.lt_spec.specs.Ordered.{is_orderly, IsOrdered, first_bad};
+ghost use Rattle.lt_spec.specs.Script.{is_orderly, IsOrdered, first_bad};
 
 use crate::locks::Locks;
 use lt_script::Script;

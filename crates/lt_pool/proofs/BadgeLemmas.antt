@@ -4,10 +4,9 @@ use Rattle.std.proofs.lemmas.List.{length_push}
 use Rattle.atomic_table.specs.Table.{State, Splits, Joins}
 use Rattle.atomic_table.proofs.Lists.{set_else, at_longer}
 use Rattle.lt_pool.specs.declared.view.View.{View}
-use Rattle.lt_pool.specs.Numbers.{Has}
+use Rattle.lt_pool.specs.Rule.{Has, IsLive, Knows, Kept}
 use Rattle.lt_pool.specs.Views.{new_view, split_more, split_off, joined_more, spent_view}
-use Rattle.lt_pool.specs.Rule.{IsLive, Knows, Kept}
-use Rattle.lt_pool.proofs.NumberLemmas.{has_without, without_keeps, length-without}
+use Rattle.lt_pool.proofs.RuleLemmas.{has_without, without_keeps, length-without}
 use Rattle.lt_pool.proofs.ViewLemmas.{at_push, one_live, live_set, set_live, else_live, apart_stays, owner_stays}
 
 module _ {T : Type 0} where

@@ -8,10 +8,8 @@ use lib.ListN.{get_elem?}
 use Rattle.std.specs.Mem.Slots.Ownership.{Filled}
 use Rattle.atomic_table.specs.Table.{State, Final, Seen}
 use Rattle.lt_pool.specs.declared.view.View.{View}
-use Rattle.lt_pool.specs.Numbers.{Has}
-use Rattle.lt_pool.specs.Items.{ContinuesAt, EachContinues, AllSome}
-use Rattle.lt_pool.specs.Rule.{IsLive, Home, Kept}
-use Rattle.lt_pool.proofs.NumberLemmas.{none_in_none}
+use Rattle.lt_pool.specs.Rule.{Has, ContinuesAt, EachContinues, AllSome, IsLive, Home, Kept}
+use Rattle.lt_pool.proofs.RuleLemmas.{none_in_none}
 use Rattle.lt_pool.proofs.ViewLemmas.{there_below, one_live}
 use Rattle.lt_pool.proofs.BadgeLemmas.{first_is}
 

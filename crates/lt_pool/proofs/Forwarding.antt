@@ -6,8 +6,7 @@ use native.Mathlib.Decide.{ℕ_discrete}
 use lib.ListN.{get_elem?}
 use Rattle.atomic_table.specs.Table.{Act, Valid, keeps, takes, gives, chain, homes_after, carried_after}
 use Rattle.atomic_table.proofs.Lists.{set_here, set_else}
-use Rattle.lt_pool.specs.Numbers.{Has, without_first, AllDiffer}
-use Rattle.lt_pool.specs.Rule.{empty_hands}
+use Rattle.lt_pool.specs.Rule.{Has, without_first, AllDiffer, empty_hands}
 
 -- what lies in the slots that are at home
 abbrev pub Homes : Type 0 → Type 0

@@ -1,7 +1,6 @@
-pub mod NumberLemmas
+pub mod RuleLemmas
 pub mod ViewLemmas
 pub mod Forwarding
-pub mod RuleLemmas
 pub mod StepLemmas
 pub mod BadgeLemmas
 pub mod OpeningLemmas

@@ -8,13 +8,10 @@ use prog.Atomic.{either}
 use Rattle.atomic_table.specs.Table.{State, Act, Step, Valid, step, keeps, takes, gives, stepped, rest, homes_after, carried_after, Allows}
 use Rattle.atomic_table.proofs.Lists.{exchanged}
 use Rattle.lt_pool.specs.declared.view.View.{View}
-use Rattle.lt_pool.specs.Numbers.{Has, without_first}
-use Rattle.lt_pool.specs.Items.{ContinuesAt}
+use Rattle.lt_pool.specs.Rule.{Has, without_first, ContinuesAt, IsLive, Kept, empty_hands}
 use Rattle.lt_pool.specs.Views.{claimed_more, refused_more, claimed_less, brought_forward}
-use Rattle.lt_pool.specs.Rule.{IsLive, Kept, empty_hands}
 use Rattle.lt_pool.specs.Steps.{Mine, Claims, Forwards, Releases, Takes, forwarded}
-use Rattle.lt_pool.proofs.NumberLemmas.{has_without, without_keeps, without_it, differ_without}
-use Rattle.lt_pool.proofs.RuleLemmas.{refuses, goes_out, comes_home, view_changes}
+use Rattle.lt_pool.proofs.RuleLemmas.{has_without, without_keeps, without_it, differ_without, refuses, goes_out, comes_home, view_changes}
 use Rattle.lt_pool.proofs.Forwarding.{Homes, brings}
 
 -- the slot of the word after that of slot i

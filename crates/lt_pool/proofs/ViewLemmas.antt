@@ -6,8 +6,7 @@ use native.Mathlib.Decide.{ℕ_discrete}
 use lib.ListN.{get_elem?}
 use Rattle.atomic_table.proofs.Lists.{at_set, set_here, set_else}
 use Rattle.lt_pool.specs.declared.view.View.{View}
-use Rattle.lt_pool.specs.Numbers.{Has}
-use Rattle.lt_pool.specs.Rule.{IsLive, Apart, First, Owner}
+use Rattle.lt_pool.specs.Rule.{Has, IsLive, Apart, First, Owner}
 
 pub word_here : (words : List ℕ) (i n : ℕ) → i + 1 < length words → slice_index (slice_set words (i + 1) n) (i + 1) ≡ n
 word_here words i n inside = get_or-set_same words (i + 1) n 0 inside

@@ -1,7 +1,5 @@
-pub mod Numbers
-pub mod Items
+pub mod Rule
 pub mod PoolData
 pub mod Views
-pub mod Rule
 pub mod Steps
 pub mod PoolLaws

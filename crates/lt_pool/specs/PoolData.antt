@@ -1,7 +1,7 @@
 -- What contracts see of a pool and of its badges.
 use Rattle.std.specs.Prelude.{◌≡◌, ◌+◌, ℕ, List, [], ◌∷◌, ◌++◌, length}
 use Rattle.atomic_table.specs.Seated.{TableId}
-use Rattle.lt_pool.specs.Numbers.{without_first}
+use Rattle.lt_pool.specs.Rule.{without_first}
 
 -- a pool: which one it is, and the items that it was made of, in order of their slots
 pub record PoolData (T : Type 0) : Type 0 where

@@ -2,8 +2,7 @@
 use Rattle.std.specs.Prelude.{◌≡◌, ◌⊎◌, ◌+◌, ◌<◌, ℕ, List, Option, length, slice_index}
 use Rattle.atomic_table.specs.Table.{State}
 use Rattle.lt_pool.specs.declared.view.View.{View}
-use Rattle.lt_pool.specs.Numbers.{Has}
-use Rattle.lt_pool.specs.Rule.{IsLive, Owner, Home, Kept}
+use Rattle.lt_pool.specs.Rule.{Has, IsLive, Owner, Home, Kept}
 
 module _ {T : Type 0} where
   -- a live badge has claimed slot i, no other one has, and the slot's word has its number plus 1

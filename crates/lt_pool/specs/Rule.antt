@@ -1,13 +1,49 @@
--- The rule of a pool's table: what holds between any two steps.
-use Rattle.std.specs.Prelude.{◌≡◌, ◌≢◌, ◌+◌, ◌<◌, ◌≤◌, ℕ, true, List, Option, Some, None, length, map, slice_index}
+-- Items that continue those that a pool was made of.
+use Rattle.std.specs.Prelude.{◌≡◌, ◌<◌, length, ℕ, List, Option, Some, None, slice_get, ◌⊎◌, ◌==◌, [], ◌∷◌, if◌then◌else◌, ◌≢◌, ◌+◌, ◌≤◌, true, map, slice_index}
 use Rattle.std.specs.List.{AllByRecursion}
-use mathlib.Core.Option as math
 use mathlib.Core.Option.{some}
 use lib.ListN.{get_elem?}
+use mathlib.Core.Option as math
 use Rattle.atomic_table.specs.Table.{State}
 use Rattle.lt_pool.specs.declared.view.View.{View}
-use Rattle.lt_pool.specs.Numbers.{Has, AllDiffer}
-use Rattle.lt_pool.specs.Items.{ContinuesAt}
+
+-- x continues the first item of slot i
+abbrev pub ContinuesAt : {T : Type 0} → (T → T → Type 0) → List T → ℕ → T → Type 0
+ContinuesAt {T} continues firsts i x = (first : T) × (slice_get firsts i ≡ Some first) × continues first x
+
+-- both are there and go together, or neither is there
+abbrev pub AlikeItems : {X : Type 0} → (X → X → Type 0) → Option X → Option X → Type 0
+AlikeItems R None None = Unit {0}
+AlikeItems R None (Some y) = ⊥
+AlikeItems R (Some x) None = ⊥
+AlikeItems R (Some x) (Some y) = R x y
+
+-- each item continues the first item at its place, and there are as many
+abbrev pub EachContinues : {T : Type 0} → (T → T → Type 0) → List T → List T → Type 0
+EachContinues continues firsts items = (k : ℕ) → AlikeItems continues (slice_get firsts k) (slice_get items k)
+
+-- there is a value at each place
+abbrev pub AllSome : {T : Type 0} → List (Option T) → Type 0
+AllSome {T} xs = (i : ℕ) → i < length xs → (x : T) × (get_elem? xs i ≡ some (Some x))
+
+-- Lists of numbers of slots and of badges.
+
+-- i is one of the numbers
+abbrev pub Has : ℕ → List ℕ → Type 0
+Has i [] = ⊥
+Has i (x ∷ xs) = (i ≡ x) ⊎ Has i xs
+
+-- the numbers without the first i
+abbrev pub without_first : ℕ → List ℕ → List ℕ
+without_first i [] = []
+without_first i (x ∷ xs) = if i == x then xs else x ∷ without_first i xs
+
+-- no number stands twice
+abbrev pub AllDiffer : List ℕ → Type 0
+AllDiffer [] = Unit {0}
+AllDiffer (x ∷ xs) = (Has x xs → ⊥) × AllDiffer xs
+
+-- The rule of a pool's table: what holds between any two steps.
 
 -- the slots that a seat has between claim and give: their items are in the hands of the badge's worker
 abbrev pub empty_hands : {T : Type 0} → List ℕ → List (ℕ × Option T)

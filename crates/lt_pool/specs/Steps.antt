@@ -2,10 +2,8 @@
 use Rattle.std.specs.Prelude.{◌≡◌, ◌≢◌, ◌-◌, ℕ, true, List, ◌∷◌, Option, Some}
 use Rattle.atomic_table.specs.Table.{Me, Step, rest}
 use Rattle.lt_pool.specs.declared.view.View.{View}
-use Rattle.lt_pool.specs.Numbers.{without_first}
-use Rattle.lt_pool.specs.Items.{ContinuesAt}
+use Rattle.lt_pool.specs.Rule.{without_first, ContinuesAt, empty_hands}
 use Rattle.lt_pool.specs.Views.{claimed_more, refused_more, claimed_less, brought_forward}
-use Rattle.lt_pool.specs.Rule.{empty_hands}
 
 -- a badge's view, and the slots that its seat has, each with what lies in it
 abbrev pub Mine : Type 0 → Type 0

@@ -2,7 +2,7 @@
 use Rattle.std.specs.Prelude.{◌+◌, ℕ, true, false, List, [], ◌∷◌, ◌++◌}
 use Rattle.atomic_table.specs.Seated.{TableId}
 use Rattle.lt_pool.specs.declared.view.View.{View}
-use Rattle.lt_pool.specs.Numbers.{without_first}
+use Rattle.lt_pool.specs.Rule.{without_first}
 use Rattle.lt_pool.specs.PoolData.{BadgeData}
 
 module _ {T : Type 0} where

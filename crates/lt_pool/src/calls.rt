@@ -1,7 +1,6 @@
 // How a slot is claimed, and given back.
 ghost use Rattle.std.specs.Prelude.{◌≡◌, ◌≢◌, ◌<◌, length, OnOk, IfOk, IfErr};
-ghost use Rattle.lt_pool.specs.Numbers.{Has};
-ghost use Rattle.lt_pool.specs.Items.{ContinuesAt};
+ghost use Rattle.lt_pool.specs.Rule.{Has, ContinuesAt};
 ghost use Rattle.lt_pool.specs.PoolData.{after_claim, after_refusal, after_give};
 
 use crate::pool::{Badge, Pool};

@@ -3,7 +3,7 @@ ghost use Rattle.std.specs.Prelude.{◌≡◌, ◌≤◌, ◌<◌, false, [], le
 ghost use Rattle.std.specs.Mem.Slots.{slots_items, slots_filled, slots_len, IsFull};
 ghost use mathlib.Core.Option.{some};
 ghost use lib.ListN.{get_elem?};
-ghost use Rattle.lt_pool.specs.Items.{EachContinues, AllSome};
+ghost use Rattle.lt_pool.specs.Rule.{EachContinues, AllSome};
 
 use crate::pool::{Badge, Pool};
 use crate::same::Same;

@@ -1,7 +1,6 @@
 // The steps of a seat on the word of a slot.
 ghost use Rattle.std.specs.Prelude.{◌≡◌, ◌≢◌, ◌<◌, true, length, OnOk, IfErr};
-ghost use Rattle.lt_pool.specs.Numbers.{Has};
-ghost use Rattle.lt_pool.specs.Rule.{empty_hands};
+ghost use Rattle.lt_pool.specs.Rule.{Has, empty_hands};
 ghost use Rattle.lt_pool.specs.Steps.{HasItem, Takes, IsRefused, forwarded, released};
 
 use crate::pool::Pool;

@@ -1,16 +1,14 @@
 -- How many asks want a mode: after one came or went, and whether any does.
-use Rattle.std.proofs.Common.{◌≡◌, ◌∙◌, ℕ, ◌+◌, ◌<◌, ◌≤◌, ◌^◌, Bool, true, false, List, [], ◌∷◌, length, sym, arith, refl, ap}
-use Rattle.std.specs.Prelude.{◌||◌, if◌then◌else◌, nat_lt, slice_index_or, insert, remove, fold}
+use Rattle.std.proofs.Common.{◌≡◌, ◌∙◌, ℕ, ◌+◌, ◌<◌, ◌≤◌, ◌^◌, Bool, true, false, List, [], ◌∷◌, length, sym, arith, refl, ap, ◌||◌, if◌then◌else◌, nat_lt, slice_index_or, insert, remove, fold}
 use Rattle.std.proofs.lemmas.Bool.Decides.{nat_tests}
 use Rattle.std.proofs.lemmas.List.Sums.{sum_by-insert, sum_by-remove, sum_by-cons, get_or-le-sum_by, count_by-le-length}
 use Rattle.lt_modes.specs.declared.mode.Mode.{Mode}
 use Rattle.lt_modes.specs.declared.ask.Ask.{Ask}
 use Rattle.lt_modes.specs.Modes.{Modes, has, one, no_modes, with_mode, same_mode}
-use Rattle.lt_modes.specs.Queue.{modes_of_asks}
-use Rattle.lt_modes.proofs.ModeAlgebra.{has-modes_by}
-use Rattle.lt_modes.specs.Counts.{mode_count, count_if, CanShift, IsShifted, modes_beyond}
-use Rattle.lt_modes.proofs.SetLemmas.{same_members, has-no_modes}
-use Rattle.lt_queue.specs.AskCounts.{asks_for, AreAskCounts}
+use Rattle.lt_modes.specs.State.{modes_of_asks}
+use Rattle.lt_modes.proofs.ModeAlgebra.{has-modes_by, same_members, has-no_modes}
+use Rattle.lt_modes.specs.FiveModes.{mode_count, count_if, CanShift, IsShifted, modes_beyond}
+use Rattle.lt_queue.specs.QueueData.{asks_for, AreAskCounts}
 
 -- whether the ask wants the mode, as a number
 abbrev weight : Mode → Ask → ℕ

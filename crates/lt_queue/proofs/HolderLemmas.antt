@@ -1,8 +1,7 @@
 -- The place after the last holder's ask, as asks come and go.
-use Rattle.std.proofs.Common.{◌≡◌, ◌∙◌, ℕ, zero, suc, ◌+◌, ◌<◌, ◌≤◌, inl, inr, Bool, true, false, List, [], ◌∷◌, length, take, sym, arith, refl, ap}
-use Rattle.std.specs.Prelude.{◌⊎◌, if◌then◌else◌, insert, remove}
+use Rattle.std.proofs.Common.{◌≡◌, ◌∙◌, ℕ, zero, suc, ◌+◌, ◌<◌, ◌≤◌, inl, inr, Bool, true, false, List, [], ◌∷◌, length, take, sym, arith, refl, ap, ◌⊎◌, if◌then◌else◌, insert, remove}
 use Rattle.lt_modes.specs.declared.ask.Ask.{Ask}
-use Rattle.lt_modes.specs.Queue.{after_holders_from, place, entered}
+use Rattle.lt_modes.specs.State.{after_holders_from, place, entered}
 
 abbrev found_by : ℕ → ℕ → Bool → ℕ
 found_by k found holder = if holder then k + 1 else found

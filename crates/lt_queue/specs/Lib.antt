@@ -1,2 +1,1 @@
 pub mod QueueData
-pub mod AskCounts

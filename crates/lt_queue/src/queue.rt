@@ -1,8 +1,8 @@
 ghost use Rattle.std.specs.Prelude.{◌≡◌, ◌<◌, ◌≤◌, [], true, not, length, take, remove, slice_index_or, IfOk, OnOk, OnErr};
 ghost use Rattle.lt_modes.specs.Modes.{has, bars};
-ghost use Rattle.lt_modes.specs.Queue.{place, after_holders_from, entered, modes_of_asks, no_ask};
+ghost use Rattle.lt_modes.specs.State.{place, after_holders_from, entered, modes_of_asks, no_ask};
 ghost use Rattle.lt_modes.specs.Freezing.{frozen_by};
-ghost use Rattle.lt_queue.specs.AskCounts.{asks_for};
+ghost use Rattle.lt_queue.specs.QueueData.{asks_for};
 
 use lt_modes::{Ask, Mode, ModeCounts, ModeSet};
 use std::alloc::{AllocError, Global};
@@ -20,9 +20,8 @@ pub struct Queue {
 
 impl Model for Queue {
     ghost use Rattle.std.specs.Prelude.{◌≡◌, ◌<◌, ◌^◌, vec_capacity};
-    ghost use Rattle.lt_modes.specs.Queue.{after_holders_from};
-    ghost use Rattle.lt_queue.specs.QueueData.{QueueData};
-    ghost use Rattle.lt_queue.specs.AskCounts.{AreAskCounts};
+    ghost use Rattle.lt_modes.specs.State.{after_holders_from};
+    ghost use Rattle.lt_queue.specs.QueueData.{QueueData, AreAskCounts};
 
     ghost Value = { QueueData };
 

@@ -1,15 +1,13 @@
 -- What the move that a runner shows says of its state.
-use Rattle.std.proofs.Common.{◌≡◌, ◌≢◌, ◌<◌, ℕ, inl, inr, arith, zero, suc, Option, Some, None, Bool, true, false, refl, sym, ap, subst, ◌∙◌}
-use Rattle.std.specs.Prelude.{◌&&◌, nat_lt, if◌then◌else◌, IsTrue, IfSome, length}
-use Rattle.std.proofs.lemmas.Bool.{and_parts, cases_eq, lt-ltb}
+use Rattle.std.proofs.Common.{◌≡◌, ◌≢◌, ◌<◌, ℕ, inl, inr, arith, zero, suc, Option, Some, None, Bool, true, false, refl, sym, ap, subst, ◌∙◌, ◌&&◌, nat_lt, if◌then◌else◌, IsTrue, IfSome, length, lt-ltb}
+use Rattle.std.proofs.lemmas.Bool.{and_parts, cases_eq}
 use Rattle.lt_modes.specs.Script.{ScriptData}
 use Rattle.lt_modes.specs.Fits.{fits, numbers_of}
 use Rattle.lt_desk.specs.LetterSeen.{letter_seen}
-use Rattle.lt_spec.specs.Limits.{node_within, leaves_asks}
-use Rattle.lt_spec.specs.NodeMove.{NodeState}
-use Rattle.lt_spec.specs.Plays.{can_act}
+use Rattle.lt_spec.specs.NodeMove.{node_within, leaves_asks, NodeState}
+use Rattle.lt_spec.specs.FixedOrder.{can_act}
 use Rattle.lt_node.specs.NodeData.{state_of}
-use Rattle.lt_node.specs.Running.{IsLeast, is_runnable_here}
+use Rattle.lt_node.specs.Clients.{IsLeast, is_runnable_here}
 use Rattle.lt_runner.specs.declared.choice.Choice.TheVariants.{Nothing, Act, Take}
 use Rattle.lt_core.specs.declared.fits.TheConstants.{LAST_CLOCK}
 use Rattle.lt_runner.specs.declared.parts.Hand.{Hand}

@@ -1,17 +1,20 @@
 -- Runners that look at the rings between them.
-use Rattle.std.proofs.Common.{◌≡◌, ◌<◌, ℕ, inl, inr, List, ◌++◌, Option, None, refl, sym, ap, subst, ◌∙◌}
-use Rattle.std.proofs.lemmas.List.{append_assoc, append-nil}
+use Rattle.std.proofs.Common.{◌≡◌, ◌<◌, ℕ, inl, inr, List, ◌++◌, Option, None, refl, sym, ap, subst, ◌∙◌, Some, ◌≢◌, [], append_assoc, append-nil, slice_index_or, remove, length}
 use Rattle.std.proofs.lemmas.Option.{slice_get_cases}
 use Rattle.lt_modes.specs.State.{Letter}
+use Rattle.lt_modes.specs.Script.{ScriptData}
+use Rattle.lt_modes.specs.State as rules
 use Rattle.lt_mail.specs.declared.mail.Mail.{Mail}
-use Rattle.lt_mail.specs.Lanes.{sent_by, known}
-use Rattle.lt_mail.specs.Words.{out_at, in_at, on_out, on_in, taken_from, known_from, Both, IsOpenLink, AreLinked}
-use Rattle.lt_mail.proofs.MailLemmas.{ends_same}
+use Rattle.lt_mail.specs.Words.{sent_by, known, out_at, in_at, on_out, on_in, taken_from, known_from, Both, IsOpenLink, AreLinked, OutLane, Alike, SameOut, ins_count, SameEnds}
+use Rattle.lt_mail.proofs.LookLemmas.{ends_same, ends_join}
+use Rattle.lt_mail.specs.declared.lane.InLane.{InLane}
+use Rattle.lt_mail.specs.Opening.{IsFresh, Opened}
+use Rattle.lt_mail.proofs.FlushLemmas.{both_linked}
 use Rattle.lt_runner.specs.declared.parts.Hand.{Hand}
 use Rattle.lt_runner.specs.declared.parts.Parts.{Parts}
-use Rattle.lt_runner.specs.Hands.{in_hand, HandStays}
-use Rattle.lt_runner.specs.Kept.{RunnerInvariant}
-use Rattle.lt_runner.specs.Looking.{AreBeside, Knows, NoneKnown, Fetches, HasFetched}
+use Rattle.lt_runner.specs.Kept.{in_hand, HandStays, RunnerInvariant, AreBeside, Knows, NoneKnown, Fetches, HasFetched, Grew}
+use Rattle.lt_runner.specs.Ready.{StartsWith}
+use Rattle.lt_runner.specs.Polled.{Polled, Finds}
 
 -- what node p knows after the look is what the runner then has
 abbrev pub KnowsOf : Parts → Mail → Option Hand → Type 0
@@ -59,3 +62,70 @@ has_fetched a b m hand kept k e =
 pub linked : (x y : Parts) → RunnerInvariant x → RunnerInvariant y → AreBeside x y → AreLinked x.mail y.mail
 linked x y k l h = subst (λ (m : ℕ). Both IsOpenLink (out_at x.mail m) (in_at y.mail x.mail.me)) (sym l.me)
     (subst (λ (m : ℕ). Both IsOpenLink (out_at x.mail y.node.me) (in_at y.mail m)) (sym k.me) h)
+
+-- The runners of nodes 0 and 1.
+
+pub two_beside : (nodes capacity limit : ℕ) (script : ScriptData) (ms rest : List Mail) (x y : Mail) (p q : Parts) → Opened nodes capacity ms → 1 < nodes
+    → x ≡ slice_index_or ms 0 x → rest ≡ remove ms 0 → y ≡ slice_index_or rest 0 y → StartsWith script 0 x limit p → StartsWith script 1 y limit q
+    → IsFresh nodes 0 x → IsFresh nodes 1 y → AreBeside q p
+two_beside nodes capacity limit script ms rest x y p q opened two ex r ey first second fresh also =
+    subst (λ (k : ℕ). Both IsOpenLink (out_at q.mail k) (in_at p.mail q.node.me)) (sym first.me)
+    (subst (λ (k : ℕ). Both IsOpenLink (out_at q.mail 0) (in_at p.mail k)) (sym second.me)
+    (subst (λ (m : Mail). Both IsOpenLink (out_at m 0) (in_at p.mail 1)) (sym second.mail_is)
+    (subst (λ (m : Mail). Both IsOpenLink (out_at y 0) (in_at m 1)) (sym first.mail_is)
+    (subst (λ (k : ℕ). Both IsOpenLink (out_at y k) (in_at x 1)) fresh.me
+    (subst (λ (k : ℕ). Both IsOpenLink (out_at y x.me) (in_at x k)) also.me (both_linked nodes capacity ms rest x y opened two ex r ey).1)))))
+
+still_open : (o u : Option OutLane) (i : Option InLane) → Alike SameOut o u → Both IsOpenLink o i → Both IsOpenLink u i
+still_open None u i same link = absurd link
+still_open (Some o) u None same link = absurd link
+still_open (Some o) None (Some i) same link = absurd same
+still_open (Some o) (Some u) (Some i) same link =
+    ((link.0.0 ∙ sym same.0.0, link.0.1 ∙ sym same.0.1, link.0.2 ∙ sym same.0.2, link.0.3 ∙ sym same.0.3), subst (λ (n : ℕ). 0 < n) (sym same.1) link.1)
+
+-- a runner that has moved stands beside the other still
+pub beside_later : (x u y : Parts) → Grew x u → AreBeside x y → AreBeside u y
+beside_later x u y grew link = subst (λ (k : ℕ). Both IsOpenLink (out_at u.mail y.node.me) (in_at y.mail k)) (sym grew.same.me)
+    (still_open (out_at x.mail y.node.me) (out_at u.mail y.node.me) (in_at y.mail x.node.me) (grew.same.ends.outs y.node.me) link)
+
+-- The rings that are polled one after the other.
+
+-- no ring has a letter
+pub poll_none : (nodes me : ℕ) (a b : Mail) → a.me ≡ me → SameEnds a b → ((node : ℕ) → out_at b node ≡ out_at a node)
+    → ((node : ℕ) → taken_from b node ≡ taken_from a node) → ((node : ℕ) → node ≢ b.me → known_from b node ≡ [])
+    → Polled nodes me nodes a b None
+poll_none nodes me a b own ends outs taken empty = record {
+  ends = ends;
+  outs = outs;
+  taken = λ node. taken node ∙ sym (append-nil (taken_from a node));
+  from = tt;
+  none = λ e node below apart. empty node (λ same. apart (same ∙ (ends.me ∙ own)));
+}
+
+-- one has a letter
+pub poll_finds : (nodes me from : ℕ) (a b : Mail) → a.me ≡ me → ins_count a ≡ nodes → SameEnds a b → ((node : ℕ) → out_at b node ≡ out_at a node)
+    → ((node : ℕ) → taken_from b node ≡ taken_from a node) → (from < ins_count b) × (from ≢ b.me) × (0 < length (known_from b from))
+    → Finds nodes me a b from
+poll_finds nodes me from a b own count ends outs taken found = record {
+  ends = ends;
+  outs = outs;
+  taken = taken;
+  below = subst (λ (n : ℕ). from < n) (ends.counts.1 ∙ count) found.0;
+  apart = λ same. found.1 (same ∙ sym (ends.me ∙ own));
+  known = found.2;
+}
+
+-- that letter was taken
+pub poll_ends : (nodes me from : ℕ) (a b c : Mail) (hand : Option Hand) → Finds nodes me a b from → Knows nodes me nodes b c hand
+    → Polled nodes me nodes a c hand
+poll_ends nodes me from a b c hand h k = record {
+  ends = ends_join a b c h.ends k.ends;
+  outs = λ node. k.outs node ∙ h.outs node;
+  taken = λ node. k.taken node ∙ ap (λ (letters : List rules.Letter). letters ++ in_hand node hand) (h.taken node);
+  from = k.from;
+  none = k.none;
+}
+
+-- no ring had a letter, and the hand stays empty
+pub poll_empty : (nodes me : ℕ) (a b : Mail) (hand : Option Hand) → hand ≡ None → Polled nodes me nodes a b None → Polled nodes me nodes a b hand
+poll_empty nodes me a b hand e h = subst (λ (o : Option Hand). Polled nodes me nodes a b o) (sym e) h

@@ -1,26 +1,45 @@
--- What a runner keeps, through a look and through a move.
-use Rattle.std.proofs.Common.{◌≡◌, ℕ, ◌+◌, ◌<◌, List, [], ◌∷◌, ◌++◌, Option, Some, None, true, false, length, refl, sym, ap, subst, arith, ◌∙◌, append_assoc}
-use Rattle.std.specs.Prelude.{IsTrue}
-use Rattle.std.proofs.lemmas.Bool.{true≢false}
+-- A command more leaves a runner a runner.
+use Rattle.std.proofs.Common.{ℕ, sym, ◌≡◌, ◌+◌, ◌<◌, List, [], ◌∷◌, ◌++◌, Option, Some, None, true, false, length, refl, ap, subst, arith, ◌∙◌, append_assoc, true≢false, IsTrue}
 use Rattle.std.proofs.lemmas.List.{length_push}
+use Rattle.lt_modes.specs.declared.command.Command.{Command}
 use Rattle.lt_modes.specs.Script.{ScriptData}
 use Rattle.lt_modes.specs.State.{Letter}
-use Rattle.lt_spec.specs.Log.{Logged}
+use Rattle.lt_spec.specs.World.{start, Logged}
 use Rattle.lt_spec.specs.NodeMove.{NodeState}
-use Rattle.lt_spec.specs.World.{start}
-use Rattle.lt_spec.specs.Plays.{Cause, can_make_move, made_of, logged_of, used_by, letters_for, Plays}
+use Rattle.lt_spec.specs.FixedOrder.{Cause, can_make_move, made_of, logged_of, used_by, letters_for, Plays}
+use Rattle.lt_law_own_lines.specs.WaitingLaws.{NodeNames}
+use Rattle.lt_law_own_lines.proofs.Moves.{names_at_start}
+use Rattle.lt_law_plays.proofs.Appending.{plays_of_appended}
 use Rattle.lt_law_plays.proofs.PlayLemmas.{plays_same, plays_grow}
-use Rattle.lt_law_own_lines.specs.Peers.{NodeNames}
 use Rattle.lt_node.specs.NodeData.{state_of}
-use Rattle.lt_mail.specs.Words.{outs_count, ins_count, sent_to, taken_from}
-use Rattle.lt_mail.proofs.MailLemmas.{ends_join, ends_same}
-use Rattle.lt_runner.specs.declared.parts.Hand.{Hand}
+use Rattle.lt_mail.specs.Words.{sent_to, outs_count, ins_count, taken_from}
+use Rattle.lt_mail.proofs.LookLemmas.{ends_join, ends_same}
+use Rattle.lt_mail.specs.Opening.{IsFresh}
 use Rattle.lt_runner.specs.declared.parts.Parts.{Parts}
+use Rattle.lt_runner.specs.Kept.{RunnerInvariant, with_appended, in_hand, IsFromPeer, HandStays, SameRunner, AsSeen}
+use Rattle.lt_runner.specs.declared.parts.Hand.{Hand}
 use Rattle.lt_runner.specs.declared.choice.Choice.TheVariants as choices
 use Rattle.lt_runner.specs.Choices.{act_choice, next_choice}
-use Rattle.lt_runner.specs.Hands.{in_hand, IsFromPeer, HandStays}
-use Rattle.lt_runner.specs.Kept.{RunnerInvariant, SameRunner, AsSeen}
 use Rattle.lt_runner.proofs.ChoiceLemmas.{nothing_acts}
+
+pub kept_appended : (p : Parts) (client : ℕ) (command : Command) → RunnerInvariant p → RunnerInvariant (with_appended p client command)
+kept_appended p client command h = record {
+  used = h.used;
+  me = h.me;
+  below = h.below;
+  outs = h.outs;
+  ins = h.ins;
+  plays = plays_of_appended p.node.script client command p.node.me p.log.entries ((start p.node.script).node p.node.me) (state_of p.node) h.used (sent_to p.mail) h.plays;
+  taken = h.taken;
+  hand = h.hand;
+  names = h.names;
+  bounded = h.bounded;
+  posts = h.posts;
+  events = h.events;
+  idle = λ found. absurd (true≢false (sym found));
+}
+
+-- What a runner keeps, through a look and through a move.
 
 plays_as : (script new_script : ScriptData) (me new_me : ℕ) (log new_log : List Logged) (used sent new_sent : ℕ → List Letter) (n new_n : NodeState)
     → new_script ≡ script → new_me ≡ me → new_log ≡ log → ((b : ℕ) → new_sent b ≡ sent b) → new_n ≡ n
@@ -207,3 +226,30 @@ seen_resting a p h = record {
   used = h.used;
   hand = h.hand;
 }
+
+-- What a runner keeps at its start.
+
+pub kept_at_start : (p : Parts) (script : ScriptData) (node : ℕ) → p.node.script ≡ script → p.node.me ≡ node
+    → state_of p.node ≡ (start script).node node → node < script.nodes → IsFresh script.nodes node p.mail → p.log.entries ≡ [] → p.hand ≡ None
+    → p.out.posts ≡ [] → p.out.events ≡ [] → p.idle ≡ false → RunnerInvariant p
+kept_at_start p script node is me state below fresh log hand posts events idle = record {
+  used = λ a. [];
+  me = fresh.me ∙ sym me;
+  below = subst (λ (s : ScriptData). p.node.me < s.nodes) (sym is) (subst (λ (x : ℕ). x < script.nodes) (sym me) below);
+  outs = fresh.outs ∙ ap (λ (s : ScriptData). s.nodes) (sym is);
+  ins = fresh.ins ∙ ap (λ (s : ScriptData). s.nodes) (sym is);
+  plays = subst (λ (l : List Logged). Plays p.node.script p.node.me ((start p.node.script).node p.node.me) l (λ a. []) (sent_to p.mail) (state_of p.node)) (sym log)
+      ((λ a. refl), fresh.sent, begins);
+  taken = λ a. fresh.taken a ∙ sym (ap (λ (o : Option Hand). in_hand a o) hand);
+  hand = subst (λ (o : Option Hand). IsFromPeer p.node.script.nodes p.node.me o) (sym hand) tt;
+  names = subst (λ (s : ScriptData). NodeNames s.nodes p.node.me (state_of p.node)) (sym is)
+      (subst (λ (x : ℕ). NodeNames script.nodes x (state_of p.node)) (sym me)
+      (subst (λ (n : NodeState). NodeNames script.nodes node n) (sym state) (names_at_start script node below)));
+  bounded = omega (arith, ap (λ (l : List Logged). length l) log);
+  posts = posts;
+  events = events;
+  idle = λ found. absurd (true≢false (sym found ∙ idle));
+}
+  where
+    begins : (start p.node.script).node p.node.me ≡ state_of p.node
+    begins = ap (λ (s : ScriptData). (start s).node p.node.me) is ∙ (ap (λ (x : ℕ). (start script).node x) me ∙ sym state)

@@ -1,10 +1,5 @@
-pub mod AppendLemmas
-pub mod PostLemmas
-pub mod PollLemmas
-pub mod ChoiceLemmas
 pub mod KeptLemmas
 pub mod MoveLemmas
-pub mod TurnLemmas
-pub mod StartLemmas
 pub mod Fetched
-pub mod FirstRunners
+pub mod ChoiceLemmas
+pub mod TurnLemmas

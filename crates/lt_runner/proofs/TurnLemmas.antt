@@ -1,26 +1,22 @@
 -- What a turn says after a look.
-use Rattle.std.proofs.Common.{◌≡◌, ◌≢◌, ℕ, ◌+◌, ◌<◌, inl, inr, List, [], ◌∷◌, ◌++◌, Option, Some, None, Bool, true, false, length, refl, sym, ap, arith, ◌∙◌}
-use Rattle.std.specs.Prelude.{if◌then◌else◌, ◌⊎◌}
-use Rattle.std.proofs.lemmas.List.{append-nil, append_assoc, length-append, length_push}
+use Rattle.std.proofs.Common.{◌≡◌, ◌≢◌, ℕ, ◌+◌, ◌<◌, inl, inr, List, [], ◌∷◌, ◌++◌, Option, Some, None, Bool, true, false, length, refl, sym, ap, arith, ◌∙◌, if◌then◌else◌, ◌⊎◌, append-nil, append_assoc, length-append}
+use Rattle.std.proofs.lemmas.List.{length_push}
 use Rattle.lt_modes.specs.Script.{ScriptData}
 use Rattle.lt_modes.specs.State as rules
 use Rattle.lt_desk.specs.LetterSeen.{letter_seen}
-use Rattle.lt_spec.specs.Log.{Logged}
+use Rattle.lt_spec.specs.World.{Logged}
 use Rattle.lt_spec.specs.NodeMove.{NodeState}
 use Rattle.lt_node.specs.NodeData.{state_of}
-use Rattle.lt_mail.specs.Lanes.{outbox_letters}
-use Rattle.lt_mail.specs.Words.{on_out, out_at, waiting_to, IsFullTo}
-use Rattle.lt_mail.specs.Lanes.{OutLane}
+use Rattle.lt_mail.specs.Words.{outbox_letters, on_out, out_at, waiting_to, IsFullTo, OutLane}
 use Rattle.lt_runner.specs.declared.choice.Choice.TheVariants.{Nothing, Act, Take}
 use Rattle.lt_runner.specs.declared.turning.Turned.{Turned}
 use Rattle.lt_runner.specs.declared.turning.Turned.TheVariants.{Moved, Quiet, Full, NoMemory}
 use Rattle.lt_runner.specs.declared.parts.Hand.{Hand}
 use Rattle.lt_runner.specs.declared.parts.Parts.{Parts}
-use Rattle.lt_runner.specs.Hands.{HandStays}
+use Rattle.lt_runner.specs.Kept.{HandStays, SameRunner, AsSeen, CouldMove, IsFlushed, MovedOne, TurnEnds, Grew}
 use Rattle.lt_runner.specs.Choices.{may_take, act_choice, choice_by, next_choice}
-use Rattle.lt_runner.specs.Kept.{SameRunner, AsSeen, CouldMove, IsFlushed, MovedOne, TurnEnds, Grew}
 use Rattle.lt_runner.proofs.ChoiceLemmas.{act_takes_nothing}
-use Rattle.lt_mail.proofs.MailLemmas.{ends_same}
+use Rattle.lt_mail.proofs.LookLemmas.{ends_same}
 use Rattle.lt_runner.proofs.KeptLemmas.{same_join, seen_join, resting}
 
 pub same_later : (a b c : Parts) → AsSeen a b → SameRunner b c → SameRunner a c

@@ -4,9 +4,8 @@ use Rattle.lt_modes.specs.Script.{ScriptData}
 use Rattle.lt_modes.specs.State.{Letter}
 use Rattle.lt_modes.specs.Fits.{fits, numbers_of}
 use Rattle.lt_desk.specs.LetterSeen.{letter_seen}
-use Rattle.lt_spec.specs.Limits.{node_within, leaves_asks}
-use Rattle.lt_spec.specs.NodeMove.{NodeState}
-use Rattle.lt_spec.specs.Plays.{can_act}
+use Rattle.lt_spec.specs.NodeMove.{node_within, leaves_asks, NodeState}
+use Rattle.lt_spec.specs.FixedOrder.{can_act}
 use Rattle.lt_node.specs.NodeData.{state_of}
 use Rattle.lt_core.specs.declared.fits.TheConstants.{LAST_CLOCK}
 use Rattle.lt_runner.specs.declared.choice.Choice.{Choice}

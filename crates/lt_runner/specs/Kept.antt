@@ -1,13 +1,20 @@
--- What a runner keeps, and how a turn ends.
-use Rattle.std.specs.Prelude.{◌≡◌, ◌≢◌, ◌<◌, ◌≤◌, ◌⊎◌, ℕ, List, [], ◌∷◌, ◌++◌, None, IsTrue, length}
-use mathlib.Core.List.{IsPrefix}
+-- A runner whose client has a command more.
+use Rattle.std.specs.Prelude.{ℕ, false, ◌≡◌, ◌≢◌, ◌==◌, ◌<◌, List, [], ◌∷◌, Option, Some, None, if◌then◌else◌, ◌≤◌, ◌⊎◌, ◌++◌, IsTrue, length, Bool, true, refl}
+use mathlib.Core.List.{IsPrefix, append-nil}
+use Rattle.lt_modes.specs.declared.command.Command.{Command}
+use Rattle.lt_modes.specs.State as rules
 use Rattle.lt_modes.specs.State.{Letter}
-use Rattle.lt_spec.specs.Log.{Logged}
-use Rattle.lt_spec.specs.World.{start}
-use Rattle.lt_spec.specs.Plays.{Plays}
-use Rattle.lt_law_own_lines.specs.Peers.{NodeNames}
+use Rattle.lt_spec.specs.NodeMove.{appended}
+use Rattle.lt_spec.specs.World.{Logged, start}
+use Rattle.lt_spec.specs.FixedOrder.{Plays}
+use Rattle.lt_law_own_lines.specs.WaitingLaws.{NodeNames}
+use Rattle.lt_desk.specs.LetterSeen.{letter_seen}
 use Rattle.lt_node.specs.NodeData.{state_of}
-use Rattle.lt_mail.specs.Words.{outs_count, ins_count, sent_to, waiting_to, taken_from, known_from, IsFullTo, SameEnds}
+use Rattle.lt_mail.specs.Words.{outs_count, ins_count, sent_to, waiting_to, taken_from, known_from, IsFullTo, SameEnds, out_at, in_at, given_to, Both, IsOpenLink}
+use Rattle.lt_mail.specs.declared.mail.Mail.{Mail}
+use Rattle.lt_mail.proofs.LookLemmas.{ends_same}
+use Rattle.lt_runner.specs.declared.parts.Parts.{Parts}
+use Rattle.lt_runner.specs.declared.parts.Hand.{Hand}
 use Rattle.lt_runner.specs.declared.choice.Choice.TheVariants as choices
 use Rattle.lt_runner.specs.declared.turning.Found.{Found}
 use Rattle.lt_runner.specs.declared.turning.Found.TheVariants as found
@@ -15,9 +22,33 @@ use Rattle.lt_runner.specs.declared.turning.Turned.{Turned}
 use Rattle.lt_runner.specs.declared.turning.Turned.TheVariants.{Moved, Quiet, Full, NoMemory}
 use Rattle.lt_runner.specs.declared.turning.Worked.{Worked}
 use Rattle.lt_runner.specs.declared.turning.Worked.TheVariants as worked
-use Rattle.lt_runner.specs.declared.parts.Parts.{Parts}
-use Rattle.lt_runner.specs.Hands.{in_hand, IsFromPeer, HandStays}
 use Rattle.lt_runner.specs.Choices.{act_choice, next_choice}
+use Rattle.lt_runner.specs.declared.choice.Choice.{Choice}
+use Rattle.lt_runner.specs.declared.choice.Choice.TheVariants.{Nothing, Act, Take}
+
+-- the same, but for a command that was appended for the client, which may be able to act now
+abbrev pub with_appended : Parts → ℕ → Command → Parts
+with_appended p client command = record p { node = record p.node { script = appended p.node.script client command }; idle = false }
+
+-- The letter in hand.
+
+-- the letter in hand, where it came from this node
+abbrev pub in_hand : ℕ → Option Hand → List rules.Letter
+in_hand node None = []
+in_hand node (Some hand) = if node == hand.from then letter_seen hand.letter ∷ [] else []
+
+-- it came from another node of the script
+abbrev pub IsFromPeer : ℕ → ℕ → Option Hand → Type 0
+IsFromPeer nodes me None = Unit {0}
+IsFromPeer nodes me (Some hand) = (hand.from < nodes) × (hand.from ≢ me)
+
+-- a letter that was in hand is in hand
+abbrev pub HandStays : Option Hand → Option Hand → Type 0
+HandStays None after = Unit {0}
+HandStays (Some hand) None = ⊥
+HandStays (Some hand) (Some after) = (after.from ≡ hand.from) × (letter_seen after.letter ≡ letter_seen hand.letter)
+
+-- What a runner keeps, and how a turn ends.
 
 -- the node's state and the letters that it sent are what the rules make of its log with the letters that it used, which
 -- are those that it took but the one in hand
@@ -102,3 +133,67 @@ abbrev pub WorkEnds : Worked → ℕ → Parts → Type 0
 WorkEnds worked.Idle patience p = 0 < patience → RunnerIsQuiet p
 WorkEnds worked.Full patience p = IsFull p
 WorkEnds worked.NoMemory patience p = CouldMove p
+
+-- What runners see of each other while none of them is at work.
+
+-- the choice is a move
+abbrev pub is_move : Choice → Bool
+is_move Nothing = false
+is_move (Act client) = true
+is_move Take = true
+
+-- the one has an end of the ring to the other, which has its other end
+abbrev pub AreBeside : Parts → Parts → Type 0
+AreBeside x y = Both IsOpenLink (out_at x.mail y.node.me) (in_at y.mail x.node.me)
+
+-- what node b took of node a, and what it knows to come, is what the ring was given; where it has no letter in hand and
+-- nothing is known to come, nothing waits to be sent
+pub record HasMet (a b : ℕ) (x y : Parts) : Type 0 where
+  pub whole : taken_from y.mail a ++ known_from y.mail a ≡ given_to x.mail b
+  pub moves : y.hand ≡ None → known_from y.mail a ≡ [] → waiting_to x.mail b ≡ []
+
+-- where no letter is in hand, none is known to come
+abbrev pub HasFetched : Parts → Type 0
+HasFetched p = p.hand ≡ None → (node : ℕ) → node ≢ p.node.me → known_from p.mail node ≡ []
+
+-- nothing happened but that letters may have gone from the outbox to the node to its ring
+pub record LooksTo (to : ℕ) (a b : Parts) : Type 0 where
+  pub seen : AsSeen a b
+  pub hand : b.hand ≡ a.hand
+  pub outs : (node : ℕ) → node ≢ to → out_at b.mail node ≡ out_at a.mail node
+  pub ins : (node : ℕ) → in_at b.mail node ≡ in_at a.mail node
+
+-- nothing happened but that more letters of the node may be known
+pub record LooksFrom (from : ℕ) (a b : Parts) : Type 0 where
+  pub seen : AsSeen a b
+  pub hand : b.hand ≡ a.hand
+  pub outs : (node : ℕ) → out_at b.mail node ≡ out_at a.mail node
+  pub ins : (node : ℕ) → node ≢ from → in_at b.mail node ≡ in_at a.mail node
+
+-- nothing happened but that a letter that was known to come may be in hand
+pub record Fetches (a b : Parts) : Type 0 where
+  pub seen : AsSeen a b
+  pub outs : (node : ℕ) → out_at b.mail node ≡ out_at a.mail node
+  pub whole : (node : ℕ) → taken_from b.mail node ++ known_from b.mail node ≡ taken_from a.mail node ++ known_from a.mail node
+  pub none : b.hand ≡ None → (node : ℕ) → known_from b.mail node ≡ known_from a.mail node
+
+-- a letter that was known to come was taken; or none was, and then none was known of the first of the other nodes
+pub record Knows (nodes me first : ℕ) (a b : Mail) (hand : Option Hand) : Type 0 where
+  pub ends : SameEnds a b
+  pub outs : (node : ℕ) → out_at b node ≡ out_at a node
+  pub taken : (node : ℕ) → taken_from b node ≡ taken_from a node ++ in_hand node hand
+  pub known : (node : ℕ) → known_from a node ≡ in_hand node hand ++ known_from b node
+  pub from : IsFromPeer nodes me hand
+  pub none : hand ≡ None → (node : ℕ) → node < first → node ≢ me → known_from b node ≡ []
+
+-- no letter of the first of the other nodes is known
+abbrev pub NoneKnown : ℕ → ℕ → Mail → Type 0
+NoneKnown first me m = (node : ℕ) → node < first → node ≢ me → known_from m node ≡ []
+
+-- A runner goes on from itself.
+
+pub grew_itself : (p : Parts) → Grew p p
+grew_itself p = record {
+  same = record { script = refl; me = refl; limit = refl; ends = ends_same p.mail };
+  log = ([], append-nil p.log.entries);
+}

@@ -1,10 +1,5 @@
-pub mod Hands
-pub mod Choices
 pub mod Kept
+pub mod Choices
 pub mod Ready
 pub mod Polled
 pub mod Posting
-pub mod Starts
-pub mod Looking
-pub mod Same
-pub mod Appended

@@ -3,7 +3,7 @@ use Rattle.std.specs.Prelude.{◌≡◌, ◌≢◌, ◌<◌, ℕ, [], ◌++◌, 
 use Rattle.lt_mail.specs.declared.mail.Mail.{Mail}
 use Rattle.lt_mail.specs.Words.{out_at, taken_from, known_from, SameEnds}
 use Rattle.lt_runner.specs.declared.parts.Hand.{Hand}
-use Rattle.lt_runner.specs.Hands.{in_hand, IsFromPeer}
+use Rattle.lt_runner.specs.Kept.{in_hand, IsFromPeer}
 
 -- a letter of another node was taken; or none was, and then none is known of the first of the other nodes
 pub record Polled (nodes me first : ℕ) (a b : Mail) (hand : Option Hand) : Type 0 where

@@ -1,13 +1,14 @@
 -- Room for one move of a runner.
-use Rattle.std.specs.Prelude.{◌≤◌, ◌<◌, ℕ, nat_lt, IfSome, IsTrue}
+use Rattle.std.specs.Prelude.{◌≤◌, ◌<◌, ℕ, nat_lt, IfSome, IsTrue, ◌≡◌, [], None}
 use Rattle.lt_modes.specs.Script.{ScriptData}
 use Rattle.lt_modes.specs.Fits.{fits, numbers_of}
+use Rattle.lt_spec.specs.NodeMove.{node_within, NodeState}
+use Rattle.lt_spec.specs.World.{start}
 use Rattle.lt_desk.specs.LetterSeen.{letter_seen}
-use Rattle.lt_spec.specs.Limits.{node_within}
-use Rattle.lt_spec.specs.NodeMove.{NodeState}
 use Rattle.lt_core.specs.declared.fits.TheConstants.{LAST_CLOCK}
-use Rattle.lt_node.specs.Room.{RoomToAct, RoomToTake}
+use Rattle.lt_node.specs.NodeData.{RoomToAct, RoomToTake, state_of}
 use Rattle.lt_mail.specs.Words.{HasRoomFor}
+use Rattle.lt_mail.specs.declared.mail.Mail.{Mail}
 use Rattle.lt_runner.specs.declared.choice.Choice.{Choice}
 use Rattle.lt_runner.specs.declared.choice.Choice.TheVariants.{Nothing, Act, Take}
 use Rattle.lt_runner.specs.declared.parts.Hand.{Hand}
@@ -40,3 +41,15 @@ pub record FitsNow (script : ScriptData) (me : ℕ) (n : NodeState) (hand : Hand
   pub clock : IsTrue (nat_lt n.clock LAST_CLOCK)
   pub within : IsTrue (node_within script n)
   pub fits : IsTrue (fits (numbers_of script) me n.clock (n.set hand.letter.set) (letter_seen hand.letter))
+
+-- A runner at its start.
+
+-- it is that of the node, in its first state, with this mail and this limit
+pub record StartsWith (script : ScriptData) (node : ℕ) (mail : Mail) (limit : ℕ) (p : Parts) : Type 0 where
+  pub script_is : p.node.script ≡ script
+  pub me : p.node.me ≡ node
+  pub state : state_of p.node ≡ (start script).node node
+  pub mail_is : p.mail ≡ mail
+  pub limit_is : p.limit ≡ limit
+  pub log : p.log.entries ≡ []
+  pub hand : p.hand ≡ None

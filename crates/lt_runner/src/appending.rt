@@ -2,8 +2,8 @@
 ghost use Rattle.std.specs.Prelude.{◌≡◌, ◌<◌, length, OnOk, OnErr};
 ghost use Rattle.lt_spec.specs.Script.{HasTargets, HasModesOf};
 ghost use Rattle.lt_spec.specs.declared.limits.TheConstants.{MAX_COMMANDS};
-ghost use Rattle.lt_spec.specs.Families.{home};
-ghost use Rattle.lt_runner.specs.Appended.{with_appended};
+ghost use Rattle.lt_spec.specs.NodeMove.{home};
+ghost use Rattle.lt_runner.specs.Kept.{with_appended};
 
 use crate::runner::Runner;
 use lt_merge::Log;
@@ -13,7 +13,7 @@ use std::alloc::AllocError;
 
 impl Runner {
     /// The command becomes the last one of the client's list, in this runner's copy of the script.
-    #[tactic(auto, using(crate::proofs::AppendLemmas::kept_appended))]
+    #[tactic(auto, using(crate::proofs::KeptLemmas::kept_appended))]
     pub fn append(&mut self, client: u16, command: Command) -> Result<(), AllocError>
         requires client { client < length self.old.node.script.clients }
         requires home { home self.old.node.script client ≡ self.old.node.me }

@@ -1,15 +1,14 @@
 // The move that a runner makes.
 ghost use Rattle.std.specs.Prelude.{◌≡◌, ◌<◌, Some, None, All, length, ◌≤◌, [], ◌∷◌, ◌++◌};
-ghost use Rattle.lt_law_own_lines.specs.Peers.{IsForPeer};
-ghost use Rattle.lt_node.specs.NodeData.{state_of};
-ghost use Rattle.lt_node.specs.Room.{RoomToTake};
+ghost use Rattle.lt_law_own_lines.specs.WaitingLaws.{IsForPeer};
+ghost use Rattle.lt_node.specs.NodeData.{state_of, RoomToTake};
 ghost use Rattle.lt_mail.specs.Words.{outs_count};
 ghost use Rattle.lt_runner.specs.declared.choice.Choice.TheVariants as choices;
 ghost use Rattle.lt_runner.specs.Choices.{next_choice};
 ghost use Rattle.lt_runner.specs.Kept.{RunnerInvariant, SameRunner, MovedOne};
 ghost use Rattle.lt_runner.specs.Posting.{Finished, CanPost, Posted};
 ghost use Rattle.lt_runner.specs.Ready.{RunnerCanAct, RunnerCanTake, CanLog, FitsNow};
-ghost use Rattle.lt_merge.specs.Run.{with_events};
+ghost use Rattle.lt_merge.specs.Merging.{with_events};
 
 use crate::parts::{Hand, Parts};
 use lt_desk::Out;
@@ -98,7 +97,7 @@ impl Parts {
 }
 
 /// Puts the letters of a move into the outboxes to their nodes, and tells which these are, bit q % 64 for node q.
-#[tactic(auto, using(crate::proofs::PostLemmas::all_posted, crate::proofs::PostLemmas::none_posted, crate::proofs::PostLemmas::next_post))]
+#[tactic(auto, using(crate::proofs::MoveLemmas::all_posted, crate::proofs::MoveLemmas::none_posted, crate::proofs::MoveLemmas::next_post))]
 pub(crate) fn post_all(mail: &mut Mail, out: &mut Out, _nodes: u8, _me: u8) -> u64
     requires { CanPost _nodes _me mail.old out.old.posts }
     ensures mail { Posted out.old.posts mail.old mail.new }

@@ -2,7 +2,7 @@
 ghost use Rattle.std.specs.Prelude.{◌≡◌, ◌≢◌, ◌<◌, None, IfSome, IfNone, length};
 ghost use Rattle.lt_mail.specs.Words.{ins_count, known_from};
 ghost use Rattle.lt_runner.specs.Choices.{next_choice};
-ghost use Rattle.lt_runner.specs.Looking.{AreBeside, HasMet, LooksTo, LooksFrom, HasFetched, Fetches, Knows, NoneKnown, is_move};
+ghost use Rattle.lt_runner.specs.Kept.{AreBeside, HasMet, LooksTo, LooksFrom, HasFetched, Fetches, Knows, NoneKnown, is_move};
 ghost use Rattle.lt_spec.specs.NodeMove.{node_waits};
 ghost use Rattle.lt_node.specs.NodeData.{state_of};
 

@@ -1,14 +1,12 @@
 // What a runner does before a move.
 ghost use Rattle.std.specs.Prelude.{◌≡◌, ◌≢◌, ◌<◌, None, ℕ, IsOk, IsTrue, IfSome, IfNone, OnOk, length};
-ghost use Rattle.lt_spec.specs.Limits.{node_within};
-ghost use Rattle.lt_node.specs.NodeData.{state_of};
-ghost use Rattle.lt_node.specs.Room.{RoomToAct, RoomToTake};
+ghost use Rattle.lt_spec.specs.NodeMove.{node_within};
+ghost use Rattle.lt_node.specs.NodeData.{state_of, RoomToAct, RoomToTake};
 ghost use Rattle.lt_runner.specs.declared.choice.Choice.TheVariants as choices;
 ghost use Rattle.lt_runner.specs.Choices.{next_choice};
 ghost use Rattle.lt_runner.specs.Ready.{RunnerCanAct, RunnerCanTake, CanLog, FitsNow};
-ghost use Rattle.lt_runner.specs.Kept.{RunnerInvariant, AsSeen, IsFlushed, KnowsNoLetter};
+ghost use Rattle.lt_runner.specs.Kept.{RunnerInvariant, AsSeen, IsFlushed, KnowsNoLetter, Knows};
 ghost use Rattle.lt_mail.specs.Words.{out_at, ins_count, known_from};
-ghost use Rattle.lt_runner.specs.Looking.{Knows};
 ghost use Rattle.lt_runner.specs.Polled.{Polled, Finds};
 
 use crate::parts::{Hand, Parts};
@@ -133,7 +131,7 @@ impl Parts {
 }
 
 // Takes a letter of the first other node that one comes from, where there is one.
-#[tactic(auto, using(crate::proofs::PollLemmas::poll_ends, crate::proofs::PollLemmas::poll_empty))]
+#[tactic(auto, using(crate::proofs::Fetched::poll_ends, crate::proofs::Fetched::poll_empty))]
 fn poll(mail: &mut Mail, hand: &mut Option<Hand>, me: u8, nodes: u8)
     requires own { mail.old.me ≡ me }
     requires count { ins_count mail.old ≡ nodes }
@@ -146,7 +144,7 @@ fn poll(mail: &mut Mail, hand: &mut Option<Hand>, me: u8, nodes: u8)
 }
 
 // The first other node of which a letter is in its ring: then one is known there.
-#[tactic(auto, using(crate::proofs::PollLemmas::poll_finds, crate::proofs::PollLemmas::poll_none))]
+#[tactic(auto, using(crate::proofs::Fetched::poll_finds, crate::proofs::Fetched::poll_none))]
 fn sender(mail: &mut Mail, _me: u8, _nodes: u8) -> Option<u8>
     requires own { mail.old.me ≡ _me }
     requires count { ins_count mail.old ≡ _nodes }

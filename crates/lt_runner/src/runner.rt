@@ -6,7 +6,7 @@ ghost use Rattle.lt_runner.specs.declared.turning.Turned.TheVariants as turns;
 ghost use Rattle.lt_runner.specs.declared.turning.Worked.TheVariants as answers;
 ghost use Rattle.lt_runner.specs.Choices.{next_choice};
 ghost use Rattle.lt_runner.specs.Kept.{RunnerInvariant, AsSeen, Grew, TurnEnds, WorkEnds};
-ghost use Rattle.lt_runner.specs.Starts.{StartsWith};
+ghost use Rattle.lt_runner.specs.Ready.{StartsWith};
 
 use crate::gate::Gate;
 use crate::parts::Parts;
@@ -128,7 +128,7 @@ impl Runner {
     }
 }
 
-#[tactic(auto, using(crate::proofs::StartLemmas::kept_at_start))]
+#[tactic(auto, using(crate::proofs::KeptLemmas::kept_at_start))]
 fn begin(
     alloc: Global,
     script: &Script,

@@ -3,8 +3,7 @@ use crate::runner::Runner;
 use lt_pool::Same;
 
 impl Same for Runner {
-    ghost use Rattle.lt_runner.specs.Kept.{Grew};
-    ghost use Rattle.lt_runner.specs.Same.{grew_itself};
+    ghost use Rattle.lt_runner.specs.Kept.{Grew, grew_itself};
 
     ghost continues = { Grew };
 

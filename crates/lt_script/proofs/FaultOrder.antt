@@ -1,21 +1,21 @@
 -- The told fault is the least one, and the literals are what they are.
-use Rattle.std.proofs.Common.{◌≡◌, Bool, true, false, ℕ, ◌+◌, ◌<◌, List, [], ◌∷◌, Option, Some, None, inl, inr, refl, sym, ap, subst, ◌∙◌, arith}
-use Rattle.std.specs.Prelude.{if◌then◌else◌, ◌==◌, ◌||◌, codes, map, not, nat_lt, length, Contains}
+use Rattle.std.proofs.Common.{◌≡◌, Bool, true, false, ℕ, ◌+◌, ◌<◌, List, [], ◌∷◌, Option, Some, None, inl, inr, refl, sym, ap, subst, ◌∙◌, arith, ◌⊎◌, Ok, Err, ◌≤◌, if◌then◌else◌, ◌==◌, ◌||◌, codes, map, not, nat_lt, length, Contains, Result, option_map, bytes_eq, lt-ltb, le-ltb}
 use Rattle.std.specs.List.{list_all}
-use Rattle.std.specs.Str.{bytes_eq}
-use Rattle.std.proofs.lemmas.Bool.{cases_lt, or_cases, or_left, or_right, false≢true}
+use Rattle.std.proofs.lemmas.Bool.{cases_lt, or_cases, or_left, or_right, false≢true, or_parts}
 use Rattle.std.proofs.lemmas.Slice.Eq.{bytes_eq-Decides}
-use Rattle.lt_lists.proofs.Members.{contains_first, contains_later, contains_cases, none_in}
 use Rattle.lt_modes.specs.Script.{ScriptData}
-use Rattle.lt_text.specs.Text.{words}
+use Rattle.lt_lists.proofs.Members.{contains_first, contains_later, contains_cases, none_in}
+use Rattle.lt_spec.specs.declared.limits.TheConstants.{MAX_LINE}
+use Rattle.lt_spec.specs.Script.{is_reserved}
+use Rattle.lt_text.specs.Text.{words, lines}
 use Rattle.lt_script.specs.declared.fault.Fault.{Fault}
 use Rattle.lt_script.specs.declared.fault.Fault.TheVariants as faults
-use Rattle.lt_spec.specs.declared.limits.TheConstants.{MAX_LINE}
 use Rattle.lt_script.specs.Fault.{number_of}
-use Rattle.lt_spec.specs.Names.{is_reserved}
-use Rattle.lt_script.specs.Forms.{FormData, form_of}
-use Rattle.lt_script.specs.Faults.{is_plain_byte, first_true, fault_by_form}
-use Rattle.lt_script.specs.FaultLaws.{has_fault_by, IsLeastFault, LeastIsTold, LimitsAre, reserved, ReservedAre, NumbersAre, FormsAre}
+use Rattle.lt_script.specs.Forms.{FormData, form_of, CommandForm, asked_of}
+use Rattle.lt_script.specs.Faults.{is_plain_byte, first_true, fault_by_form, line_fault, form_fault}
+use Rattle.lt_script.specs.Reading.{has_fault_by, IsLeastFault, LeastIsTold, LimitsAre, reserved, ReservedAre, NumbersAre, FormsAre, is_skipped, line_step, unless, script_after, go_on, read_from, script_body, has_fault, IsFirstFault, LacksNodes, FirstIsTold}
+use Rattle.lt_script.specs.declared.fault.ScriptFault.{ScriptFault}
+use Rattle.lt_script.specs.Steps.{begins_comment, begins_declaration, is_plain_line, form_step, step_by_form, words_step}
 
 abbrev fault_of : ℕ → Fault
 fault_of n =
@@ -153,3 +153,136 @@ reserved_are word =
     let same : is_reserved word ≡ one_of reserved word =
     last_or (bytes_eq word (codes "nodes")) (bytes_eq word (codes "set")) (bytes_eq word (codes "client")) (bytes_eq word (codes "journal")) (bytes_eq word (codes "version")) in
     (λ e. one_of-in reserved word (sym same ∙ e), λ h. same ∙ in-one_of reserved word h)
+
+-- The fault that is told of a text is the least one of its first line with a fault.
+
+-- a line with a fault isn't skipped
+record Told (v : ℕ) (st : Option ScriptData) (line : List ℕ) (fault : Fault) : Type 0 where
+  judged : is_skipped line ≡ false
+  first : line_fault v st line ≡ Some fault
+
+by_fault : (o : Option Fault) (next : Option ScriptData) (fault : Fault) → unless o next ≡ Err fault → o ≡ Some fault
+by_fault (Some first) next fault e = cc
+by_fault None next fault e = absurd (cc)
+
+told_of : (v : ℕ) (st : Option ScriptData) (line : List ℕ) (fault : Fault) → line_step v st line ≡ Err fault → Told v st line fault
+unfolding line_step
+told_of v st line fault e =
+    let next = script_after v st (form_of (words line)) in
+    elim (is_skipped line) as (λ t. is_skipped line ≡ t → (if t then Ok st else unless (line_fault v st line) next) ≡ Err fault → Told v st line fault) [
+      | true ↦ λ skipped e. absurd (cc)
+      | false ↦ λ judged e. record { judged = judged; first = by_fault (line_fault v st line) next fault e }
+    ] refl e
+
+first_here : (v : ℕ) (line : List ℕ) (rest : List (List ℕ)) (k : ℕ) (st : Option ScriptData) (fault : Fault) → line_step v st line ≡ Err fault
+    → IsFirstFault v k st (line ∷ rest) (record { line = k; fault = fault })
+first_here v line rest k st fault step =
+    let told = told_of v st line fault step in
+    record {
+      before = [];
+      line = line;
+      after = rest;
+      so_far = st;
+      stands = refl;
+      counted = omega arith;
+      read = refl;
+      judged = told.judged;
+      least = subst (IsLeastFault (has_fault v st line)) told.first (least_is_told v st line);
+    }
+
+first_later : (v : ℕ) (line : List ℕ) (rest : List (List ℕ)) (k : ℕ) (st next : Option ScriptData) (told : ScriptFault) → line_step v st line ≡ Ok next
+    → IsFirstFault v (k + 1) next rest told ⊎ LacksNodes v (k + 1) next rest told → IsFirstFault v k st (line ∷ rest) told ⊎ LacksNodes v k st (line ∷ rest) told
+first_later v line rest k st next told step h = elim h [
+  | inl first ↦ inl (record {
+    before = line ∷ first.before;
+    line = first.line;
+    after = first.after;
+    so_far = first.so_far;
+    stands = ap (λ (ls : List (List ℕ)). line ∷ ls) first.stands;
+    counted = omega (arith, first.counted);
+    read = (next, step, first.read);
+    judged = first.judged;
+    least = first.least;
+  })
+  | inr none ↦ inr (record { read = (next, step, none.read); counted = omega (arith, none.counted); fault = none.fault })
+]
+
+abbrev told_error : ScriptFault → Result ScriptData ScriptFault
+told_error fault = Err fault
+
+same_error : (a b : ScriptFault) → told_error a ≡ Err b → a ≡ b
+same_error a b e = cc
+
+first_from : (v : ℕ) (ls : List (List ℕ)) (k : ℕ) (st : Option ScriptData) (told : ScriptFault) → read_from v ls k st ≡ Err told → IsFirstFault v k st ls told ⊎ LacksNodes v k st ls told
+unfolding read_from
+first_from v [] k (Some s) told e = absurd (cc)
+first_from v [] k None told e =
+    let same : record { line = k; fault = faults.Nodes } ≡ told = same_error (record { line = k; fault = faults.Nodes }) told e in
+    inr (record {
+      read = refl;
+      counted = omega (arith, ap (λ (f : ScriptFault). f.line) same);
+      fault = sym (ap (λ (f : ScriptFault). f.fault) same);
+    })
+first_from v (line ∷ rest) k st told e =
+    elim (line_step v st line) as (λ r. line_step v st line ≡ r → go_on k (read_from v rest (k + 1)) r ≡ Err told → IsFirstFault v k st (line ∷ rest) told ⊎ LacksNodes v k st (line ∷ rest) told) [
+      | Ok next ↦ λ step e. first_later v line rest k st next told step (first_from v rest (k + 1) next told e)
+      | Err fault ↦ λ step e. inl (subst (IsFirstFault v k st (line ∷ rest)) (same_error (record { line = k; fault = fault }) told e) (first_here v line rest k st fault step))
+    ] refl e
+
+pub first_is_told : FirstIsTold
+first_is_told bytes told e =
+    let body = script_body (lines bytes) 1 in
+    first_from body.version body.lines body.first None told e
+
+-- What reading a line comes to, by its words.
+
+pub no_word_step : (v : ℕ) (st : Option ScriptData) (line : List ℕ) → words line ≡ [] → line_step v st line ≡ Ok st
+unfolding line_step
+no_word_step v st line e = rw e refl
+
+pub comment_step : (v : ℕ) (st : Option ScriptData) (line word : List ℕ) (rest : List (List ℕ)) → words line ≡ word ∷ rest → begins_comment word ≡ true → line_step v st line ≡ Ok st
+unfolding line_step
+comment_step v st line word rest e comment = rw (e, comment) refl
+
+pub bytes_step : (v : ℕ) (st : Option ScriptData) (line word : List ℕ) (rest : List (List ℕ)) → words line ≡ word ∷ rest → begins_comment word ≡ false → is_plain_line line ≡ false
+    → line_step v st line ≡ Err faults.Bytes
+unfolding line_step
+bytes_step v st line word rest e other h = rw (h, e, other) refl
+
+pub length_step : (v : ℕ) (st : Option ScriptData) (line word : List ℕ) (rest : List (List ℕ)) → words line ≡ word ∷ rest → begins_comment word ≡ false → is_plain_line line ≡ true → MAX_LINE < length line
+    → line_step v st line ≡ Err faults.Length
+unfolding line_step
+length_step v st line word rest e other plain long = rw (plain, lt-ltb MAX_LINE (length line) long, e, other) refl
+
+by_form : (v : ℕ) (st : Option ScriptData) (o : Option FormData) → unless (fault_by_form v st o) (script_after v st o) ≡ step_by_form v st o
+by_form v st None = refl
+by_form v st (Some form) = refl
+
+pub line_words_step : (v : ℕ) (st : Option ScriptData) (line word : List ℕ) (rest : List (List ℕ)) → words line ≡ word ∷ rest → begins_comment word ≡ false → is_plain_line line ≡ true → length line ≤ MAX_LINE
+    → line_step v st line ≡ words_step v st (word ∷ rest)
+unfolding line_step
+line_words_step v st line word rest e other plain short = rw (plain, le-ltb MAX_LINE (length line) short, e, other) (by_form v st (form_of (word ∷ rest)))
+
+-- a line that declares nothing is one of a command
+pub command_form : (word : List ℕ) (rest : List (List ℕ)) → begins_declaration word ≡ false → form_of (word ∷ rest) ≡ option_map (CommandForm word) (asked_of rest)
+command_form word rest e =
+    let three = or_parts (bytes_eq word (codes "version") || bytes_eq word (codes "nodes") || bytes_eq word (codes "set")) (bytes_eq word (codes "client")) e in
+    let two = or_parts (bytes_eq word (codes "version") || bytes_eq word (codes "nodes")) (bytes_eq word (codes "set")) three.0 in
+    let one = or_parts (bytes_eq word (codes "version")) (bytes_eq word (codes "nodes")) two.0 in
+    rw (one.0, one.1, two.1, three.1) refl
+
+-- after the line `nodes` the version that is given doesn't matter
+of_script : (v w : ℕ) (s : ScriptData) (o : Option FormData) → step_by_form v (Some s) o ≡ step_by_form w (Some s) o
+of_script v w s None = refl
+of_script v w s (Some form) = refl
+
+pub later_line_step : (v : ℕ) (st : Option ScriptData) (s : ScriptData) (line word : List ℕ) (rest : List (List ℕ)) → st ≡ Some s → words line ≡ word ∷ rest → begins_comment word ≡ false → is_plain_line line ≡ true → length line ≤ MAX_LINE
+    → line_step v st line ≡ words_step s.version (Some s) (word ∷ rest)
+later_line_step v st s line word rest is e other plain short =
+    line_words_step v st line word rest e other plain short
+    ∙ ap (λ (o : Option ScriptData). words_step v o (word ∷ rest)) is
+    ∙ of_script v s.version s (form_of (word ∷ rest))
+
+-- a form with a fault is told by it
+pub told_step : (v : ℕ) (st : Option ScriptData) (form : FormData) (fault : Fault) → form_fault v st form ≡ Some fault → form_step v st form ≡ Err fault
+told_step v st form fault e = rw e refl

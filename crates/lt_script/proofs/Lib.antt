@@ -1,13 +1,7 @@
 pub mod ScriptLemmas
 pub mod PartsLemmas
 pub mod NameLemmas
-pub mod StepLemmas
-pub mod PlainLemmas
-pub mod ReadLemmas
-pub mod PrintLemmas
-pub mod PrintedLines
-pub mod RoundTrip
 pub mod FaultOrder
-pub mod FirstFault
-pub mod RoundTripSets
-pub mod RoundTripClients
+pub mod PrintedLines
+pub mod RoundTrips
+pub mod RoundTrip

@@ -1,20 +1,64 @@
--- A line of printed words is read as these words.
-use Rattle.std.proofs.Common.{◌≡◌, ℕ, zero, suc, ◌-◌, ◌*◌, ◌<◌, ◌≤◌, ◌^◌, ◌==◌, ◌≢◌, ◌&&◌, ◌||◌, Bool, true, false, not, nat_le, List, [], ◌∷◌, ◌++◌, length, get_or, Option, Some, None, Ok, refl, inl, inr, arith, length-append, codes}
-use Rattle.std.specs.List.{AllByRecursion, list_all}
+-- A text of plain bytes and line feeds has plain lines.
+use Rattle.std.proofs.Common.{◌≡◌, ℕ, zero, suc, ◌-◌, ◌==◌, ◌&&◌, true, false, nat_lt, List, [], ◌∷◌, length, take, map, inl, inr, refl, ◌*◌, ◌<◌, ◌≤◌, ◌^◌, ◌≢◌, ◌||◌, Bool, not, nat_le, ◌++◌, get_or, Option, Some, None, Ok, arith, length-append, codes, slice_index, leb-true, le-leb, lt-ltb, le-ltb, ne_eqb, eqb-true, bytes_eq, decimal}
+use Rattle.std.specs.List.{list_all, AllByRecursion}
+use Rattle.std.proofs.lemmas.Bool.{cases_Bool, and_parts, and_from, or_cases, or_parts, not-true}
 use Rattle.std.specs.Char.{is_ascii_digit, is_ascii_alphabetic, is_ascii_alphanumeric}
 use Rattle.std.specs.Int.{is_in_range}
-use Rattle.std.specs.Str.{bytes_eq}
-use Rattle.std.specs.Fmt.{decimal}
-use Rattle.std.proofs.lemmas.Bool.{and_parts, and_from, or_cases, or_parts, not-true, leb-true, le-leb, lt-ltb, le-ltb, ne_eqb, eqb-true}
 use Rattle.std.proofs.lemmas.Fmt.{length-decimal-le, decimal_nonempty}
 use Rattle.lt_modes.specs.Script.{ScriptData}
-use Rattle.lt_text.specs.Text.{spaced, each_after_space, is_blank, is_line_end, is_filled, without_return, IsWord, IsLine}
+use Rattle.lt_spec.specs.Script.{is_name, is_name_byte, is_reserved}
+use Rattle.lt_text.specs.Text.{lines, cut_at, put_front, is_line_end, without_return, spaced, each_after_space, is_blank, is_filled, IsWord, IsLine}
 use Rattle.lt_text.proofs.TextLemmas.{words_spaced}
 use Rattle.lt_text.proofs.NumberLemmas.{decimal_are_digits}
-use Rattle.lt_spec.specs.Names.{is_name, is_name_byte, is_reserved}
+use Rattle.lt_script.specs.Faults.{is_plain_byte, declared, form_fault, after_form}
+use Rattle.lt_script.specs.Steps.{is_text_byte, is_plain_line, ArePlain}
 use Rattle.lt_script.specs.Forms.{FormData, form_of}
-use Rattle.lt_script.specs.Faults.{declared, is_plain_byte, form_fault, after_form}
 use Rattle.lt_script.specs.Reading.{line_step, says_nothing}
+
+put_plain : (byte : ℕ) (pieces : List (List ℕ)) → is_plain_byte byte ≡ true → ArePlain pieces → ArePlain (put_front byte pieces)
+put_plain byte [] e h = (and_from (is_plain_byte byte) (is_plain_line []) e refl, tt)
+put_plain byte (piece ∷ pieces) e h = (and_from (is_plain_byte byte) (is_plain_line piece) e h.0, h.1)
+
+no_end : (byte : ℕ) → is_line_end byte ≡ false → is_text_byte byte ≡ true → is_plain_byte byte ≡ true
+no_end byte other e = elim (or_cases (is_plain_byte byte) (byte == 10) e) [
+  | inl plain ↦ plain
+  | inr end ↦ absurd (cc)
+]
+
+pieces_plain : (bytes : List ℕ) → list_all is_text_byte bytes ≡ true → ArePlain (cut_at is_line_end bytes)
+unfolding cut_at
+pieces_plain [] e = tt
+pieces_plain (byte ∷ bytes) e =
+    let parts = and_parts (is_text_byte byte) (list_all is_text_byte bytes) e in
+    let later = pieces_plain bytes parts.1 in
+    elim (cases_Bool (is_line_end byte)) [
+      | inl here ↦ rw here (refl, later)
+      | inr other ↦ rw other (put_plain byte (cut_at is_line_end bytes) (no_end byte other parts.0) later)
+    ]
+
+take_plain : (line : List ℕ) (k : ℕ) → is_plain_line line ≡ true → is_plain_line (take k line) ≡ true
+take_plain [] zero e = refl
+take_plain [] (suc k) e = refl
+take_plain (byte ∷ line) zero e = refl
+take_plain (byte ∷ line) (suc k) e =
+    let parts = and_parts (is_plain_byte byte) (is_plain_line line) e in
+    and_from (is_plain_byte byte) (is_plain_line (take k line)) parts.0 (take_plain line k parts.1)
+
+return_plain : (line : List ℕ) → is_plain_line line ≡ true → is_plain_line (without_return line) ≡ true
+return_plain line e = elim (cases_Bool (nat_lt 0 (length line) && slice_index line (length line - 1) == 13)) [
+  | inl ended ↦ rw ended (take_plain line (length line - 1) e)
+  | inr other ↦ rw other e
+]
+
+each_plain : (pieces : List (List ℕ)) → ArePlain pieces → ArePlain (map without_return pieces)
+each_plain [] h = tt
+each_plain (piece ∷ pieces) h = (return_plain piece h.0, each_plain pieces h.1)
+
+pub plain_lines : (bytes : List ℕ) → list_all is_text_byte bytes ≡ true → ArePlain (lines bytes)
+unfolding lines
+plain_lines bytes e = each_plain (cut_at is_line_end bytes) (pieces_plain bytes e)
+
+-- A line of printed words is read as these words.
 
 -- printable and no blank
 abbrev pub is_inked : ℕ → Bool

@@ -1,12 +1,8 @@
 -- The text of a script is read as that script.
-use Rattle.lt_script.proofs.RoundTripClients.{clients_walk, clients_printed}
-use Rattle.lt_script.proofs.RoundTripSets.{get_or_middle, Walks, walk_none, walk_more, walk_both, sets_only, clients_only, commands_only, set_fits, set_printed, set_with_printed, sets_walk}
-use Rattle.std.proofs.Common.{◌≡◌, ℕ, ◌+◌, ◌<◌, ◌≤◌, ◌==◌, ◌&&◌, Bool, true, false, not, nat_lt, cond, List, [], ◌∷◌, ◌++◌, length, map, get_or, Some, None, Ok, refl, sym, ap, subst, ◌∙◌, inl, inr, arith, append_assoc, append-nil, length-append, codes}
-use Rattle.std.specs.Prelude.{IsTrue}
+use Rattle.lt_script.proofs.RoundTrips.{clients_walk, clients_printed, get_or_middle, Walks, walk_none, walk_more, walk_both, sets_only, clients_only, commands_only, set_fits, set_printed, set_with_printed, sets_walk, read_more, read_end}
+use Rattle.std.proofs.Common.{◌≡◌, ℕ, ◌+◌, ◌<◌, ◌≤◌, ◌==◌, ◌&&◌, Bool, true, false, not, nat_lt, cond, List, [], ◌∷◌, ◌++◌, length, map, get_or, Some, None, Ok, refl, sym, ap, subst, ◌∙◌, inl, inr, arith, append_assoc, append-nil, length-append, codes, IsTrue, bytes_eq, decimal, eq-eqb, lt-ltb, le-ltb}
 use Rattle.std.specs.List.{AllByRecursion}
-use Rattle.std.specs.Str.{bytes_eq}
-use Rattle.std.specs.Fmt.{decimal}
-use Rattle.std.proofs.lemmas.Bool.{cases_Bool, eq-eqb, lt-ltb, lt-leb, le-ltb}
+use Rattle.std.proofs.lemmas.Bool.{cases_Bool, lt-leb}
 use Rattle.lt_modes.specs.declared.mode.Mode.{Mode}
 use Rattle.lt_modes.specs.declared.mode.Mode.TheVariants.{IntentionRead, Read, Upgrade, IntentionWrite, ReadIntentionWrite, Write}
 use Rattle.lt_modes.specs.declared.command.Command.{Command}
@@ -19,14 +15,12 @@ use Rattle.lt_text.specs.Number.{number}
 use Rattle.lt_text.proofs.TextLemmas.{lines_text, words_spaced}
 use Rattle.lt_spec.specs.declared.limits.TheConstants.{MAX_LINE}
 use Rattle.lt_text.proofs.NumberLemmas.{number_decimal}
-use Rattle.lt_spec.specs.Names.{is_name}
-use Rattle.lt_spec.specs.Script.{IsScript, IsRequest, HasModesOf, HasTargets, most_nodes}
+use Rattle.lt_spec.specs.Script.{is_name, IsScript, IsRequest, HasModesOf, HasTargets, most_nodes}
 use Rattle.lt_script.specs.Forms.{NodesForm, CommandForm, CommandWordsData, LockWords, TryWords, UnlockWords, ChangeWords, DropWords, form_of, asked_of}
 use Rattle.lt_script.specs.Faults.{only_nodes, mode_in}
 use Rattle.lt_script.specs.Reading.{ScriptBody, line_step, read_from, script_body, read_body, read_of}
 use Rattle.lt_script.specs.Printing.{version_words, nodes_words, first_name, set_words, client_words, asked_words, command_words, script_words, print_of}
 use Rattle.lt_script.proofs.PrintedLines.{ArePrinted, printed_words, IsPrintedLine, is_printed, line_read, name_printed, number_printed, printed_line, name_begins}
-use Rattle.lt_script.proofs.ReadLemmas.{read_more, read_end}
 
 mode_read : (mode : Mode) → mode_of (word_of mode) ≡ Some mode
 mode_read IntentionRead = refl

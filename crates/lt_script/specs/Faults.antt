@@ -13,8 +13,7 @@ use Rattle.lt_text.specs.Number.{number}
 use Rattle.lt_script.specs.declared.fault.Fault.{Fault}
 use Rattle.lt_script.specs.declared.fault.Fault.TheVariants as faults
 use Rattle.lt_spec.specs.declared.limits.TheConstants.{MAX_SETS, MAX_CLIENTS_OF_NODE, MAX_COMMANDS, MAX_LINE}
-use Rattle.lt_spec.specs.Names.{is_name}
-use Rattle.lt_spec.specs.Script.{most_nodes, most_clients, load_of, set_number, client_number, is_declared}
+use Rattle.lt_spec.specs.Script.{is_name, most_nodes, most_clients, load_of, set_number, client_number, is_declared}
 use Rattle.lt_script.specs.Forms.{FormData, VersionForm, NodesForm, SetForm, SetWithForm, ClientForm, CommandForm, CommandWordsData, LockWords, TryWords, UnlockWords, ChangeWords, DropWords, form_of}
 
 -- a script of this version that declares nothing but the number of its nodes

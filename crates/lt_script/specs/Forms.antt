@@ -1,6 +1,5 @@
 -- The forms of a script's lines, with their words.
-use Rattle.std.specs.Prelude.{ℕ, List, [], ◌∷◌, Option, Some, None, codes, if◌then◌else◌, option_map}
-use Rattle.std.specs.Str.{bytes_eq}
+use Rattle.std.specs.Prelude.{ℕ, List, [], ◌∷◌, Option, Some, None, codes, if◌then◌else◌, option_map, bytes_eq}
 use Rattle.lt_script.specs.declared.form.Form.{Form}
 use Rattle.lt_script.specs.declared.form.Form.TheVariants.{Version, Nodes, Set, SetWith, Client, Command}
 use Rattle.lt_script.specs.declared.form.CommandWords.{CommandWords}

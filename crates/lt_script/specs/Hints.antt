@@ -1,6 +1,5 @@
 -- The slots in which it is noted where names were declared.
-use Rattle.std.specs.Prelude.{ℕ, ◌+◌, ◌*◌, ◌%◌, ◌^◌, List}
-use Rattle.std.specs.List.{fold}
+use Rattle.std.specs.Prelude.{ℕ, ◌+◌, ◌*◌, ◌%◌, ◌^◌, List, fold}
 
 -- the slot of what comes before a byte and of the byte
 abbrev pub slot_with : ℕ → ℕ → ℕ

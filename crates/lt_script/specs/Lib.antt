@@ -5,5 +5,4 @@ pub mod Faults
 pub mod Reading
 pub mod Steps
 pub mod Printing
-pub mod FaultLaws
 pub mod Hints

@@ -2,8 +2,7 @@ ghost use Rattle.std.specs.Prelude.{◌≡◌, Ok};
 ghost use Rattle.lt_modes.specs.Script.{ScriptData};
 ghost use Rattle.lt_spec.specs.Script.{IsScript};
 ghost use Rattle.lt_script.specs.Printing.{print_of};
-ghost use Rattle.lt_script.specs.Reading.{read_of};
-ghost use Rattle.lt_script.specs.FaultLaws.{LeastIsTold, FirstIsTold, LimitsAre, ReservedAre, NumbersAre, FormsAre};
+ghost use Rattle.lt_script.specs.Reading.{read_of, LeastIsTold, FirstIsTold, LimitsAre, ReservedAre, NumbersAre, FormsAre};
 
 /// The text of a script is read as that script.
 pub fn law_print()

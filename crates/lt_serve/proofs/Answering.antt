@@ -1,25 +1,163 @@
--- What an answer says of a command: once its text is written, and where it came to no end.
-use Rattle.std.proofs.Common.{◌≡◌, true, false, ℕ, List, [], Option, Some, refl, sym, ap, subst, inl, inr}
-use Rattle.std.specs.Prelude.{◌⊎◌}
-use Rattle.lt_io.specs.FaultCounts.{CountsFaults}
-use Rattle.lt_io.specs.Source.{SourceState}
-use Rattle.lt_io.specs.Whole.{IsReadWhole}
-use Rattle.lt_call.specs.Outcomes.{IsEnding, WritesNothing, SaysOfSource, SaysOfSink}
-use Rattle.lt_call.proofs.Answering.{HasWritten, rose, written_reading}
-use Rattle.lt_spec.specs.Log.{Logged}
+-- What follows of an answer that comes once the writing has begun, and of words that are a command.
+use Rattle.std.proofs.Common.{◌≡◌, ℕ, Bool, true, false, List, [], ◌∷◌, Option, Some, None, refl, sym, subst, ◌∙◌, ap, Result, Ok, length, take, arith, inl, inr, option_map, if◌then◌else◌, codes, IsTrue, IsFalse, ◌⊎◌, bytes_eq, take_all}
+use Rattle.std.proofs.lemmas.Bool.{false≢true}
+use Rattle.lt_modes.specs.Script.{ScriptData}
+use Rattle.lt_spec.specs.Script.{IsScript, IsOrdered}
+use Rattle.lt_spec.specs.World.{Logged, world_after, IsRun, is_at_rest, anyone_waits, EndsBy}
+use Rattle.lt_spec.specs.declared.ending.Ending.{Ending}
+use Rattle.lt_spec.specs.declared.ending.Ending.TheVariants as ending
+use Rattle.lt_io.specs.Streams.{CountsFaults, SourceState, IsReadWhole}
+use Rattle.lt_text.specs.Number.{number}
+use Rattle.lt_script.specs.declared.fault.ScriptFault.{ScriptFault}
+use Rattle.lt_script.specs.Reading.{read_of}
+use Rattle.lt_gen.specs.Sizes.{can_make}
 use Rattle.lt_words.specs.declared.command.Command.{Command}
-use Rattle.lt_words.specs.declared.command.Command.TheVariants.{Run, SimFirst, Sim, Check, Make, Soak, Order}
-use Rattle.lt_serve.specs.declared.serving.Served.{Served}
+use Rattle.lt_words.specs.declared.command.Command.TheVariants.{Sim, Make, Soak, Run, SimFirst, Check, Order}
+use Rattle.lt_words.specs.Grammar.{seed_of, make_of, command_of}
+use Rattle.lt_law_invariant.proofs.FewAsks.{whole}
+use Rattle.lt_law_promises.specs.Promises.{RunsKeepPromises}
+use Rattle.lt_law_ordered.specs.OrderedLaws.{OrderedFinish}
+use Rattle.lt_threads.specs.Threads.{StaysWithin}
+use Rattle.lt_call.specs.declared.outcome.Outcome.TheVariants as outcome
+use Rattle.lt_call.proofs.Answering.{HasWritten, is_other, rose, written_reading}
+use Rattle.lt_call.specs.Outcomes.{IsEnding, WritesNothing, SaysOfSource, SaysOfSink}
 use Rattle.lt_serve.specs.declared.status.Status.{Status}
-use Rattle.lt_serve.specs.declared.status.Status.TheVariants.{Done, Stuck, Usage, Refused, TooLong, ReadFault, WriteFault, NoMemory, Cut, BadJournal}
-use Rattle.lt_serve.specs.Causes.{IsRefusal, reads, limit_of}
-use Rattle.lt_serve.specs.Complete.{IsComplete, IsAnswered}
-use Rattle.lt_serve.specs.Serves.{Serves}
+use Rattle.lt_serve.specs.declared.status.Status.TheVariants.{Stuck, Done, Usage, Refused, TooLong, ReadFault, WriteFault, NoMemory, Cut, BadJournal}
+use Rattle.lt_serve.specs.Causes.{HasStatusCause, MayGetStuck, CanBeMade, IsRefusal, IsUnordered, reads, limit_of}
 use Rattle.lt_serve.specs.Status.{outcome_of}
-use Rattle.lt_serve.specs.TopCall.{JournalsBy, DidOf}
-use Rattle.lt_serve.proofs.Causing.{written_causes, refused_causes}
+use Rattle.lt_serve.specs.Endings.{EndsAs, RanTo, status_of_end}
+use Rattle.lt_serve.specs.TopCall.{Journals, JournalsBy, DidOf}
+use Rattle.lt_serve.specs.declared.serving.Served.{Served}
+use Rattle.lt_serve.specs.Serves.{IsComplete, IsAnswered, Serves}
 use Rattle.lt_serve.proofs.Completing.{complete_of, refusal_complete}
-use Rattle.lt_serve.proofs.Ended.{stuck_cause}
+
+pub written_causes : (asked : Option Command) (command : Command) (left : Option (List ℕ)) (status : Status) → asked ≡ Some command
+    → HasWritten (outcome_of status) → (status ≡ Stuck → MayGetStuck asked left) → HasStatusCause asked left status
+written_causes asked command left status is h stuck = record {
+  usage = λ e. absurd (is_other (outcome_of status) outcome.Usage h tt (ap outcome_of e));
+  no_command = λ none. absurd (not_none (sym none ∙ is));
+  refused = λ fault e. absurd (is_other (outcome_of status) outcome.Refused h tt (ap outcome_of e));
+  bad_journal = λ line e. absurd (is_other (outcome_of status) outcome.BadJournal h tt (ap outcome_of e));
+  stuck = stuck;
+  read_fault = λ e. absurd (is_other (outcome_of status) outcome.ReadFault h tt (ap outcome_of e));
+  too_long = λ e. absurd (is_other (outcome_of status) outcome.TooLong h tt (ap outcome_of e));
+}
+  where
+    not_none : None ≡ Some command → ⊥
+    not_none e = cc
+
+pub refused_causes : (asked : Option Command) (command : Command) (left : Option (List ℕ)) (status : Status) → asked ≡ Some command
+    → IsRefusal command left status → HasStatusCause asked left status
+refused_causes asked command left status is h = subst (λ (a : Option Command). HasStatusCause a left status) (sym is) (record {
+  usage = λ e. absurd (subst (λ (s : Status). IsRefusal command left s) e h);
+  no_command = λ none. absurd (not_none none);
+  refused = λ fault e. (subst (λ (s : Status). IsRefusal command left s) e h).1;
+  bad_journal = λ line e. let k = subst (λ (s : Status). IsRefusal command left s) e h in (ap Some k.1, k.2);
+  stuck = λ e. absurd (subst (λ (s : Status). IsRefusal command left s) e h);
+  read_fault = λ e. subst (λ (s : Status). IsRefusal command left s) e h;
+  too_long = λ e. subst (λ (s : Status). IsRefusal command left s) e h;
+})
+  where
+    not_none : Some command ≡ None → ⊥
+    not_none e = cc
+
+-- a command as an answer to words, if it is one of a script to make
+abbrev pub MayBeMade : Option Command → Type 0
+MayBeMade None = Unit {0}
+MayBeMade (Some command) = CanBeMade command
+
+seed_may : (make : ℕ → Command) → ((seed : ℕ) → CanBeMade (make seed)) → (seed : Option ℕ) → MayBeMade (option_map make seed)
+seed_may make may None = tt
+seed_may make may (Some seed) = may seed
+
+if_may : (test : Bool) (this that : Option Command) → MayBeMade this → MayBeMade that → MayBeMade (if test then this else that)
+if_may true this that h k = h
+if_may false this that h k = k
+
+make_may : (nodes clients commands seed : Option ℕ) → MayBeMade (make_of nodes clients commands seed)
+make_may (Some nodes) (Some clients) (Some commands) (Some seed) = by_test (can_make nodes clients commands) refl
+  where
+    by_test : (test : Bool) → can_make nodes clients commands ≡ test → MayBeMade (if test then Some (Make nodes clients commands seed) else None)
+    by_test true e = e
+    by_test false e = tt
+make_may (Some nodes) (Some clients) (Some commands) None = tt
+make_may (Some nodes) (Some clients) None seed = tt
+make_may (Some nodes) None commands seed = tt
+make_may None clients commands seed = tt
+
+-- the numbers of a command are such that its script can be made
+pub may_be_made : (words : List (List ℕ)) → MayBeMade (command_of words)
+may_be_made [] = tt
+may_be_made (word ∷ []) = if_may (bytes_eq word (codes "run")) _ _ tt (if_may (bytes_eq word (codes "check")) _ _ tt (if_may (bytes_eq word (codes "order")) _ _ tt tt))
+may_be_made (word ∷ seed ∷ []) =
+    if_may (bytes_eq word (codes "sim")) _ _ (if_may (bytes_eq seed (codes "first")) _ _ tt (seed_may Sim (λ k. tt) (seed_of seed)))
+    (if_may (bytes_eq word (codes "soak")) _ _ (seed_may Soak (λ k. tt) (seed_of seed)) tt)
+may_be_made (word ∷ a ∷ b ∷ []) = tt
+may_be_made (word ∷ a ∷ b ∷ c ∷ []) = tt
+may_be_made (word ∷ nodes ∷ clients ∷ commands ∷ seed ∷ []) =
+    if_may (bytes_eq word (codes "make")) _ _ (make_may (number nodes) (number clients) (number commands) (seed_of seed)) tt
+may_be_made (word ∷ a ∷ b ∷ c ∷ d ∷ e ∷ rest) = tt
+
+-- How a run ended: what is known of it then, and why it ended with a client waiting.
+
+ends_as : (moves : ℕ) (end : Ending) (script : ScriptData) (run : List Logged) → EndsBy moves end script run → EndsAs moves (status_of_end end) script run
+ends_as moves ending.Done script run e = e
+ends_as moves ending.Stuck script run e = e
+ends_as moves (ending.Cut node) script run e = e
+
+-- at rest in a run of an ordered script no client waits
+not_stuck : (moves : ℕ) (end : Ending) (script : ScriptData) (run : List Logged) → IsScript script → IsRun script run → EndsBy moves end script run
+    → OrderedFinish → IsOrdered script → status_of_end end ≡ Stuck → ⊥
+not_stuck moves ending.Done script run is_script is_run e finish ordered stuck = cc
+not_stuck moves (ending.Cut node) script run is_script is_run e finish ordered stuck = cc
+not_stuck moves ending.Stuck script run is_script is_run e finish ordered stuck =
+    let all = take_all (length run) run (omega arith) in
+    let rests : IsTrue (is_at_rest script (world_after script (take (length run) run))) = subst (λ (r : List Logged). IsTrue (is_at_rest script (world_after script r))) (sym all) e.0 in
+    let nobody : IsFalse (anyone_waits script (world_after script run)) =
+    subst (λ (r : List Logged). IsFalse (anyone_waits script (world_after script r))) all (finish script run (whole script is_script) is_run ordered (length run) rests) in
+    false≢true (sym nobody ∙ e.1)
+
+-- a run that ended so
+pub ran_to : (moves : ℕ) (end : Ending) (script : ScriptData) (run : List Logged) → RunsKeepPromises → OrderedFinish
+    → IsScript script → IsRun script run → StaysWithin moves script run → EndsBy moves end script run → RanTo moves (status_of_end end) script run
+ran_to moves end script run promises finish is_script is_run within e = record {
+  is_script = is_script;
+  is_run = is_run;
+  within = within;
+  ends = ends_as moves end script run e;
+  promised = promises script run (whole script is_script) is_run;
+  ordered = not_stuck moves end script run is_script is_run e finish;
+}
+
+-- of bytes that denote an ordered script no run ended with a client waiting
+unordered : (moves : ℕ) (left : Option (List ℕ)) (run : List Logged) (text : List ℕ) → Journals moves Stuck left run text → IsUnordered left
+unordered moves None run text j = tt
+unordered moves (Some bytes) run text j =
+    λ script read ordered. j.ran.ordered (subst IsOrdered (same script j.script (read_of bytes) read j.denoted) ordered) refl
+  where
+    same : (a b : ScriptData) (answer : Result ScriptData ScriptFault) → answer ≡ Ok a → answer ≡ Ok b → a ≡ b
+    same a b answer e f = cc
+
+not_done : Stuck ≡ Done → ⊥
+not_done e = cc
+
+by_stuck : (moves : ℕ) (command : Command) (left : Option (List ℕ)) (run : List Logged) (text : List ℕ) → JournalsBy moves command Stuck left run text
+    → MayGetStuck (Some command) left
+by_stuck moves SimFirst left run text does = unordered moves left run text does.journals
+by_stuck moves (Sim seed) left run text does = unordered moves left run text does.journals
+by_stuck moves Run left run text does = unordered moves left run text does.journals
+by_stuck moves (Soak seed) left run text does = λ ordered. does.ran.ordered ordered refl
+by_stuck moves (Make nodes clients commands seed) left run text does = not_done does.0
+by_stuck moves Check left run text does = not_done does.done
+by_stuck moves Order left run text does = not_done does.done
+
+pub stuck_cause : (moves : ℕ) (command : Command) (status : Status) (left : Option (List ℕ)) (run : List Logged) (old new : Option (List ℕ))
+    → DidOf moves command status left run old new → status ≡ Stuck → MayGetStuck (Some command) left
+stuck_cause moves command status left run old new told e =
+    let wrote = subst (λ (s : Status). DidOf moves command s left run old new) e told in
+    by_stuck moves command left run wrote.0 wrote.1
+
+-- What an answer says of a command: once its text is written, and where it came to no end.
 
 does_answered : (moves : ℕ) (command : Command) (status : Status) (left : Option (List ℕ)) (run : List Logged) (text : List ℕ)
     → JournalsBy moves command status left run text → IsEnding (outcome_of status) → IsAnswered command status

@@ -1,11 +1,10 @@
 -- What `check` answers, by what its input says.
 use Rattle.std.proofs.Common.{◌≡◌, ◌∙◌, ℕ, List, Option, refl, sym, ap, subst}
-use Rattle.lt_io.specs.Source.{SourceState}
-use Rattle.lt_io.specs.Whole.{IsReadWhole}
+use Rattle.lt_io.specs.Streams.{SourceState, IsReadWhole}
 use Rattle.lt_call.specs.declared.outcome.Outcome.TheVariants as outcome
 use Rattle.lt_call.specs.Outcomes.{SaysOfSource}
 use Rattle.lt_call.proofs.Answering.{failed_reading, long_reading, memory_reading, refused_reading}
-use Rattle.lt_spec.specs.Log.{Logged}
+use Rattle.lt_spec.specs.World.{Logged}
 use Rattle.lt_modes.specs.Script.{ScriptData}
 use Rattle.lt_spec.specs.Script.{IsScript}
 use Rattle.lt_world.specs.Fields.{WorldData}
@@ -14,10 +13,10 @@ use Rattle.lt_checker.specs.declared.limits.TheConstants.{MAX_JOURNAL}
 use Rattle.lt_checker.specs.declared.error.InputError.{InputError}
 use Rattle.lt_checker.specs.declared.error.InputError.TheVariants as error
 use Rattle.lt_checker.specs.Input.{IsJournalOf, IsEndedRun, FailsInput}
-use Rattle.lt_law_journals.specs.Journals.{IsFinished}
+use Rattle.lt_law_journals.specs.Checking.{IsFinished}
 use Rattle.lt_words.specs.declared.command.Command.TheVariants.{Check}
 use Rattle.lt_serve.specs.declared.made.Made.{Made}
-use Rattle.lt_serve.specs.declared.status.Status.TheVariants.{Done, NoMemory}
+use Rattle.lt_serve.specs.declared.status.Status.TheVariants.{Done}
 use Rattle.lt_serve.specs.Causes.{IsRefusal, status_of_input}
 use Rattle.lt_serve.specs.Status.{outcome_of}
 use Rattle.lt_serve.specs.TopCall.{Checks, ok_text}

@@ -1,14 +1,13 @@
 -- A command that came to no end has something against it.
 use Rattle.std.proofs.Common.{◌≡◌, ◌≢◌, ℕ, Option, Some, None, refl, sym, subst, true}
-use Rattle.lt_io.specs.FaultCounts.{Rose}
-use Rattle.lt_io.specs.Source.{SourceState}
+use Rattle.lt_io.specs.Streams.{Rose, SourceState}
 use Rattle.lt_call.specs.Outcomes.{SaysOfSource}
 use Rattle.lt_call.proofs.Answering.{rose}
 use Rattle.lt_words.specs.declared.command.Command.{Command}
 use Rattle.lt_serve.specs.declared.status.Status.{Status}
 use Rattle.lt_serve.specs.declared.status.Status.TheVariants.{Done, Stuck, Usage, Refused, TooLong, ReadFault, WriteFault, NoMemory, Cut, BadJournal}
 use Rattle.lt_serve.specs.Causes.{IsRefusal, reads, limit_of}
-use Rattle.lt_serve.specs.Complete.{IsGood, IsAnswered, IsComplete}
+use Rattle.lt_serve.specs.Serves.{IsGood, IsAnswered, IsComplete}
 use Rattle.lt_serve.specs.Status.{outcome_of}
 
 -- a command is answered so where nothing goes wrong, if it is where nothing goes wrong with its source and its sink

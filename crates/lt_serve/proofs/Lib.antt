@@ -1,8 +1,6 @@
 mod Answering
-mod Causing
 mod Checked
 mod Completing
-mod Ended
 pub mod NeverCut
-mod Ordered
+pub mod Ordered
 mod Rooms

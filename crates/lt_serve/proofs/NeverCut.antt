@@ -1,9 +1,8 @@
 -- No run is cut where a node may make more moves than any run has; so each comes to rest.
-use Rattle.std.proofs.Common.{arith, ◌≡◌, ◌≢◌, ◌≤◌, ◌∙◌, ℕ, List, Option, Some, None, refl, sym, subst, inl, inr}
-use Rattle.std.specs.Prelude.{◌⊎◌, ◌^◌}
-use Rattle.lt_io.specs.Source.{SourceState}
+use Rattle.std.proofs.Common.{arith, ◌≡◌, ◌≢◌, ◌≤◌, ◌∙◌, ℕ, List, Option, Some, None, refl, sym, subst, inl, inr, ◌⊎◌, ◌^◌}
+use Rattle.lt_io.specs.Streams.{SourceState}
 use Rattle.lt_modes.specs.Script.{ScriptData}
-use Rattle.lt_spec.specs.Log.{Logged}
+use Rattle.lt_spec.specs.World.{Logged}
 use Rattle.lt_law_ends.specs.EndLaws.{NeverCutAtAll}
 use Rattle.lt_call.specs.Outcomes.{IsEnding}
 use Rattle.lt_call.specs.Scripts.{DenotesOrdered}
@@ -13,10 +12,8 @@ use Rattle.lt_serve.specs.declared.serving.Served.{Served}
 use Rattle.lt_serve.specs.declared.status.Status.{Status}
 use Rattle.lt_serve.specs.declared.status.Status.TheVariants.{Done, Stuck, Usage, Refused, TooLong, ReadFault, WriteFault, NoMemory, Cut, BadJournal}
 use Rattle.lt_serve.specs.Causes.{MayGetStuck, IsUnordered}
-use Rattle.lt_serve.specs.Complete.{IsComplete, IsAnswered, GoesWell}
+use Rattle.lt_serve.specs.Serves.{IsComplete, IsAnswered, GoesWell, Ends, RunsOrdered, Serves}
 use Rattle.lt_serve.specs.Endings.{RanTo}
-use Rattle.lt_serve.specs.Ends.{Ends, RunsOrdered}
-use Rattle.lt_serve.specs.Serves.{Serves}
 use Rattle.lt_serve.specs.Status.{outcome_of}
 use Rattle.lt_serve.specs.TopCall.{JournalsBy, DidOf, Did, greatest_script}
 

@@ -1,9 +1,7 @@
 -- One move more, in the order of a simulation.
-use Rattle.std.proofs.Common.{◌≡◌, ◌∙◌, ℕ, suc, List, [], ◌∷◌, ◌++◌, Option, Some, None, length, refl, sym, ap}
-use Rattle.std.specs.Prelude.{option_map}
+use Rattle.std.proofs.Common.{◌≡◌, ◌∙◌, ℕ, suc, List, [], ◌∷◌, ◌++◌, Option, Some, None, length, refl, sym, ap, option_map}
 use Rattle.lt_modes.specs.Script.{ScriptData}
-use Rattle.lt_spec.specs.Log.{Logged}
-use Rattle.lt_spec.specs.World.{World, after, after_run, logged}
+use Rattle.lt_spec.specs.World.{Logged, World, after, after_run, logged}
 use Rattle.lt_spec.specs.FixedOrder.{Turn, pick, count_turns, first_run_from}
 use Rattle.lt_law_journals.proofs.Places.{stamp_node}
 use Rattle.lt_world.specs.declared.choice.Choice.{Choice}

@@ -1,8 +1,7 @@
 -- How many moves are left to the nodes of a simulation.
-use Rattle.std.proofs.Common.{◌≡◌, ◌≢◌, ◌∙◌, ℕ, zero, suc, Option, ap₂, ◌+◌, ◌-◌, ◌<◌, ◌≤◌, Bool, true, false, List, [], ◌∷◌, ◌++◌, Some, None, length, take, refl, sym, ap, arith, subst, inl, inr}
-use Rattle.std.specs.Prelude.{◌==◌, ◌&&◌, nat_lt, IsTrue, if◌then◌else◌, cond, count_by}
-use Rattle.std.proofs.lemmas.Bool.{cases_eq, eq-eqb, ne_eqb, eqb-true, ltb-true, and_parts, or_left, or_right, false≢true}
-use Rattle.std.proofs.lemmas.List.{take-append-le, take_all, length_push}
+use Rattle.std.proofs.Common.{◌≡◌, ◌≢◌, ◌∙◌, ℕ, zero, suc, Option, ap₂, ◌+◌, ◌-◌, ◌<◌, ◌≤◌, Bool, true, false, List, [], ◌∷◌, ◌++◌, Some, None, length, take, refl, sym, ap, arith, subst, inl, inr, ◌==◌, ◌&&◌, nat_lt, IsTrue, if◌then◌else◌, cond, count_by, eq-eqb, ne_eqb, eqb-true, ltb-true, take_all}
+use Rattle.std.proofs.lemmas.Bool.{cases_eq, and_parts, or_left, or_right, false≢true}
+use Rattle.std.proofs.lemmas.List.{take-append-le, length_push}
 use Rattle.std.proofs.lemmas.List.Sums.{sum_by-cons, sum_by-append}
 use Rattle.lt_modes.specs.declared.moves.Step.{Step}
 use Rattle.lt_modes.specs.declared.moves.Step.TheVariants.{Act, Take}
@@ -11,10 +10,8 @@ use Rattle.lt_spec.specs.Script.{IsScript}
 use Rattle.lt_lists.specs.Below.{sum_below, any_below, first_below, earlier}
 use Rattle.lt_lists.proofs.Searches.{any_below_at}
 use Rattle.lt_lists.proofs.Sums.{sum_below-change}
-use Rattle.lt_spec.specs.Log.{Logged}
-use Rattle.lt_spec.specs.World.{World, world_after, logged, is_enabled, is_of_node}
+use Rattle.lt_spec.specs.World.{Logged, World, world_after, logged, is_enabled, is_of_node, moves_of, can_move, is_full, full_node}
 use Rattle.lt_law_journals.proofs.Places.{stamp_node}
-use Rattle.lt_spec.specs.Cut.{moves_of, can_move, is_full, full_node}
 use Rattle.lt_threads.specs.Threads.{StaysWithin}
 use Rattle.lt_serve.specs.Endings.{StopsInTime}
 

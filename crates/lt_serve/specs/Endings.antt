@@ -1,15 +1,11 @@
 -- How a run ended, and what is known of a run that was made.
 use Rattle.std.specs.Prelude.{◌≡◌, ◌≢◌, ◌<◌, ℕ, List, Option, Some, None, length, take}
 use Rattle.lt_modes.specs.Script.{ScriptData}
-use Rattle.lt_spec.specs.Script.{IsScript}
-use Rattle.lt_spec.specs.Log.{Logged}
-use Rattle.lt_spec.specs.World.{IsRun}
+use Rattle.lt_spec.specs.Script.{IsScript, IsOrdered}
+use Rattle.lt_spec.specs.World.{Logged, IsRun, EndsBy, full_node}
 use Rattle.lt_spec.specs.Promised.{Promised}
-use Rattle.lt_spec.specs.Ordered.{IsOrdered}
 use Rattle.lt_spec.specs.declared.ending.Ending.{Ending}
 use Rattle.lt_spec.specs.declared.ending.Ending.TheVariants as ending
-use Rattle.lt_spec.specs.Endings.{EndsBy}
-use Rattle.lt_spec.specs.Cut.{full_node}
 use Rattle.lt_threads.specs.Threads.{StaysWithin}
 use Rattle.lt_serve.specs.declared.status.Status.{Status}
 use Rattle.lt_serve.specs.declared.status.Status.TheVariants.{Done, Stuck, Cut}

@@ -3,8 +3,5 @@ pub mod Endings
 pub mod Status
 pub mod TopCall
 pub mod Causes
-pub mod Complete
-pub mod Ends
-pub mod Literals
-pub mod Input
 pub mod Serves
+pub mod Literals

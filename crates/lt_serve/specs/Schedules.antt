@@ -1,10 +1,9 @@
 -- In which order a simulation makes the enabled moves.
 use Rattle.std.specs.Prelude.{◌≡◌, ℕ, List, [], ◌∷◌, Some}
 use Rattle.lt_modes.specs.Script.{ScriptData}
-use Rattle.lt_spec.specs.Log.{Logged}
-use Rattle.lt_spec.specs.World.{World, start, after, logged}
+use Rattle.lt_spec.specs.World.{Logged, World, start, after, logged}
 use Rattle.lt_spec.specs.FixedOrder.{Turn, pick, count_turns}
-use Rattle.lt_gen.specs.Draws.{draw_of}
+use Rattle.lt_gen.specs.Generator.{draw_of}
 use Rattle.lt_serve.specs.declared.schedule.Schedule.{Schedule}
 use Rattle.lt_serve.specs.declared.schedule.Schedule.TheVariants.{First, Drawn}
 

@@ -1,13 +1,78 @@
--- All that the top call says of an answer.
-use Rattle.std.specs.Prelude.{◌≡◌, true, false, ℕ, List, Option}
-use Rattle.lt_io.specs.Source.{SourceState}
-use Rattle.lt_call.specs.Outcomes.{SaysOfSource, SaysOfSink, WritesNothing}
+-- What a command answers where nothing goes wrong.
+use Rattle.std.specs.Prelude.{◌≡◌, ◌≢◌, true, ℕ, ◌+◌, Option, Some, ◌⊎◌, List, Err, false}
+use Rattle.lt_spec.specs.Script.{IsOrdered}
+use Rattle.lt_io.specs.Streams.{Rose, RoseBy, SourceState}
+use Rattle.lt_script.specs.declared.fault.ScriptFault.{ScriptFault}
+use Rattle.lt_script.specs.Reading.{read_of}
 use Rattle.lt_words.specs.declared.command.Command.{Command}
-use Rattle.lt_serve.specs.declared.serving.Served.{Served}
-use Rattle.lt_serve.specs.Causes.{HasStatusCause, reads, limit_of}
-use Rattle.lt_serve.specs.Complete.{IsComplete}
+use Rattle.lt_words.specs.declared.command.Command.TheVariants.{Check, Make, Order, Run, SimFirst, Sim, Soak}
+use Rattle.lt_checker.specs.Input.{IsBad}
+use Rattle.lt_call.specs.Outcomes.{IsEnding, SaysOfSource, SaysOfSink, WritesNothing}
+use Rattle.lt_call.specs.Scripts.{DenotesOrdered}
+use Rattle.lt_serve.specs.declared.status.Status.{Status}
+use Rattle.lt_serve.specs.declared.status.Status.TheVariants.{Done, NoMemory, Stuck, Cut, Refused}
+use Rattle.lt_serve.specs.Causes.{HasFirstFault, reads, limit_of, HasStatusCause}
 use Rattle.lt_serve.specs.Status.{outcome_of}
-use Rattle.lt_serve.specs.TopCall.{Did}
+use Rattle.lt_serve.specs.TopCall.{greatest_script, Did}
+use Rattle.lt_serve.specs.declared.serving.Served.{Served}
+
+-- the source failed at no read and gave no more than the input may have, and its bytes are known: their script has no fault,
+-- and the journal that `check` reads has no bad line
+pub record IsGood (command : Command) (before after : SourceState) : Type 0 where
+  pub no_read_fault : Rose before.faults after.faults → ⊥
+  pub not_too_long : RoseBy (limit_of (Some command) + 1) before.given after.given → ⊥
+  pub no_fault : (fault : ScriptFault) → HasFirstFault (Some command) before.left fault → ⊥
+  pub no_bad_line : command ≡ Check → (line : ℕ) → IsBad before.left line → ⊥
+
+-- `make`, `check` and `order` are done; every other command has made a run to its end, which is Done, Stuck or Cut: of which end it is,
+-- and that a node met its limit at Cut, `Did` speaks
+abbrev pub IsAnswered : Command → Status → Type 0
+IsAnswered (Make nodes clients commands seed) answer = answer ≡ Done
+IsAnswered Check answer = answer ≡ Done
+IsAnswered Order answer = answer ≡ Done
+IsAnswered other answer = IsEnding (outcome_of answer)
+
+-- the words are a command, and nothing goes wrong: its input is good, if it reads one, no write failed, and memory wasn't
+-- wanting
+pub record GoesWell (asked : Option Command) (answer : Status) (before after : SourceState) (writes_before writes_after : ℕ) : Type 0 where
+  pub command : Command
+  pub is_asked : asked ≡ Some command
+  pub good : reads (Some command) ≡ true → IsGood command before after
+  pub no_write_fault : Rose writes_before writes_after → ⊥
+  pub memory : answer ≢ NoMemory
+
+-- where nothing goes wrong, the command is answered so
+abbrev pub IsComplete : Option Command → Status → SourceState → SourceState → ℕ → ℕ → Type 0
+IsComplete asked answer before after writes_before writes_after =
+    (well : GoesWell asked answer before after writes_before writes_after) → IsAnswered well.command answer
+
+-- That every run comes to rest, where a node may make more moves than any run has.
+
+-- the command makes a run, of an ordered script
+abbrev pub RunsOrdered : Option Command → Option (List ℕ) → Type 0
+RunsOrdered (Some SimFirst) left = DenotesOrdered left
+RunsOrdered (Some (Sim seed)) left = DenotesOrdered left
+RunsOrdered (Some Run) left = DenotesOrdered left
+RunsOrdered (Some (Soak seed)) left = IsOrdered (greatest_script seed)
+RunsOrdered other left = ⊥
+
+-- no run is cut: each comes to rest, unless something goes wrong
+pub record Ends (asked : Option Command) (answer : Status) (before after : SourceState) (writes_before writes_after : ℕ) : Type 0 where
+  pub never_cut : (node : ℕ) → answer ≢ Cut node
+  -- where nothing goes wrong, the command is done, or its run is at rest with a client waiting
+  pub done_or_stuck : GoesWell asked answer before after writes_before writes_after → (answer ≡ Done) ⊎ (answer ≡ Stuck)
+  -- and of an ordered script it is done: at rest, and no client waits
+  pub ordered : GoesWell asked answer before after writes_before writes_after → RunsOrdered asked before.left → answer ≡ Done
+
+-- What was read of an input, and why it is refused.
+
+-- the bytes have this fault, or memory was wanting
+abbrev pub IsFaultOf : List ℕ → Status → Type 0
+IsFaultOf bytes (Refused fault) = read_of bytes ≡ Err fault
+IsFaultOf bytes NoMemory = Unit {0}
+IsFaultOf bytes other = ⊥
+
+-- All that the top call says of an answer.
 
 -- the answer to this command, or to words that are none, where a node makes up to so many moves; and the source and the sink
 -- before and after, with what they tell of themselves

@@ -1,21 +1,19 @@
 -- What each answer of the top call means.
-use Rattle.std.specs.Prelude.{◌≡◌, ℕ, List, [], ◌∷◌, ◌++◌, Option, Some, None, length, codes}
-use Rattle.std.specs.Fmt.{decimal}
+use Rattle.std.specs.Prelude.{◌≡◌, ℕ, List, [], ◌∷◌, ◌++◌, Option, Some, None, length, codes, decimal}
 use Rattle.std.specs.Io.KnownBytes.{Appends}
-use Rattle.lt_io.specs.Sink.{AppendsPart}
+use Rattle.lt_io.specs.Streams.{AppendsPart}
 use Rattle.lt_call.specs.Scripts.{Denotes}
 use Rattle.lt_modes.specs.Script.{ScriptData, client_name}
-use Rattle.lt_spec.specs.Log.{Logged}
+use Rattle.lt_spec.specs.World.{Logged}
 use Rattle.lt_merge.specs.Merging.{AreRising}
-use Rattle.lt_journal.specs.Text.{text_of, lines_text}
+use Rattle.lt_journal.specs.RunLines.{text_of, lines_text}
 use Rattle.lt_journal.specs.declared.line.Line.TheVariants.{Cut as CutLine}
-use Rattle.lt_law_journals.specs.Journals.{IsFinished}
+use Rattle.lt_law_journals.specs.Checking.{IsFinished}
 use Rattle.lt_spec.specs.Promised.{Promised}
 use Rattle.lt_checker.specs.Input.{DenotesBefore, IsJournalOf}
-use Rattle.lt_gen.specs.Generator.{script_of}
-use Rattle.lt_spec.specs.Ordered.{first_bad}
+use Rattle.lt_gen.specs.Generator.{script_of, seeded}
+use Rattle.lt_spec.specs.Script.{first_bad, IsScript}
 use Rattle.lt_tally.specs.Summary.{summary_of, summary_text}
-use Rattle.lt_spec.specs.Script.{IsScript}
 use Rattle.lt_script.specs.Printing.{print_of}
 use Rattle.lt_words.specs.declared.command.Command.{Command}
 use Rattle.lt_words.specs.declared.command.Command.TheVariants.{Run, SimFirst, Sim, Check, Make, Soak, Order}
@@ -23,7 +21,6 @@ use Rattle.lt_serve.specs.declared.status.Status.{Status}
 use Rattle.lt_serve.specs.declared.status.Status.TheVariants.{Done, Stuck, WriteFault, Cut}
 use Rattle.lt_threads.specs.Threads.{GoesFar}
 use Rattle.lt_serve.specs.Endings.{RanTo, StopsInTime, cut_of}
-use Rattle.lt_gen.specs.Draws.{seeded}
 use Rattle.lt_serve.specs.declared.schedule.Schedule.{Schedule}
 use Rattle.lt_serve.specs.declared.schedule.Schedule.TheVariants.{First, Drawn}
 use Rattle.lt_serve.specs.Schedules.{AreInOrder}

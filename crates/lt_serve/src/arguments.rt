@@ -1,9 +1,8 @@
 ghost use Rattle.std.specs.Prelude.{◌≡◌, ◌≢◌, [], map, IfOk, IfErr};
 ghost use Rattle.std.specs.IoError.{error_kind};
 ghost use Rattle.std.specs.String.{string_bytes};
-ghost use Rattle.lt_words.specs.Words.{command_of};
-ghost use Rattle.lt_serve.specs.Ends.{Ends};
-ghost use Rattle.lt_serve.specs.Serves.{Serves};
+ghost use Rattle.lt_words.specs.Grammar.{command_of};
+ghost use Rattle.lt_serve.specs.Serves.{Ends, Serves};
 ghost use Rattle.lt_serve.specs.declared.serving.TheConstants.{USUAL};
 
 use crate::serving::{Served, USUAL, serve};

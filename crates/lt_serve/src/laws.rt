@@ -1,6 +1,6 @@
 ghost use Rattle.std.specs.Prelude.{◌≡◌, List, length};
 ghost use Rattle.lt_modes.specs.Script.{ScriptData};
-ghost use Rattle.lt_spec.specs.Log.{Logged};
+ghost use Rattle.lt_spec.specs.World.{Logged};
 ghost use Rattle.lt_spec.specs.FixedOrder.{first_run};
 ghost use Rattle.lt_serve.specs.declared.schedule.Schedule.TheVariants.{First};
 ghost use Rattle.lt_serve.specs.Schedules.{AreInOrder};

@@ -3,7 +3,7 @@ ghost use Rattle.lt_spec.specs.World.{is_enabled, is_at_rest};
 ghost use Rattle.lt_spec.specs.FixedOrder.{pick, count_turns};
 ghost use Rattle.lt_world.specs.Choice.{choice_of};
 ghost use Rattle.lt_world.specs.Fields.{world_of};
-ghost use Rattle.lt_gen.specs.Draws.{draw_of};
+ghost use Rattle.lt_gen.specs.Generator.{draw_of};
 ghost use Rattle.lt_serve.specs.Schedules.{scheduled};
 
 use lt_gen::Draws;

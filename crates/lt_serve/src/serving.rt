@@ -1,15 +1,14 @@
 ghost use Rattle.std.specs.Prelude.{◌≡◌, ◌<◌, ◌≤◌, ◌^◌, true, false, map, [], Some, IfOk, IfErr, OnOk};
 ghost use Rattle.std.specs.String.{string_bytes};
 ghost use Rattle.lt_call.specs.Outcomes.{SaysOfSource, IsEnding};
-ghost use Rattle.lt_io.specs.Whole.{IsReadWhole};
+ghost use Rattle.lt_io.specs.Streams.{IsReadWhole};
 ghost use Rattle.lt_spec.specs.declared.moves.TheConstants.{MAX_MOVES};
 ghost use Rattle.lt_mail.specs.declared.opening.TheConstants.{MAX_CAPACITY};
 ghost use Rattle.lt_threads.specs.declared.sharing.TheConstants.{MAX_WORKERS};
-ghost use Rattle.lt_words.specs.Words.{command_of};
+ghost use Rattle.lt_words.specs.Grammar.{command_of};
 ghost use Rattle.lt_serve.specs.Causes.{IsRefusal, CanBeMade, reads, limit_of};
 ghost use Rattle.lt_serve.specs.Status.{outcome_of};
-ghost use Rattle.lt_serve.specs.Ends.{Ends};
-ghost use Rattle.lt_serve.specs.Serves.{Serves};
+ghost use Rattle.lt_serve.specs.Serves.{Ends, Serves};
 ghost use Rattle.lt_serve.specs.declared.serving.TheConstants.{USUAL};
 ghost use Rattle.lt_serve.specs.TopCall.{JournalsBy};
 

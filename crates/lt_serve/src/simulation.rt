@@ -1,8 +1,7 @@
 ghost use Rattle.std.specs.Prelude.{◌≡◌, ◌<◌, ◌≤◌, [], None, IsTrue, IfOk, OnOk};
 ghost use Rattle.lt_spec.specs.Script.{IsScript};
-ghost use Rattle.lt_spec.specs.World.{is_at_rest};
+ghost use Rattle.lt_spec.specs.World.{is_at_rest, full_node};
 ghost use Rattle.lt_spec.specs.declared.moves.TheConstants.{MAX_MOVES};
-ghost use Rattle.lt_spec.specs.Cut.{full_node};
 ghost use Rattle.lt_world.specs.Fields.{world_of};
 ghost use Rattle.lt_threads.specs.Threads.{StaysWithin};
 ghost use Rattle.lt_serve.specs.Schedules.{AreInOrder};
@@ -19,7 +18,7 @@ use std::alloc::{AllocError, Global};
 
 /// Makes the moves of a script by this schedule, until the world is at rest or a node that has made as many as it may
 /// could make another.
-#[tactic(auto, using(crate::proofs::Ended::ran_to))]
+#[tactic(auto, using(crate::proofs::Answering::ran_to))]
 pub(crate) fn simulate(
     alloc: Global,
     script: &Script,

@@ -1,9 +1,9 @@
 ghost use Rattle.std.specs.Prelude.{◌≡◌, ◌<◌, ◌≤◌, IfOk, IfErr, OnOk};
 ghost use Rattle.lt_call.specs.Outcomes.{SaysOfSource};
-ghost use Rattle.lt_io.specs.Whole.{IsReadWhole};
+ghost use Rattle.lt_io.specs.Streams.{IsReadWhole};
 ghost use Rattle.lt_spec.specs.Script.{IsScript};
 ghost use Rattle.lt_merge.specs.Merging.{AreRising};
-ghost use Rattle.lt_journal.specs.Text.{text_of};
+ghost use Rattle.lt_journal.specs.RunLines.{text_of};
 ghost use Rattle.lt_spec.specs.declared.moves.TheConstants.{MAX_MOVES};
 ghost use Rattle.lt_serve.specs.Endings.{RanTo, cut_of, status_of_end};
 ghost use Rattle.lt_mail.specs.declared.opening.TheConstants.{MAX_CAPACITY};
@@ -32,7 +32,7 @@ use std::alloc::{AllocError, Global};
 use std::thread::Threads;
 
 /// The run of a script on threads, and how it ended.
-#[tactic(auto, using(crate::proofs::Ended::ran_to))]
+#[tactic(auto, using(crate::proofs::Answering::ran_to))]
 pub(crate) fn run_nodes<R: Threads + Sync, G: Gate>(
     rt: &R,
     alloc: Global,

@@ -1,11 +1,9 @@
 -- The least node that is full.
-use Rattle.std.proofs.Common.{◌≡◌, Bool, true, false, ℕ, zero, suc, ◌<◌, List, Some, None, inl, inr, refl, ap, ◌∙◌, arith}
-use Rattle.std.specs.Prelude.{nat_lt, if◌then◌else◌}
-use Rattle.std.proofs.lemmas.Bool.{cases_order, ltb-true, false_from_ne_true}
+use Rattle.std.proofs.Common.{◌≡◌, Bool, true, false, ℕ, zero, suc, ◌<◌, List, Some, None, inl, inr, refl, ap, ◌∙◌, arith, nat_lt, if◌then◌else◌, ltb-true}
+use Rattle.std.proofs.lemmas.Bool.{cases_order, false_from_ne_true}
 use Rattle.lt_modes.specs.Script.{ScriptData}
 use Rattle.lt_lists.specs.Below.{first_below, earlier}
-use Rattle.lt_spec.specs.Log.{Logged}
-use Rattle.lt_spec.specs.Cut.{is_full, full_node}
+use Rattle.lt_spec.specs.World.{Logged, is_full, full_node}
 
 -- the least number that passes
 least_on : (n q : ℕ) (test : ℕ → Bool) → q < n → ((k : ℕ) → k < q → test k ≡ false) → test q ≡ true → first_below n test nat_lt ≡ Some q

@@ -1,13 +1,11 @@
 -- What the laws say of a world: tokens, places of asks, and who waits for whom at rest.
-use Rattle.lt_modes.specs.Queue.{times_in, same_ask}
-use Rattle.lt_lists.specs.Below.{one_if, sum_below}
-use Rattle.std.specs.Prelude.{◌≡◌, ◌==◌, ◌<◌, ℕ, ◌+◌, List, [], ◌∷◌, if◌then◌else◌, IsTrue, is_some, sum_by, Contains}
+use Rattle.std.specs.Prelude.{◌≡◌, ◌==◌, ◌<◌, ℕ, ◌+◌, List, [], ◌∷◌, if◌then◌else◌, IsTrue, is_some, sum_by, Contains, Option, Some, None}
+use Rattle.lt_modes.specs.State.{times_in, same_ask, SetState, Body, AskBody, TellBody, CopyBody, TokenBody, FreezeBody, Letter, Parked, ParkedAsk, ParkedTell, Desk}
 use Rattle.lt_modes.specs.declared.ask.Ask.{Ask}
 use Rattle.lt_modes.specs.Modes.{excludes_itself}
 use Rattle.lt_modes.specs.Script.{ScriptData}
-use Rattle.lt_modes.specs.State.{SetState, Body, AskBody, TellBody, CopyBody, TokenBody, FreezeBody, Letter, Parked, ParkedAsk, ParkedTell}
-use Rattle.lt_modes.specs.Serving.{queue_of}
-use Rattle.lt_modes.specs.Tells.{is_newer}
+use Rattle.lt_modes.specs.Serving.{queue_of, is_newer}
+use Rattle.lt_lists.specs.Below.{one_if, sum_below}
 use Rattle.lt_spec.specs.World.{World}
 
 -- what node q keeps for set s
@@ -71,3 +69,20 @@ LeadsBy script w s ask (older ∷ rest) = StandsBehind w s ask older × LeadsBy 
 -- a chain of asks, each behind an older one, leads the ask to the queue
 abbrev pub IsLedToQueue : ScriptData → World → ℕ → Ask → Type 0
 IsLedToQueue script w s ask = (chain : List Ask) × LeadsBy script w s ask chain
+
+-- Which letters of a set are on their way, and where its desk is.
+
+-- the letter is one of the set's on its way from p to q
+pub record OnWay (w : World) (s p q : ℕ) (letter : Letter) : Type 0 where
+  pub among : Contains (w.mail p q) letter
+  pub set : letter.set ≡ s
+
+-- a letter of the set that says this is on its way to q
+abbrev pub Comes : ScriptData → World → ℕ → ℕ → Body → Type 0
+Comes script w s q body =
+    (p : ℕ) × (letter : Letter) × (p < script.nodes) × OnWay w s p q letter × (letter.body ≡ body)
+
+-- the set's desk is this one: at a node, or in a letter on its way
+abbrev pub DeskIs : ScriptData → World → ℕ → Option ℕ → Desk → Type 0
+DeskIs script w s (Some t) desk = (t < script.nodes) × ((state_at w s t).desk ≡ Some desk)
+DeskIs script w s None desk = (q : ℕ) × (q < script.nodes) × Comes script w s q (TokenBody desk)

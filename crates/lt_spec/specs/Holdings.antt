@@ -1,13 +1,18 @@
 -- Who holds and who waits after event lines, read from the lines alone.
-use Rattle.std.specs.Prelude.{Bool, ◌&&◌, ◌||◌, ◌==◌, not, ℕ, List, [], ◌∷◌, ◌++◌, Option, Some, None, if◌then◌else◌, IsTrue, fold, filter, flat_map, position, remove, count_by, AllPairs}
+use Rattle.std.specs.Prelude.{Bool, ◌&&◌, ◌||◌, ◌==◌, not, ℕ, List, [], ◌∷◌, ◌++◌, Option, Some, None, if◌then◌else◌, IsTrue, fold, filter, flat_map, position, remove, count_by, AllPairs, ◌≡◌, Contains, false, IsFalse, ◌<◌, length, ◌≢◌, nat_lt}
+use Rattle.std.specs.List.{AllByRecursion}
 use Rattle.lt_modes.specs.declared.mode.Mode.{Mode}
 use Rattle.lt_modes.specs.declared.event.Event.{Event}
 use Rattle.lt_modes.specs.declared.event.Event.TheVariants.{Grant, Wait, Try, Unlock, Change, DropAll, Token}
 use Rattle.lt_modes.specs.declared.parts.Link.{Link}
-use Rattle.lt_modes.specs.Modes.{conflicts, same_mode}
+use Rattle.lt_modes.specs.Modes.{conflicts, same_mode, any_mode, count_of}
 use Rattle.lt_modes.specs.Script.{ScriptData}
-use Rattle.lt_spec.specs.Log.{Logged}
-use Rattle.lt_spec.specs.Families.{is_related}
+use Rattle.lt_modes.specs.declared.ask.Ask.{Ask}
+use Rattle.lt_modes.specs.Waiting.{pending_ask, stands_before, parked_behind}
+use Rattle.lt_lists.specs.Below.{any_below}
+use Rattle.lt_spec.specs.World.{Logged, World}
+use Rattle.lt_spec.specs.NodeMove.{is_related, home}
+use Rattle.lt_spec.specs.Facts.{state_at}
 
 -- one lock of a client in a set
 pub record Holding : Type 0 where
@@ -81,3 +86,63 @@ owner_after s owner other = owner
 -- the node and the epoch of the set's last `token` line, or node 0 and epoch 0
 abbrev pub owner_of : ℕ → List Event → Link
 owner_of s lines = fold (owner_after s) (record { node = 0; epoch = 0 }) lines
+
+-- Who waits, by the asks of a node and by the lines of a run, and which lock bars an ask.
+
+-- the client waits for the mode: an unanswered ask of it wants it
+abbrev pub WaitsFor : ScriptData → World → ℕ → ℕ → Mode → Type 0
+WaitsFor script w client s mode =
+    (ask : Ask) × Contains (state_at w s (home script client)).pending ask × (ask.client ≡ client) × (ask.mode ≡ mode)
+
+-- the line says that the client waits, or waits no more
+abbrev pub is_about_waiting : ℕ → Event → Bool
+is_about_waiting client (Wait c set mode) = c == client
+is_about_waiting client (Grant c set mode) = c == client
+is_about_waiting client (Change c set gives_up mode) = c == client
+is_about_waiting client other = false
+
+-- the last of the client's `wait`, `grant` and `change` lines is a `wait` line, of this set and mode
+abbrev pub HasOpenWait : ℕ → ℕ → Mode → List Event → Type 0
+HasOpenWait client set mode lines =
+    (before : List Event) × (later : List Event) × (lines ≡ before ++ Wait client set mode ∷ later)
+    × AllByRecursion (λ line. IsFalse (is_about_waiting client line)) later
+
+-- by these lines some client of the script waits
+abbrev pub HasWaiter : ScriptData → List Event → Type 0
+HasWaiter script lines = (client s : ℕ) × (mode : Mode) × (client < length script.clients) × (s < length script.sets)
+    × HasOpenWait client s mode lines
+
+-- by these lines another client holds a lock of the set with which the ask conflicts
+pub record IsBarredByLines (script : ScriptData) (lines : List Event) (s : ℕ) (ask : Ask) : Type 0 where
+  pub lock : Holding
+  pub held : Contains (holdings script lines) lock
+  pub set : lock.set ≡ s
+  pub other : lock.client ≢ ask.client
+  pub conflict : IsTrue (conflicts ask.mode lock.mode)
+
+-- Who waits for whom in a world.
+
+-- the client holds a lock of the set with which the mode conflicts
+abbrev pub holds_against : ScriptData → World → ℕ → Mode → ℕ → Bool
+holds_against script w s mode client =
+    any_mode (λ m. conflicts mode m && nat_lt 0 (count_of (state_at w s (home script client)).held client m))
+
+-- at some node the other client's ask stands before the client's, or the client's ask is parked behind it
+abbrev pub waits_behind : ScriptData → World → ℕ → ℕ → ℕ → Bool
+waits_behind script w s other client =
+    any_below script.nodes (λ q. stands_before (state_at w s q) other client || parked_behind (state_at w s q) other client)
+
+-- the other client's lock or ask stands in the way of the ask: it conflicts with a lock that the other one holds, stands
+-- behind its ask in the queue, or is parked behind its ask
+abbrev pub is_kept_by : ScriptData → World → ℕ → ℕ → Ask → Bool
+is_kept_by script w s other ask = holds_against script w s ask.mode other || waits_behind script w s other ask.client
+
+abbrev pub kept_if : ScriptData → World → ℕ → ℕ → Option Ask → Bool
+kept_if script w s other None = false
+kept_if script w s other (Some ask) = is_kept_by script w s other ask
+
+-- the client waits for the other one: that one stands in the way of its unanswered ask
+abbrev pub waits_for : ScriptData → World → ℕ → ℕ → Bool
+waits_for script w client other =
+    not (client == other)
+    && any_below (length script.sets) (λ s. kept_if script w s other (pending_ask (state_at w s (home script client)) client))

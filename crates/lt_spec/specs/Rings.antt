@@ -1,6 +1,9 @@
 -- A graph of who waits for whom: the clients that wait in a ring, and where a walk from client to client ends.
-use Rattle.std.specs.Prelude.{◌<◌, Bool, true, ◌==◌, ℕ, zero, suc, ◌+◌, List, [], ◌∷◌, ◌++◌, Option, Some, None, if◌then◌else◌, filter, IsTrue, Contains}
-use Rattle.std.specs.List.{list_any, range_with_len, find}
+use Rattle.std.specs.Prelude.{◌<◌, Bool, true, ◌==◌, ℕ, zero, suc, ◌+◌, List, [], ◌∷◌, ◌++◌, Option, Some, None, if◌then◌else◌, filter, IsTrue, Contains, length, map, flat_map, find}
+use Rattle.std.specs.List.{list_any, range_with_len}
+use Rattle.lt_modes.specs.Script.{ScriptData}
+use Rattle.lt_spec.specs.World.{World}
+use Rattle.lt_spec.specs.Holdings.{waits_for}
 
 -- whether the first of two clients waits for the second
 abbrev pub Graph : Type 0
@@ -81,3 +84,34 @@ walk_end n graph c = walk_end_from n n graph c
 -- the client waits for some client
 abbrev pub waits_for_some : ℕ → Graph → ℕ → Bool
 waits_for_some n graph c = list_any (graph c) (numbers_below n)
+
+-- The report of who waits for whom.
+
+-- a line of the report: the first client waits for the second; these clients wait in a ring; none do;
+-- the walk of a client that waits ends at the second
+pub data ReportLine : Type 0 where
+  WaitsLine : ℕ → ℕ → ReportLine
+  CycleLine : List ℕ → ReportLine
+  NoCycleLine : ReportLine
+  EndsLine : ℕ → ℕ → ReportLine
+
+-- each client with each client for which it waits
+abbrev pub waits_lines : ℕ → Graph → List ReportLine
+waits_lines n graph = flat_map (λ c. map (WaitsLine c) (filter (graph c) (numbers_below n))) (numbers_below n)
+
+-- each client that waits, with the end of its walk
+abbrev pub ends_lines : ℕ → Graph → List ReportLine
+ends_lines n graph = map (λ c. EndsLine c (walk_end n graph c)) (filter (waits_for_some n graph) (numbers_below n))
+
+-- the ring, or the ends where there is none
+abbrev pub last_lines : ℕ → Graph → List ℕ → List ReportLine
+last_lines n graph [] = NoCycleLine ∷ ends_lines n graph
+last_lines n graph (c ∷ rest) = CycleLine (ring_of n graph (c ∷ rest)) ∷ []
+
+-- the report of n clients
+abbrev pub report : ℕ → Graph → List ReportLine
+report n graph = waits_lines n graph ++ last_lines n graph (ring_set n graph)
+
+-- who waits for whom in the world
+abbrev pub waits_report : ScriptData → World → List ReportLine
+waits_report script w = report (length script.clients) (waits_for script w)

@@ -1,16 +1,25 @@
--- The world: the nodes and the letters on their way, its enabled moves, and runs.
-use Rattle.std.specs.Prelude.{◌≡◌, Bool, true, false, ◌&&◌, ◌==◌, not, nat_lt, ℕ, List, [], ◌∷◌, ◌++◌, Option, Some, None, if◌then◌else◌, length, drop, IsTrue}
-use Rattle.std.specs.List.{filter_map}
+-- Logs and runs: moves with their events, in order.
+use Rattle.std.specs.Prelude.{List, ◌≡◌, Bool, true, false, ◌&&◌, ◌==◌, not, nat_lt, ℕ, [], ◌∷◌, ◌++◌, Option, Some, None, if◌then◌else◌, length, drop, IsTrue, ◌||◌, count_by, filter, filter_map}
+use Rattle.std.specs.List.{AllByRecursion}
+use Rattle.lt_modes.specs.declared.moves.Move.{Move}
+use Rattle.lt_modes.specs.declared.event.Event.{Event}
 use Rattle.lt_modes.specs.declared.stamp.Stamp.{Stamp}
 use Rattle.lt_modes.specs.declared.moves.Step.{Step}
 use Rattle.lt_modes.specs.declared.moves.Step.TheVariants.{Act, Take}
 use Rattle.lt_modes.specs.Script.{ScriptData}
-use Rattle.lt_modes.specs.State.{Letter, Body, AskBody, TellBody, CopyBody, TokenBody, FreezeBody, first_state}
-use Rattle.lt_modes.specs.Made.{Post}
-use Rattle.lt_spec.specs.Log.{Logged}
-use Rattle.lt_lists.specs.Below.{any_below, put}
-use Rattle.lt_spec.specs.Families.{home}
-use Rattle.lt_spec.specs.NodeMove.{NodeState, NodeMade, no_move, has_command, node_waits, node_act, node_take, act_stamp, take_stamp}
+use Rattle.lt_modes.specs.State.{Letter, Body, AskBody, TellBody, CopyBody, TokenBody, FreezeBody, first_state, Post}
+use Rattle.lt_modes.specs.declared.event.Event.TheVariants.{Grant, Wait, Try, Unlock, NotHeld, Change, DropAll, Busy, Copy, Freeze, Token}
+use Rattle.lt_lists.specs.Below.{any_below, put, first_below}
+use Rattle.lt_spec.specs.NodeMove.{home, NodeState, NodeMade, no_move, has_command, node_waits, node_act, node_take, act_stamp, take_stamp}
+use Rattle.lt_spec.specs.declared.ending.Ending.{Ending}
+use Rattle.lt_spec.specs.declared.ending.Ending.TheVariants.{Done, Stuck, Cut}
+
+-- a move that was made, and its events in order
+pub record Logged : Type 0 where
+  pub made : Move
+  pub events : List Event
+
+-- The world: the nodes and the letters on their way, its enabled moves, and runs.
 
 -- the nodes; the letters on their way from one node to another, the oldest first;
 -- and for each set the nodes that had its token, node 0 first
@@ -156,3 +165,80 @@ IsRun script run = IsRunFrom script (start script) run
 
 abbrev pub is_of_node : ℕ → Logged → Bool
 is_of_node q entry = entry.made.stamp.node == q
+
+-- Where a run is cut: at a node that has made as many moves as it may, and has a further one.
+
+-- how many moves of the run are of node q
+abbrev pub moves_of : ℕ → List Logged → ℕ
+moves_of q run = count_by (is_of_node q) run
+
+-- node q can make a move
+abbrev pub can_move : ScriptData → World → ℕ → Bool
+can_move script w q =
+    any_below script.nodes (λ p. is_enabled script w q (Take p))
+    || any_below (length script.clients) (λ client. is_enabled script w q (Act client))
+
+-- node q has made as many moves as it may, and could make another
+abbrev pub is_full : ScriptData → ℕ → List Logged → ℕ → Bool
+is_full script limit run q = moves_of q run == limit && can_move script (world_after script run) q
+
+-- the least such node
+abbrev pub full_node : ScriptData → ℕ → List Logged → Option ℕ
+full_node script limit run = first_below script.nodes (is_full script limit run) nat_lt
+
+-- How a run of a script ends, where a node makes up to so many moves.
+
+-- at rest with nobody waiting, at rest with somebody waiting, or where this node, the least such one, has made as many moves
+-- as it may and has a further one
+abbrev pub EndsBy : ℕ → Ending → ScriptData → List Logged → Type 0
+EndsBy limit Done script run =
+    (is_at_rest script (world_after script run) ≡ true) × (anyone_waits script (world_after script run) ≡ false)
+EndsBy limit Stuck script run =
+    (is_at_rest script (world_after script run) ≡ true) × (anyone_waits script (world_after script run) ≡ true)
+EndsBy limit (Cut node) script run = full_node script limit run ≡ Some node
+
+-- The lines of a client: those that name it as the one that acts or is answered.
+
+-- the client that acts or is answered by the line; lines of copies, freezes and tokens have none
+abbrev pub line_client : Event → Option ℕ
+line_client (Grant client s mode) = Some client
+line_client (Wait client s mode) = Some client
+line_client (Try client s mode got) = Some client
+line_client (Unlock client s mode) = Some client
+line_client (NotHeld client s mode) = Some client
+line_client (Change client s gives_up mode) = Some client
+line_client (DropAll client other s count) = Some client
+line_client (Busy client other s) = Some client
+line_client (Copy s to client mode) = None
+line_client (Freeze s to number modes) = None
+line_client (Token s to epoch) = None
+
+abbrev pub IsOfNode : ScriptData → ℕ → Option ℕ → Type 0
+IsOfNode script q (Some client) = home script client ≡ q
+IsOfNode script q None = Unit {0}
+
+-- the line's client, where it has one, is of node q
+abbrev pub IsOwnLine : ScriptData → ℕ → Event → Type 0
+IsOwnLine script q line = IsOfNode script q (line_client line)
+
+-- all lines of the entry are of clients of the node that moved
+abbrev pub HasOwnLines : ScriptData → Logged → Type 0
+HasOwnLines script entry = AllByRecursion (IsOwnLine script entry.made.stamp.node) entry.events
+
+-- the line is a reply to the client: an answer to one of its commands
+abbrev pub is_reply_to : ℕ → Event → Bool
+is_reply_to client (Grant c s mode) = c == client
+is_reply_to client (Wait c s mode) = false
+is_reply_to client (Try c s mode got) = c == client
+is_reply_to client (Unlock c s mode) = c == client
+is_reply_to client (NotHeld c s mode) = c == client
+is_reply_to client (Change c s gives_up mode) = c == client
+is_reply_to client (DropAll c other s count) = c == client
+is_reply_to client (Busy c other s) = c == client
+is_reply_to client (Copy s to c mode) = false
+is_reply_to client (Freeze s to number modes) = false
+is_reply_to client (Token s to epoch) = false
+
+-- the replies to the client among these lines, in order
+abbrev pub replies_of : ℕ → List Event → List Event
+replies_of client lines = filter (is_reply_to client) lines

@@ -1,20 +1,15 @@
 -- How many records have a mode: after one record changed, and without two of them.
-use Rattle.std.proofs.Common.{◌≡◌, ◌≢◌, ◌∙◌, ℕ, zero, suc, ◌+◌, ◌<◌, ◌≤◌, inl, inr, Bool, true, false, List, length, take, subst, sym, add-one, arith, refl, ap}
-use Rattle.std.specs.Prelude.{◌⊎◌, ◌||◌, ◌&&◌, ◌==◌, if◌then◌else◌, nat_lt, slice_set, sum_by}
-use Rattle.std.proofs.lemmas.Bool.{cases_eq, cases_lt, eq-eqb, ne_eqb, lt-ltb}
+use Rattle.std.proofs.Common.{◌≡◌, ◌≢◌, ◌∙◌, ℕ, zero, suc, ◌+◌, ◌<◌, ◌≤◌, inl, inr, Bool, true, false, List, length, take, subst, sym, add-one, arith, refl, ap, ◌⊎◌, ◌||◌, ◌&&◌, ◌==◌, if◌then◌else◌, nat_lt, slice_set, sum_by, eq-eqb, ne_eqb, lt-ltb, length-set, take_all}
+use Rattle.std.proofs.lemmas.Bool.{cases_eq, cases_lt}
 use Rattle.std.proofs.lemmas.Bool.Decides.{nat_tests}
-use Rattle.std.proofs.lemmas.List.{length-set, take_all}
 use Rattle.std.proofs.Math.ListN.{get_or-eq_default}
 use Rattle.std.proofs.lemmas.List.Sums.{sum_by-set, sum_by_more, get_or-le-sum_by, count_by-le-length}
 use Rattle.lt_modes.specs.declared.mode.Mode.{Mode}
 use Rattle.lt_modes.specs.Modes.{has, union, no_modes}
-use Rattle.lt_modes.specs.State.{SetState, Desk, Entry, first_entry}
-use Rattle.lt_modes.specs.Records.{record_of, own_part, others_below, others}
-use Rattle.lt_table.specs.TableData.{entry_at}
-use Rattle.lt_modes.proofs.ModeAlgebra.{has-modes_by}
-use Rattle.lt_modes.specs.Counts.{mode_count, count_if, CanShift, IsShifted, modes_beyond}
-use Rattle.lt_modes.proofs.SetLemmas.{same_members, has-union, has-no_modes}
-use Rattle.lt_table.specs.NodeCounts.{AreNodeCounts}
+use Rattle.lt_modes.specs.State.{SetState, Desk, Entry, first_entry, record_of, own_part, others_below, others}
+use Rattle.lt_table.specs.TableData.{entry_at, AreNodeCounts}
+use Rattle.lt_modes.proofs.ModeAlgebra.{has-modes_by, same_members, has-union, has-no_modes}
+use Rattle.lt_modes.specs.FiveModes.{mode_count, count_if, CanShift, IsShifted, modes_beyond}
 
 -- whether the entry's record has the mode, as a number
 abbrev weight : Mode → Entry → ℕ

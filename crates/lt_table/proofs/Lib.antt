@@ -1,6 +1,3 @@
-mod OwedLemmas
-mod EntryLemmas
-mod CountLemmas
-mod RecountLemmas
-mod ToldLemmas
 pub mod StampLemmas
+mod RecountLemmas
+mod CountLemmas

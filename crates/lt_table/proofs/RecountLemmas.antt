@@ -1,20 +1,116 @@
--- The counts of a table, as one of its entries changes and as they are read.
-use Rattle.std.proofs.Common.{◌≡◌, ◌≢◌, ◌∙◌, ℕ, zero, suc, ◌<◌, ◌≤◌, inl, inr, Bool, true, false, List, [], ◌∷◌, length, map, subst, sym, arith, refl, ap}
-use Rattle.std.specs.Prelude.{◌⊎◌, ◌&&◌, ◌==◌, not, nat_lt, slice_index_or, slice_set}
+-- Entries by place: what is seen of them, and their room.
+use Rattle.std.proofs.Common.{◌≡◌, ℕ, zero, suc, ◌+◌, ◌<◌, ◌≤◌, List, [], ◌∷◌, length, map, take, subst, sym, add-one, arith, refl, ap, ◌∙◌, Bool, true, false, Option, Some, None, ◌≢◌, inl, inr, Result, Ok, Err, OnErr, slice_index_or, slice_set, ◌⊎◌, ◌&&◌, ◌==◌, not, nat_lt}
 use Rattle.std.proofs.lemmas.Bool.{cases_eq, cases_lt}
 use Rattle.std.proofs.lemmas.Bool.Decides.{nat_tests}
 use Rattle.std.proofs.lemmas.List.{length-map}
-use Rattle.lt_modes.specs.declared.mode.Mode.{Mode}
-use Rattle.lt_modes.specs.Modes.{Modes, union, no_modes}
 use Rattle.lt_modes.specs.State as rules
-use Rattle.lt_modes.specs.Records.{record_of, own_part, others}
+use Rattle.lt_modes.specs.Modes.{Modes, same_modes, union, no_modes}
+use Rattle.lt_modes.specs.State.{record_of, own_part, others}
+use Rattle.lt_modes.proofs.ModeAlgebra.{same_modes-true}
+use Rattle.lt_modes.specs.declared.mode.Mode.{Mode}
+use Rattle.lt_modes.specs.FiveModes.{mode_count, CanShift, IsShifted, modes_beyond}
 use Rattle.lt_table.specs.declared.entry.Entry.{Entry}
-use Rattle.lt_table.specs.Seen.{entry_seen}
-use Rattle.lt_table.specs.TableData.{entry_at}
-use Rattle.lt_modes.specs.Counts.{mode_count, CanShift, IsShifted, modes_beyond}
-use Rattle.lt_table.specs.NodeCounts.{AreNodeCounts}
-use Rattle.lt_table.proofs.EntryLemmas.{entries_put}
+use Rattle.lt_table.specs.Seen.{entry_seen, spare_of, spare_in}
+use Rattle.lt_table.specs.TableData.{put_by, entry_at, misses, AreTold, AreToldLast, IsStillTold, AreNodeCounts}
 use Rattle.lt_table.proofs.CountLemmas.{can_shift, shifted_are, others_apart, others_plain}
+
+-- what holds holds of an error
+pub on_err : {T E P : Type 0} (r : Result T E) → P → OnErr r P
+on_err (Ok x) p = tt
+on_err (Err e) p = p
+
+-- the least spare is at most that of each entry
+pub spare_at : (es : List Entry) (x : ℕ) (d : Entry) → x < length es
+    → spare_in es ≤ spare_of (slice_index_or es x d)
+spare_at [] x d h = absurd (omega arith)
+spare_at (e ∷ es) zero d h = omega arith
+spare_at (e ∷ es) (suc x) d h = omega (arith, spare_at es x d (omega (arith, h)))
+
+-- an entry whose spare fell by at most j lowers the least spare by at most j
+pub spare_set : (es : List Entry) (x : ℕ) (e d : Entry) (j : ℕ) → spare_of (slice_index_or es x d) ≤ spare_of e + j
+    → spare_in es ≤ spare_in (slice_set es x e) + j
+spare_set [] x e d j h = omega arith
+spare_set (f ∷ es) zero e d j h = omega (arith, h)
+spare_set (f ∷ es) (suc x) e d j h = omega (arith, spare_set es x e d j h)
+
+pub spare_same : (es : List Entry) (x : ℕ) (e d : Entry) → spare_of e ≡ spare_of (slice_index_or es x d)
+    → spare_in (slice_set es x e) ≡ spare_in es
+spare_same [] x e d h = refl
+spare_same (f ∷ es) zero e d h = omega (arith, h)
+spare_same (f ∷ es) (suc x) e d h = omega (arith, spare_same es x e d h)
+
+-- the entries up to place x have so many places
+pub spare_take : (asks : ℕ) (es : List Entry) (x : ℕ) (e : Entry) → x < length es → asks ≤ spare_of e
+    → asks ≤ spare_in (take x es)
+    → asks ≤ spare_in (take (suc x) (slice_set es x e))
+spare_take asks [] x e h spare all = absurd (omega arith)
+spare_take asks (f ∷ es) zero e h spare all = omega (arith, spare, all)
+spare_take asks (f ∷ es) (suc x) e h spare all =
+    omega (arith, all, spare_take asks es x e (omega (arith, h)) spare (omega (arith, all)))
+
+pub spare_next : (asks : ℕ) (es : List Entry) (x : ℕ) (e : Entry) → x < length es → asks ≤ spare_of e
+    → asks ≤ spare_in (take x es)
+    → asks ≤ spare_in (take (x + 1) (slice_set es x e))
+spare_next asks es x e h spare all =
+    subst (λ j. asks ≤ spare_in (take j (slice_set es x e))) (sym (add-one x)) (spare_take asks es x e h spare all)
+
+seen_put : (f : rules.Entry → rules.Entry) (es : List Entry) (x : ℕ) (e d : Entry) → x < length es
+    → entry_seen e ≡ f (entry_seen (slice_index_or es x d))
+    → map entry_seen (slice_set es x e) ≡ put_by x f (map entry_seen es)
+seen_put f [] x e d h same = absurd (omega arith)
+seen_put f (g ∷ es) zero e d h same = ap (λ y. y ∷ map entry_seen es) same
+seen_put f (g ∷ es) (suc x) e d h same = ap (λ ys. entry_seen g ∷ ys) (seen_put f es x e d (omega (arith, h)) same)
+
+-- a changed entry is seen as changed
+pub entries_put : (f : rules.Entry → rules.Entry) (es : List Entry) (seen : List rules.Entry) (x node : ℕ) (e new : Entry)
+    → map entry_seen es ≡ seen → x ≡ node → x < length es → e ≡ slice_index_or es x e → entry_seen new ≡ f (entry_seen e)
+    → map entry_seen (slice_set es x new) ≡ put_by node f seen
+entries_put f es seen x node e new is_seen same h there changed =
+    rw (sym is_seen, sym same) (seen_put f es x new e h (changed ∙ ap (λ y. f (entry_seen y)) there))
+
+-- an entry that is seen as before
+pub entries_same : (es : List Entry) (x : ℕ) (e d : Entry) → entry_seen e ≡ entry_seen (slice_index_or es x d)
+    → map entry_seen (slice_set es x e) ≡ map entry_seen es
+entries_same [] x e d same = refl
+entries_same (g ∷ es) zero e d same = ap (λ y. y ∷ map entry_seen es) same
+entries_same (g ∷ es) (suc x) e d same = ap (λ ys. entry_seen g ∷ ys) (entries_same es x e d same)
+
+-- The frozen modes that all were told, as one of the entries changes and as they are read.
+
+told_at : (frozen : Modes) (es : List rules.Entry) (x y : ℕ) (new : rules.Entry)
+    → misses frozen (record_of new) new.frozen_told ≡ false
+    → misses frozen (record_of (entry_at es y)) (entry_at es y).frozen_told ≡ false
+    → misses frozen (record_of (entry_at (slice_set es x new) y)) (entry_at (slice_set es x new) y).frozen_told ≡ false
+told_at frozen [] x y new told before = before
+told_at frozen (e ∷ es) zero zero new told before = told
+told_at frozen (e ∷ es) zero (suc y) new told before = before
+told_at frozen (e ∷ es) (suc x) zero new told before = before
+told_at frozen (e ∷ es) (suc x) (suc y) new told before = told_at frozen es x y new told before
+
+-- one entry changed, and its node was told what is still kept
+pub still_kept : (es : List Entry) (all made : Option Modes) (x : ℕ) (e new : Entry) (known last : Modes)
+    → AreToldLast (map entry_seen es) all → x < length es → e ≡ slice_index_or es x e
+    → known ≡ record_of (entry_seen new) → last ≡ (entry_seen new).frozen_told → IsStillTold all known last made
+    → AreToldLast (map entry_seen (slice_set es x new)) made
+still_kept es all None x e new known last are h there is_known is_last still = tt
+still_kept es all (Some frozen) x e new known last are h there is_known is_last still =
+    let were : AreTold frozen (map entry_seen es) = subst (λ (o : Option Modes). AreToldLast (map entry_seen es) o) still.0 are in
+    let here : misses frozen (record_of (entry_seen new)) (entry_seen new).frozen_told ≡ false =
+    subst (λ (m : Modes). misses frozen (record_of (entry_seen new)) m ≡ false) is_last
+    (subst (λ (m : Modes). misses frozen m last ≡ false) is_known still.1) in
+    subst (λ (seen : List rules.Entry). AreTold frozen seen)
+    (sym (entries_put (λ old. entry_seen new) es (map entry_seen es) x x e new refl refl h there refl))
+    (λ y. told_at frozen (map entry_seen es) x y (entry_seen new) here (were y))
+
+-- what is kept was told, where it is these modes
+pub all_were_told : (es seen : List rules.Entry) (all : Option Modes) (kept frozen : Modes) (b : Bool)
+    → AreToldLast es all → all ≡ Some kept → es ≡ seen → b ≡ same_modes kept frozen → b ≡ true → AreTold frozen seen
+all_were_told es seen all kept frozen b are is same test holds =
+    subst (λ (list : List rules.Entry). AreTold frozen list) same
+    (subst (λ (m : Modes). AreTold m es) (same_modes-true kept frozen (sym test ∙ holds))
+    (subst (λ (o : Option Modes). AreToldLast es o) is are))
+
+-- The counts of a table, as one of its entries changes and as they are read.
 
 seen_at : (es : List Entry) (x : ℕ) (d : Entry) → x < length es → entry_at (map entry_seen es) x ≡ entry_seen (slice_index_or es x d)
 seen_at [] x d h = absurd (omega (arith, h))

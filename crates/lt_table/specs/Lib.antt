@@ -1,5 +1,3 @@
 pub mod TableData
 pub mod Seen
-pub mod NodeCounts
-pub mod Told
 pub mod Stamps

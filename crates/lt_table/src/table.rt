@@ -1,15 +1,10 @@
 ghost use Rattle.std.specs.Prelude.{◌≡◌, ◌≤◌, ◌<◌, ◌+◌, List, true, length, map, replicate, IfOk, OnOk, OnErr, ◌==◌, ◌&&◌, not, nat_lt};
 ghost use Rattle.lt_modes.specs.declared.ask.Ask.{Ask};
-ghost use Rattle.lt_modes.specs.State.{SetState, Desk, first_entry};
-ghost use Rattle.lt_modes.specs.Held.{held_modes};
-ghost use Rattle.lt_modes.specs.Records.{record_of, modes_of_owed, still_owed, own_part, others};
-ghost use Rattle.lt_modes.specs.Tells.{told, is_newer};
-ghost use Rattle.lt_modes.specs.Serving.{owing};
-ghost use Rattle.lt_modes.specs.HandingOver.{stamps_of, settled};
-ghost use Rattle.lt_table.specs.TableData.{entry_at, put_by, ask_with, told_frozen};
+ghost use Rattle.lt_modes.specs.State.{SetState, Desk, first_entry, record_of, modes_of_owed, still_owed, own_part, others};
+ghost use Rattle.lt_modes.specs.Modes.{held_modes};
+ghost use Rattle.lt_modes.specs.Serving.{told, is_newer, owing, stamps_of, settled};
+ghost use Rattle.lt_table.specs.TableData.{entry_at, put_by, ask_with, told_frozen, nodes_with, AreTold};
 ghost use Rattle.lt_table.specs.Seen.{entry_seen, spare_in};
-ghost use Rattle.lt_table.specs.NodeCounts.{nodes_with};
-ghost use Rattle.lt_table.specs.Told.{AreTold};
 
 use crate::entry::{Entry, still_told};
 use crate::pending::Pending;
@@ -33,10 +28,8 @@ pub struct Table {
 
 impl Model for Table {
     ghost use Rattle.std.specs.Prelude.{◌<◌, ◌≤◌, map, length};
-    ghost use Rattle.lt_table.specs.TableData.{TableData};
+    ghost use Rattle.lt_table.specs.TableData.{TableData, AreNodeCounts, AreToldLast};
     ghost use Rattle.lt_table.specs.Seen.{entry_seen, spare_in};
-    ghost use Rattle.lt_table.specs.NodeCounts.{AreNodeCounts};
-    ghost use Rattle.lt_table.specs.Told.{AreToldLast};
 
     ghost Value = { TableData };
 

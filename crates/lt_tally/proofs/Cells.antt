@@ -3,8 +3,7 @@ use Rattle.std.proofs.Common.{◌≡◌, ◌≢◌, ℕ, ◌+◌, ◌-◌, ◌*�
 use Rattle.lt_modes.specs.Script.{ScriptData}
 use Rattle.lt_spec.specs.Holdings.{Holding, same_holding, without_one, times_held}
 use Rattle.lt_tally.specs.LockTable.{mode_place, cell_of, HasCell, Counts}
-use Rattle.lt_tally.proofs.Counting.{same_holding-equal, same_holding-itself, count_of-without, count_of-more}
-use Rattle.lt_tally.proofs.Places.{place_of-few, same_place}
+use Rattle.lt_tally.proofs.Counting.{same_holding-equal, same_holding-itself, count_of-without, count_of-more, place_of-few, same_place}
 
 pub cell_of-apart : (a b : Holding) → a.set < 8 → b.set < 8 → same_holding a b ≡ false → cell_of b ≢ cell_of a
 cell_of-apart a b few_a few_b e same =

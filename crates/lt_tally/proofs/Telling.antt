@@ -1,16 +1,97 @@
--- What a tally tells after one event more.
-use Rattle.std.proofs.Common.{◌≡◌, ℕ, ◌<◌, ◌≤◌, List, [], ◌∷◌, ◌++◌, Option, Some, None, refl, sym, ap, subst, ◌∙◌, inl, inr, length, set, arith, get_or, get_or-set_same, get_or-set_other, length-set}
-use Rattle.std.specs.Prelude.{slice_set, ◌==◌, if◌then◌else◌}
-use Rattle.std.proofs.lemmas.Bool.{cases_eq, eq-eqb, ne_eqb}
-use Rattle.std.proofs.lemmas.List.Sums.{fold-append}
-use Rattle.lt_modes.specs.declared.mode.Mode.{Mode}
+-- What one turn of a loop adds to the events done so far.
+use Rattle.std.proofs.Common.{◌≡◌, ℕ, zero, suc, ◌+◌, ◌<◌, List, [], ◌∷◌, ◌++◌, length, take, get_or, Some, refl, sym, ap, ◌∙◌, arith, ◌≤◌, Bool, true, false, fold, filter, Option, None, length-append, length-drop, subst, inl, inr, set, get_or-set_same, get_or-set_other, length-set, append_assoc, length-take, not, position, Result, Ok, Err, OnErr, slice_set, ◌==◌, if◌then◌else◌, eq-eqb, ne_eqb}
+use Rattle.std.proofs.lemmas.List.{take_more}
+use Rattle.std.proofs.lemmas.List.Sums.{length-filter, count_by-le-length, fold-append}
+use Rattle.std.proofs.lemmas.Bool.{cases_eq}
 use Rattle.lt_modes.specs.declared.event.Event.{Event}
-use Rattle.lt_modes.specs.declared.event.Event.TheVariants.{Grant, Wait, Unlock, Change, Token}
-use Rattle.lt_modes.specs.declared.parts.Link.{Link}
+use Rattle.lt_modes.specs.declared.event.Event.TheVariants.{Grant, Try, Unlock, Change, DropAll, Wait, Token}
 use Rattle.lt_modes.specs.Script.{ScriptData}
-use Rattle.lt_spec.specs.Holdings.{Holding, holding, holdings, after_line, wanted, wanted_after, owner_of, owner_after}
-use Rattle.lt_tally.proofs.Few.{length-without}
+use Rattle.lt_modes.specs.declared.mode.Mode.{Mode}
+use Rattle.lt_modes.specs.declared.parts.Link.{Link}
+use Rattle.lt_spec.specs.World.{Logged}
+use Rattle.lt_spec.specs.Holdings.{lines_of, Holding, holding, without_one, without_holding, is_dropped, same_holding, after_line, holdings, wanted, wanted_after, owner_of, owner_after}
+use Rattle.lt_merge.specs.Merging.{events_at}
 use Rattle.lt_tally.specs.LockTable.{Counts, Tally, IsTallied, waited_for, owner_at}
+
+append_nil : {X : Type 0} (xs : List X) → xs ++ [] ≡ xs
+append_nil [] = refl
+append_nil {X} (x ∷ xs) = ap (λ (ys : List X). x ∷ ys) (append_nil xs)
+
+-- these items up to one after some others, and the next
+pub one_more : {X : Type 0} (before xs : List X) (i : ℕ) (x : X) → x ≡ get_or xs i x → i < length xs → (before ++ take i xs) ++ x ∷ [] ≡ before ++ take (i + 1) xs
+one_more {X} before xs i x e h =
+    ap (λ (y : X). (before ++ take i xs) ++ y ∷ []) e
+    ∙ (append_assoc before (take i xs) (get_or xs i x ∷ [])
+    ∙ ap (λ (ys : List X). before ++ ys) (sym (take_more xs i x h)))
+
+lines_of-take : (entries : List Logged) (k : ℕ) (events : List Event) → events_at entries k ≡ Some events → lines_of (take (suc k) entries) ≡ lines_of (take k entries) ++ events
+lines_of-take [] k events f = cc
+lines_of-take (entry ∷ later) zero events f =
+    let same : entry.events ≡ events = cc in
+    append_nil entry.events ∙ same
+lines_of-take (entry ∷ later) (suc k) events f =
+    ap (λ (es : List Event). entry.events ++ es) (lines_of-take later k events f)
+    ∙ sym (append_assoc entry.events (lines_of (take k later)) events)
+
+-- the events of the moves up to this one, and of this one
+pub lines_of-more : (entries : List Logged) (k : ℕ) (events : List Event) → events_at entries k ≡ Some events → lines_of (take k entries) ++ events ≡ lines_of (take (k + 1) entries)
+lines_of-more entries k events f =
+    let one : suc k ≡ k + 1 = omega arith in
+    sym (lines_of-take entries k events f) ∙ ap (λ (n : ℕ). lines_of (take n entries)) one
+
+-- No more locks are held than events were made.
+
+length-without_at : (held : List Holding) (place : Option ℕ) → length (without_holding held place) ≤ length held
+length-without_at held None = omega arith
+length-without_at held (Some k) = omega (arith, length-append {A = Holding}, length-take k held, length-drop (suc k) held)
+
+pub length-without : (held : List Holding) (lock : Holding) → length (without_one held lock) ≤ length held
+length-without held lock = length-without_at held (position (same_holding lock) held)
+
+pub length-kept : (script : ScriptData) (client lock_set : ℕ) (held : List Holding) → length (filter (λ lock. not (is_dropped script client lock_set lock)) held) ≤ length held
+length-kept script client lock_set held =
+    let kept : Holding → Bool = λ lock. not (is_dropped script client lock_set lock) in
+    omega (arith, length-filter kept held, count_by-le-length kept held)
+
+held_after : (script : ScriptData) (held : List Holding) (event : Event) → length (after_line script held event) ≤ length held + 1
+held_after script held (Grant client lock_set mode) = omega (arith, length-append {A = Holding})
+held_after script held (Try client lock_set mode true) = omega (arith, length-append {A = Holding})
+held_after script held (Try client lock_set mode false) = omega arith
+held_after script held (Unlock client lock_set mode) = omega (arith, length-without held (holding client lock_set mode))
+held_after script held (Change client lock_set gives_up mode) =
+    omega (arith, length-append {A = Holding}, length-without held (holding client lock_set gives_up))
+held_after script held (DropAll client other lock_set count) = omega (arith, length-kept script other lock_set held)
+held_after script held other = omega arith
+
+held_after_all : (script : ScriptData) (held : List Holding) (events : List Event) → length (fold (after_line script) held events) ≤ length held + length events
+held_after_all script held [] = omega arith
+held_after_all script held (event ∷ later) =
+    omega (arith, held_after script held event, held_after_all script (after_line script held event) later)
+
+-- no more locks are held than there are events
+pub few_held : (script : ScriptData) (events : List Event) → length (holdings script events) ≤ length events
+few_held script events = omega (arith, held_after_all script [] events)
+
+lines_of-part : (entries : List Logged) (k : ℕ) → length (lines_of (take k entries)) ≤ length (lines_of entries)
+lines_of-part [] zero = omega arith
+lines_of-part [] (suc k) = omega arith
+lines_of-part (entry ∷ later) zero = omega arith
+lines_of-part (entry ∷ later) (suc k) =
+    omega (arith, length-append entry.events (lines_of (take k later)), length-append entry.events (lines_of later), lines_of-part later k)
+
+-- the events of one move, and those before it, are among all
+pub events_up_to : (entries : List Logged) (k : ℕ) (events : List Event) → events_at entries k ≡ Some events
+    → length (lines_of (take k entries)) + length events ≤ length (lines_of entries)
+events_up_to entries k events e =
+    let more = ap (λ (all : List Event). length all) (lines_of-more entries k events e) in
+    omega (arith, lines_of-part entries (k + 1), length-append (lines_of (take k entries)) events)
+
+-- what holds in any case holds on an error
+pub on_err : {T E P : Type 0} (result : Result T E) → P → OnErr result P
+on_err (Ok value) p = tt
+on_err (Err error) p = p
+
+-- What a tally tells after one event more.
 
 -- the list after one event more
 abbrev pub waiting_after : List (Option Holding) → Event → List (Option Holding)

@@ -5,7 +5,7 @@ use Rattle.lt_modes.specs.Script.{ScriptData}
 use Rattle.lt_modes.specs.declared.event.Event.{Event}
 use Rattle.lt_modes.specs.declared.parts.Link.{Link}
 use Rattle.lt_spec.specs.Holdings.{Holding, holdings, times_held, wanted, owner_of}
-use Rattle.lt_modes.specs.Counts.{place_of_mode}
+use Rattle.lt_modes.specs.FiveModes.{place_of_mode}
 
 -- the place of a mode among all modes; sealed: what looks at it says so (`unfolding mode_place`)
 unfoldable pub mode_place : Mode → ℕ

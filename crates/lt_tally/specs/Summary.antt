@@ -1,9 +1,8 @@
 -- What a run came to, by its own event lines, and how that is told.
-use Rattle.std.specs.Prelude.{Bool, ℕ, List, ◌++◌, length, codes, is_some}
-use Rattle.std.specs.Fmt.{decimal}
+use Rattle.std.specs.Prelude.{Bool, ℕ, List, ◌++◌, length, codes, is_some, decimal}
 use Rattle.lt_modes.specs.Script.{ScriptData}
 use Rattle.lt_lists.specs.Below.{count_below}
-use Rattle.lt_spec.specs.Log.{Logged}
+use Rattle.lt_spec.specs.World.{Logged}
 use Rattle.lt_spec.specs.Holdings.{holdings, wanted, lines_of}
 use Rattle.lt_tally.specs.declared.summary.Summary.{Summary}
 

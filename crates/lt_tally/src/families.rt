@@ -1,5 +1,5 @@
 ghost use Rattle.std.specs.Prelude.{◌≡◌};
-ghost use Rattle.lt_spec.specs.Families.{family, is_related};
+ghost use Rattle.lt_spec.specs.NodeMove.{family, is_related};
 
 use lt_script::Script;
 

@@ -1,5 +1,5 @@
 ghost use Rattle.std.specs.Prelude.{◌≡◌, List};
-ghost use Rattle.lt_spec.specs.Log.{Logged as AnyLogged};
+ghost use Rattle.lt_spec.specs.World.{Logged as AnyLogged};
 ghost use Rattle.lt_spec.specs.Holdings.{lines_of};
 ghost use Rattle.lt_tally.specs.LockTable.{IsTallied};
 ghost use Rattle.lt_tally.specs.Summary.{waiting_after};

@@ -23,9 +23,9 @@ impl Model for Two {
     ghost invariant = { λ two. AreLinked two.sender two.taker × (outs_count two.sender ≡ 2) × (ins_count two.taker ≡ 2) };
 }
 
-#[tactic(auto, using(lt_mail::proofs::MailLemmas::links_last, lt_mail::proofs::MailLemmas::ends_same))]
+#[tactic(auto, using(lt_mail::proofs::LookLemmas::links_last, lt_mail::proofs::LookLemmas::ends_same))]
 impl Two {
-    #[tactic(auto, using(lt_mail::proofs::FirstMails::both_linked))]
+    #[tactic(auto, using(lt_mail::proofs::FlushLemmas::both_linked))]
     fn new(alloc: Global) -> Result<Two, AllocError> {
         let mut mails = open(alloc, 2, 1)?;
         let sender = mails.remove(0);

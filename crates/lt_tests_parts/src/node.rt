@@ -1,6 +1,6 @@
 ghost use Rattle.std.specs.Bool.{OnTrue};
 ghost use Rattle.std.specs.Prelude.{◌≡◌, ◌<◌, length};
-ghost use Rattle.lt_spec.specs.Families.{home};
+ghost use Rattle.lt_spec.specs.NodeMove.{home};
 
 use lt_core::Answer;
 use lt_desk::{Letter, Out};

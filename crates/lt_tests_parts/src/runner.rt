@@ -1,6 +1,6 @@
 ghost use Rattle.std.specs.Prelude.{◌<◌, ◌≤◌, IfOk};
 ghost use Rattle.lt_spec.specs.declared.moves.TheConstants.{MAX_MOVES};
-ghost use Rattle.lt_runner.specs.Looking.{AreBeside};
+ghost use Rattle.lt_runner.specs.Kept.{AreBeside};
 
 use lt_mail::open;
 use lt_modes::{Command, Mode};
@@ -68,7 +68,7 @@ fn script_of(alloc: Global, text: &str) -> Result<Script, Fail> {
 }
 
 // The runner of node 0.
-#[tactic(auto, using(lt_mail::proofs::FirstMails::first_fresh))]
+#[tactic(auto, using(lt_mail::proofs::FlushLemmas::first_fresh))]
 fn first_runner(alloc: Global, script: &Script, limit: u32) -> Result<Runner, Fail>
     requires { (0 < limit) × (limit ≤ MAX_MOVES) }
 {
@@ -79,7 +79,7 @@ fn first_runner(alloc: Global, script: &Script, limit: u32) -> Result<Runner, Fa
 }
 
 // The runners of nodes 0 and 1.
-#[tactic(auto, using(lt_mail::proofs::FirstMails::first_fresh))]
+#[tactic(auto, using(lt_mail::proofs::FlushLemmas::first_fresh))]
 fn two_runners(alloc: Global, script: &Script) -> Result<(Runner, Runner), Fail>
     requires { 1 < script.now.nodes }
     ensures { IfOk result (λ runners. AreBeside runners.1 runners.0) }
@@ -93,7 +93,7 @@ fn two_runners(alloc: Global, script: &Script) -> Result<(Runner, Runner), Fail>
 }
 
 // The second runner makes a turn, and both look at the ring between them.
-#[tactic(auto, using(lt_runner::proofs::FirstRunners::beside_later))]
+#[tactic(auto, using(lt_runner::proofs::Fetched::beside_later))]
 fn turn_and_meet(first: &mut Runner, second: &mut Runner, gate: &Counter) -> Turned
     requires { AreBeside second.old first.old }
 {

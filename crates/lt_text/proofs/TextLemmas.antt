@@ -1,8 +1,7 @@
 -- Where a text is cut into lines, and a line into words and fields, and that what is written is cut so again.
-use Rattle.std.proofs.Common.{◌≡◌, ℕ, zero, suc, ◌+◌, ◌<◌, ◌≤◌, ◌==◌, Bool, true, false, List, [], ◌∷◌, ◌++◌, length, take, drop, map, filter, get_or, Some, None, position, refl, sym, ap, subst, ◌∙◌, inl, inr, arith, add-one, drop-cons, append-nil}
+use Rattle.std.proofs.Common.{◌≡◌, ℕ, zero, suc, ◌+◌, ◌<◌, ◌≤◌, ◌==◌, Bool, true, false, List, [], ◌∷◌, ◌++◌, length, take, drop, map, filter, get_or, Some, None, position, refl, sym, ap, subst, ◌∙◌, inl, inr, arith, add-one, drop-cons, append-nil, eqb-true, take-append-drop}
 use Rattle.std.specs.List.{AllByRecursion, position_from}
-use Rattle.std.proofs.lemmas.Bool.{cases_Bool, not-true, eqb-true}
-use Rattle.std.proofs.lemmas.List.{take-append-drop}
+use Rattle.std.proofs.lemmas.Bool.{cases_Bool, not-true}
 use Rattle.std.proofs.lemmas.List.Quantifiers.{position-Some}
 use Rattle.std.proofs.lemmas.Iterator.Adapters.{position_from-zero}
 use Rattle.lt_text.specs.Text.{cut_at, lines, words, before_space, later_fields, fields, text, each_after_space, spaced, is_line_end, is_space, is_blank, is_word_byte, is_filled, without_return, HasNone, IsLine, IsWord, IsField}

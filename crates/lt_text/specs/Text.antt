@@ -1,6 +1,6 @@
 -- Lines of a text, words and fields of a line, and what is written of them.
-use Rattle.std.specs.Prelude.{◌≡◌, ℕ, ◌<◌, ◌-◌, Bool, true, false, ◌||◌, ◌&&◌, not, List, [], ◌∷◌, ◌++◌, length, take, map, filter, slice_index, Option, Some, None, ◌==◌, nat_lt, if◌then◌else◌}
-use Rattle.std.specs.List.{AllByRecursion, flat_map}
+use Rattle.std.specs.Prelude.{◌≡◌, ℕ, ◌<◌, ◌-◌, Bool, true, false, ◌||◌, ◌&&◌, not, List, [], ◌∷◌, ◌++◌, length, take, map, filter, slice_index, Option, Some, None, ◌==◌, nat_lt, if◌then◌else◌, flat_map}
+use Rattle.std.specs.List.{AllByRecursion}
 use denote.Ref.{Bor}
 
 -- a line feed

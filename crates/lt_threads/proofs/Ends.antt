@@ -1,30 +1,21 @@
 -- The run of a crew, and how it ended.
-use Rattle.std.proofs.Common.{◌≡◌, ℕ, ◌+◌, List, [], ◌∷◌, length, Some, Bool, true, false, refl, sym, ap, subst, arith, ◌∙◌}
-use Rattle.std.specs.Prelude.{◌==◌, ◌&&◌, if◌then◌else◌, filter, slice_get}
-use Rattle.std.proofs.lemmas.Bool.{true≢false, eq-eqb, and_from}
+use Rattle.std.proofs.Common.{◌≡◌, ℕ, ◌+◌, List, [], ◌∷◌, length, Some, Bool, true, false, refl, sym, ap, subst, arith, ◌∙◌, ◌==◌, ◌&&◌, if◌then◌else◌, filter, slice_get, true≢false, eq-eqb}
+use Rattle.std.proofs.lemmas.Bool.{and_from}
 use Rattle.std.proofs.lemmas.List.Sums.{sum_by-cons}
 use Rattle.lt_modes.specs.Script.{ScriptData}
 use Rattle.lt_script.proofs.NameLemmas.{element_at}
-use Rattle.lt_spec.specs.Log.{Logged}
-use Rattle.lt_spec.specs.World.{World, world_after, is_of_node, is_at_rest, anyone_waits}
-use Rattle.lt_merge.specs.Run.{RunData}
-use Rattle.lt_merge.specs.Merging.{Merges}
+use Rattle.lt_spec.specs.World.{Logged, World, world_after, is_of_node, is_at_rest, anyone_waits, EndsBy, moves_of, can_move, full_node}
+use Rattle.lt_merge.specs.Merging.{RunData, Merges}
 use Rattle.lt_runner.specs.declared.parts.Parts.{Parts}
 use Rattle.lt_runner.specs.Kept.{SameRunner, AsSeen, Grew}
-use Rattle.lt_spec.specs.Endings.{EndsBy}
-use Rattle.lt_spec.specs.Cut.{moves_of, can_move, full_node}
 use Rattle.lt_spec.proofs.LeastFull.{least_full}
-use Rattle.lt_law_merged.specs.CanMove.{RestIsNoMove}
-use Rattle.lt_threads.specs.Together.{EachIs, IsCrew, crew_run, crew_world}
-use Rattle.lt_threads.specs.Rounds.{IsCrewCut}
-use Rattle.lt_threads.specs.Finished.{AreCrewLogs}
-use Rattle.lt_threads.specs.Starting.{IsFirstCrew}
+use Rattle.lt_law_merged.specs.States.{RestIsNoMove}
+use Rattle.lt_threads.specs.Meeting.{EachIs, IsCrew, crew_run, crew_world, IsCrewCut, AreCrewLogs}
+use Rattle.lt_threads.specs.Pushes.{IsFirstCrew, CrewEnds, HasLimit, MovedOn}
 use Rattle.lt_threads.proofs.Each.{each_join, each_weaker, each_before}
-use Rattle.lt_threads.proofs.Pushing.{same_world}
-use Rattle.lt_threads.proofs.Turns.{seen_grew, grew_join}
+use Rattle.lt_threads.proofs.Pushing.{same_world, seen_grew, grew_join}
 use Rattle.lt_spec.specs.declared.ending.Ending.{Ending}
 use Rattle.lt_spec.specs.declared.ending.Ending.TheVariants.{Done, Stuck, Cut}
-use Rattle.lt_threads.specs.Crews.{CrewEnds, HasLimit, MovedOn}
 use Rattle.lt_threads.specs.Threads.{IsThreadRun, StaysWithin, GoesFar}
 
 -- limits last

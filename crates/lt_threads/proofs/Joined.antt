@@ -1,29 +1,23 @@
 -- Runners that have met are plays that join.
-use Rattle.std.proofs.Common.{◌≡◌, ℕ, ◌-◌, List, ◌++◌, length, map, Option, Some, None, refl, sym, ap, subst, arith, ◌∙◌, take}
-use Rattle.std.specs.Prelude.{slice_get}
+use Rattle.std.proofs.Common.{◌≡◌, ℕ, ◌-◌, List, ◌++◌, length, map, Option, Some, None, refl, sym, ap, subst, arith, ◌∙◌, take, slice_get, append_assoc, length-append, option_map}
 use Rattle.std.proofs.Math.Path.{fun_ext}
 use Rattle.std.proofs.Math.Seq.{take-append_seam}
-use Rattle.std.proofs.lemmas.List.{append_assoc, map-append, length-append, length-map}
+use Rattle.std.proofs.lemmas.List.{map-append, length-map}
 use Rattle.std.proofs.lemmas.Option.{slice_get-map}
-use Rattle.std.specs.Option.{option_map}
 use Rattle.lt_lists.proofs.Members.{some_equal}
 use Rattle.lt_desk.specs.LetterSeen.{letter_seen}
 use Rattle.lt_modes.specs.Script.{ScriptData}
 use Rattle.lt_modes.specs.State.{Letter}
 use Rattle.lt_spec.specs.NodeMove.{NodeState}
 use Rattle.lt_spec.specs.World.{start}
-use Rattle.lt_spec.specs.Plays.{Plays}
-use Rattle.lt_law_plays.specs.Parts.{Part, Joined}
-use Rattle.lt_law_plays.proofs.Sharing.{plays_same_at}
+use Rattle.lt_spec.specs.FixedOrder.{Plays}
+use Rattle.lt_law_plays.specs.Merged.{Part, Joined}
+use Rattle.lt_law_plays.proofs.Appending.{plays_same_at}
 use Rattle.lt_node.specs.NodeData.{state_of}
-use Rattle.lt_mail.specs.Lanes.{OutLane, ring_given, outbox_letters, sent_by}
-use Rattle.lt_mail.specs.Words.{on_out, out_at, sent_to, given_to, waiting_to, taken_from, known_from}
+use Rattle.lt_mail.specs.Words.{OutLane, ring_given, outbox_letters, sent_by, on_out, out_at, sent_to, given_to, waiting_to, taken_from, known_from}
 use Rattle.lt_runner.specs.declared.parts.Parts.{Parts}
-use Rattle.lt_runner.specs.Hands.{in_hand}
-use Rattle.lt_runner.specs.Kept.{RunnerInvariant}
-use Rattle.lt_threads.specs.Together.{used_of, part_of, IsCrew, AreKept}
-use Rattle.lt_runner.specs.Looking.{HasMet}
-use Rattle.lt_threads.specs.Meeting.{AreMet, AnyTwo}
+use Rattle.lt_runner.specs.Kept.{in_hand, RunnerInvariant, HasMet}
+use Rattle.lt_threads.specs.Meeting.{used_of, part_of, IsCrew, AreKept, AreMet, AnyTwo}
 
 -- what stands before the last letters
 front : {X : Type 0} (xs ys : List X) → take (length (xs ++ ys) - length ys) (xs ++ ys) ≡ xs

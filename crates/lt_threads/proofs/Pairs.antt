@@ -1,20 +1,15 @@
 -- Each two runners look at the rings between them.
-use Rattle.std.proofs.Common.{◌≡◌, ◌≢◌, ◌<◌, ◌+◌, ◌-◌, ℕ, inl, inr, List, [], ◌∷◌, ◌++◌, get_or, take, drop, Option, Some, length, refl, sym, ap, subst, arith, ◌∙◌}
-use Rattle.std.specs.Prelude.{slice_get, slice_set}
+use Rattle.std.proofs.Common.{◌≡◌, ◌≢◌, ◌<◌, ◌+◌, ◌-◌, ℕ, inl, inr, List, [], ◌∷◌, ◌++◌, get_or, take, drop, Option, Some, length, refl, sym, ap, subst, arith, ◌∙◌, slice_get, slice_set, length-set, take_at}
 use Rattle.std.proofs.lemmas.Bool.{cases_eq, cases_order}
-use Rattle.std.proofs.lemmas.List.{length-set, length_push, take_at}
+use Rattle.std.proofs.lemmas.List.{length_push}
 use Rattle.std.proofs.lemmas.Option.{slice_get_cases, slice_get-get_or}
-use Rattle.lt_mail.specs.Words.{out_at, in_at, on_out, on_in, Alike, Both, IsOpenLink}
+use Rattle.lt_mail.specs.Words.{out_at, in_at, on_out, on_in, Alike, Both, IsOpenLink, ring_given, outbox_letters, taken, known}
 use Rattle.lt_mail.specs.declared.lane.InLane.{InLane}
-use Rattle.lt_mail.specs.Lanes.{ring_given, outbox_letters, taken, known}
 use Rattle.lt_runner.specs.declared.parts.Parts.{Parts}
-use Rattle.lt_runner.specs.Kept.{AsSeen}
-use Rattle.lt_runner.specs.Looking.{AreBeside, HasMet, LooksTo, LooksFrom}
-use Rattle.lt_threads.specs.Together.{EachIs}
-use Rattle.lt_threads.specs.Meeting.{AreMet, AnyTwo, AmongFirst, RunnersLinked, LooksAtNode, BothLook, PairMeets, Meeting}
+use Rattle.lt_runner.specs.Kept.{AsSeen, AreBeside, HasMet, LooksTo, LooksFrom}
+use Rattle.lt_threads.specs.Meeting.{EachIs, AreMet, AnyTwo, AmongFirst, RunnersLinked, LooksAtNode, BothLook, PairMeets, Meeting}
 use Rattle.lt_runner.proofs.KeptLemmas.{seen_join}
-use Rattle.lt_threads.proofs.Each.{seen_self, each_self, each_join, each_len, each_push, slice_left, slice_right, set_here, set_other}
-use Rattle.lt_threads.proofs.Linked.{linked_last}
+use Rattle.lt_threads.proofs.Each.{seen_self, each_self, each_join, each_len, each_push, slice_left, slice_right, set_here, set_other, linked_last}
 
 -- what two runners know of each other is seen from the lanes between them and from the hand
 pub met_stays : (a b : ℕ) (x y u v : Parts) → out_at u.mail b ≡ out_at x.mail b → in_at v.mail a ≡ in_at y.mail a → v.hand ≡ y.hand → HasMet a b x y → HasMet a b u v

@@ -1,17 +1,15 @@
 -- Workers on shared runners, and what is left when they have ended.
-use Rattle.std.proofs.Common.{◌≡◌, ◌≢◌, ◌<◌, ◌≤◌, ◌+◌, ℕ, zero, suc, inl, inr, List, [], ◌∷◌, length, Option, Some, sym, subst, arith, ◌∙◌}
-use Rattle.std.specs.Prelude.{slice_get, slice_set, slice_index_or}
+use Rattle.std.proofs.Common.{◌≡◌, ◌≢◌, ◌<◌, ◌≤◌, ◌+◌, ℕ, zero, suc, inl, inr, List, [], ◌∷◌, length, Option, Some, sym, subst, arith, ◌∙◌, slice_get, slice_set, slice_index_or}
 use Rattle.std.proofs.lemmas.Bool.{cases_eq}
 use Rattle.lt_lists.proofs.Members.{some_equal}
 use Rattle.lt_mail.specs.Words.{Alike}
-use Rattle.lt_pool.specs.Items.{ContinuesAt}
+use Rattle.lt_pool.specs.Rule.{ContinuesAt}
 use Rattle.lt_runner.specs.declared.parts.Parts.{Parts}
-use Rattle.lt_runner.specs.Kept.{Grew}
-use Rattle.lt_runner.specs.Same.{grew_itself}
-use Rattle.lt_threads.specs.Together.{EachIs}
+use Rattle.lt_runner.specs.Kept.{Grew, grew_itself}
+use Rattle.lt_threads.specs.Meeting.{EachIs}
 use Rattle.lt_threads.specs.Settled.{IsSettledRunner, AreSettled}
 use Rattle.lt_threads.proofs.Each.{each_self, set_here, set_other}
-use Rattle.lt_threads.proofs.Turns.{grew_join, get_is}
+use Rattle.lt_threads.proofs.Pushing.{grew_join, get_is}
 
 -- a runner that continues the first one of its slot does so after work
 pub works_on : (firsts : List Parts) (slot : ℕ) (a b : Parts) → ContinuesAt Grew firsts slot a → Grew a b → ContinuesAt Grew firsts slot b

@@ -1,10 +1,8 @@
 -- Runners that each appended commands are a crew of the script with the commands of all.
-use Rattle.std.proofs.Common.{◌≡◌, ℕ, zero, suc, ◌+◌, ◌<◌, ◌≤◌, inl, inr, List, [], ◌∷◌, ◌++◌, Bool, true, false, Option, Some, None, length, refl, sym, ap, subst, arith, ◌∙◌, take, drop, get_or, take-add}
-use Rattle.std.specs.Prelude.{◌==◌, if◌then◌else◌, filter_map, slice_get}
+use Rattle.std.proofs.Common.{◌≡◌, ℕ, zero, suc, ◌+◌, ◌<◌, ◌≤◌, inl, inr, List, [], ◌∷◌, ◌++◌, Bool, true, false, Option, Some, None, length, refl, sym, ap, subst, arith, ◌∙◌, take, drop, get_or, take-add, ◌==◌, if◌then◌else◌, filter_map, slice_get, eq-eqb, ne_eqb, append_assoc, append-nil, length-append, length-take, take_all}
 use Rattle.std.specs.List.{AllByRecursion, cons_option}
 use mathlib.Core.List.{IsPrefix}
-use Rattle.std.proofs.lemmas.Bool.{cases_eq, eq-eqb, ne_eqb}
-use Rattle.std.proofs.lemmas.List.{append_assoc, append-nil, length-append, length-take, take_all}
+use Rattle.std.proofs.lemmas.Bool.{cases_eq}
 use Rattle.std.proofs.lemmas.List.Elements.{recursion_from_All}
 use Rattle.std.proofs.lemmas.Option.{slice_get-get_or, slice_get_within}
 use Rattle.lt_modes.specs.declared.command.Command.{Command}
@@ -12,20 +10,17 @@ use Rattle.lt_modes.specs.Script.{ScriptData}
 use Rattle.lt_spec.specs.Script.{IsScript, IsRequest}
 use Rattle.lt_spec.specs.declared.limits.TheConstants.{MAX_COMMANDS}
 use Rattle.lt_script.proofs.NameLemmas.{element_at}
-use Rattle.lt_spec.specs.Families.{command_if}
-use Rattle.lt_spec.specs.Log.{Logged}
-use Rattle.lt_merge.specs.Run.{RunData}
-use Rattle.lt_merge.specs.Merging.{Merges}
+use Rattle.lt_spec.specs.NodeMove.{command_if, with_commands, SameAt, AreAt, share_of}
+use Rattle.lt_spec.specs.World.{Logged}
+use Rattle.lt_merge.specs.Merging.{RunData, Merges}
 use Rattle.lt_lists.specs.Below.{gather_below, sum_below}
 use Rattle.lt_lists.proofs.AllLemmas.{all_append, all_weaker}
 use Rattle.lt_lists.proofs.Sums.{sum_below-same, sum_below-none, sum_below-add, sum_below-at, sum_below-one}
 use Rattle.lt_lists.proofs.Members.{some_equal}
-use Rattle.lt_spec.specs.Commands.{with_commands, SameAt, AreAt, share_of}
-use Rattle.lt_law_plays.specs.ShareLaws.{AreOwnCommands as EachIsAt}
-use Rattle.lt_law_plays.proofs.Sharing.{share_is_same}
+use Rattle.lt_law_plays.specs.AppendLaws.{AreOwnCommands as EachIsAt}
+use Rattle.lt_law_plays.proofs.Appending.{share_is_same}
 use Rattle.lt_runner.specs.declared.parts.Parts.{Parts}
-use Rattle.lt_threads.specs.Shares.{AreShares, ShareScript, AreScripts, commands_in, AreTooMany, IsJoined, IsSharedRun}
-use Rattle.lt_threads.specs.Finished.{AreCrewLogs}
+use Rattle.lt_threads.specs.Meeting.{AreShares, ShareScript, AreScripts, commands_in, AreTooMany, IsJoined, IsSharedRun, AreCrewLogs}
 
 -- the commands of the runner, if there is one
 abbrev commands_or : Option Parts → List (ℕ × Command)

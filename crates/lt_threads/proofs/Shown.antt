@@ -1,39 +1,71 @@
--- Which runners show a move: those whose node can make one.
-use Rattle.std.proofs.Common.{◌≡◌, ◌≢◌, ℕ, zero, suc, ◌<◌, ◌≤◌, inl, inr, List, [], ◌∷◌, ◌++◌, length, map, Option, Some, None, Bool, true, false, refl, sym, ap, subst, arith, ◌∙◌}
-use Rattle.std.specs.Prelude.{◌⊎◌, ◌==◌, ◌||◌, ◌&&◌, not, if◌then◌else◌, nat_lt, Contains, slice_get}
-use Rattle.std.specs.Option.{option_map}
-use Rattle.std.proofs.lemmas.Bool.{cases_eq, eq-eqb, ne_eqb, lt-ltb, ltb-true, and_from, and_parts, or_left, or_right}
+-- What a node sees in scripts that differ in the commands of clients of other nodes alone.
+use Rattle.std.proofs.Common.{◌≡◌, ℕ, List, Option, Some, None, Bool, true, false, length, refl, sym, ap, subst, ◌∙◌, ◌≢◌, zero, suc, ◌<◌, inl, inr, [], ◌∷◌, ◌++◌, map, arith, ◌==◌, ◌&&◌, not, nat_lt, if◌then◌else◌, ◌⊎◌, ◌||◌, Contains, slice_get, eqb-true, eq-eqb, ne_eqb, lt-ltb, ltb-true, option_map}
+use Rattle.std.proofs.Math.Path.{fun_ext}
+use Rattle.std.proofs.lemmas.Bool.{cases_eq, and_from, and_parts, or_left, or_right}
 use Rattle.std.proofs.lemmas.Option.{slice_get-map}
-use Rattle.lt_desk.specs.LetterSeen.{letter_seen}
+use Rattle.lt_modes.specs.declared.command.Command.{Command}
 use Rattle.lt_modes.specs.Script.{ScriptData}
 use Rattle.lt_modes.specs.State.{Letter}
-use Rattle.lt_script.proofs.NameLemmas.{element_at}
 use Rattle.lt_lists.specs.Below.{any_below}
 use Rattle.lt_lists.proofs.Members.{contains_first}
 use Rattle.lt_lists.proofs.Searches.{any_below_at}
-use Rattle.lt_spec.specs.NodeMove.{NodeState}
-use Rattle.lt_spec.specs.World.{is_some_letter, has_mail}
-use Rattle.lt_spec.specs.declared.moves.TheConstants.{MAX_MOVES}
-use Rattle.lt_spec.specs.Plays.{can_act}
-use Rattle.lt_law_plays.specs.Parts.{Part, Joined}
+use Rattle.lt_spec.specs.NodeMove.{home, NodeState, node_waits, with_commands, SameAt}
+use Rattle.lt_spec.specs.FixedOrder.{can_act}
+use Rattle.lt_spec.specs.World.{is_some_letter, has_mail, can_move, is_waiting}
+use Rattle.lt_script.proofs.NameLemmas.{element_at}
+use Rattle.lt_law_plays.specs.Merged.{Joined}
 use Rattle.lt_law_merged.specs.JoinedRun.{IsJoinedRun}
-use Rattle.lt_spec.specs.Cut.{can_move}
-use Rattle.lt_law_merged.proofs.Joining.{joined_merges}
-use Rattle.lt_law_merged.proofs.Moving.{can_move_is_seen}
-use Rattle.lt_law_merged.proofs.LeftLetters.{states_within, asks_have_place, clocks_below, letters_left_fit}
+use Rattle.lt_law_merged.proofs.PartLogs.{joined_merges, can_move_is_seen, states_within, asks_have_place, clocks_below, letters_left_fit}
+use Rattle.lt_desk.specs.LetterSeen.{letter_seen}
+use Rattle.lt_core.specs.declared.fits.TheConstants.{LAST_CLOCK}
 use Rattle.lt_node.specs.NodeData.{state_of}
 use Rattle.lt_mail.specs.Words.{known_from, waiting_to}
 use Rattle.lt_runner.specs.declared.choice.Choice.TheVariants.{Nothing, Take}
-use Rattle.lt_core.specs.declared.fits.TheConstants.{LAST_CLOCK}
 use Rattle.lt_runner.specs.declared.parts.Hand.{Hand}
+use Rattle.lt_runner.specs.Choices.{least_below, may_act, may_take, act_of, act_choice, choice_by, or_this, may_move, next_choice}
 use Rattle.lt_runner.specs.declared.parts.Parts.{Parts}
-use Rattle.lt_runner.specs.Choices.{least_below, or_this, may_move, may_act, may_take, act_of, act_choice, choice_by, next_choice}
-use Rattle.lt_runner.specs.Hands.{in_hand, IsFromPeer}
-use Rattle.lt_threads.specs.Together.{part_of, crew_run, crew_world, IsCrew, AreKept}
-use Rattle.lt_runner.specs.Looking.{HasFetched, is_move}
-use Rattle.lt_threads.specs.Meeting.{AreMet, AnyTwo}
-use Rattle.lt_threads.proofs.Joined.{left_for, left_is, joined, part_from}
-use Rattle.lt_threads.proofs.SameScripts.{nodes_same, choice_same}
+use Rattle.lt_runner.specs.Kept.{in_hand, IsFromPeer, HasFetched, is_move}
+use Rattle.lt_threads.specs.Meeting.{part_of, crew_run, crew_world, IsCrew, AreKept, AreMet, AnyTwo}
+use Rattle.lt_threads.proofs.Joined.{left_for, left_is, joined}
+
+pub same_itself : (k : ℕ) (script : ScriptData) → SameAt k script script
+same_itself k script = record { rest = refl; own = λ client at. refl }
+
+-- where the first one is the same
+pub same_before : (k : ℕ) (a b script : ScriptData) → b ≡ a → SameAt k a script → SameAt k b script
+same_before k a b script e h = subst (λ (s : ScriptData). SameAt k s script) (sym e) h
+
+pub nodes_same : (k : ℕ) (a b : ScriptData) → SameAt k a b → a.nodes ≡ b.nodes
+nodes_same k a b h = sym (ap (λ (s : ScriptData). s.nodes) h.rest)
+
+pub waits_same : (k : ℕ) (a b : ScriptData) → SameAt k a b → (n : NodeState) (client : ℕ) → node_waits a n client ≡ node_waits b n client
+waits_same k a b h n client = sym (ap (λ (s : ScriptData). node_waits s n client) h.rest)
+
+-- the same clients can act
+acts_same : (k : ℕ) (a b : ScriptData) → SameAt k a b → (n : NodeState) (client : ℕ) → can_act (with_commands a b.commands) k n client ≡ can_act a k n client
+acts_same k a b h n client = by_home (home a client == k) refl
+  where
+    acts : Bool → List Command → Bool
+    acts here commands = nat_lt client (length a.clients) && (here && (not (node_waits a n client) && nat_lt (n.made client) (length commands)))
+
+    by_home : (here : Bool) → (home a client == k) ≡ here → can_act (with_commands a b.commands) k n client ≡ can_act a k n client
+    by_home true e = ap (λ (commands : List Command). acts (home a client == k) commands) (h.own client (eqb-true (home a client) k e))
+    by_home false e = rw e refl
+
+-- so the node shows the same move
+pub choice_same : (k : ℕ) (a b : ScriptData) → SameAt k a b → (n : NodeState) (hand : Option Hand) → choice_by a k n hand ≡ choice_by b k n hand
+choice_same k a b h n hand = sym (ap (λ (s : ScriptData). choice_by s k n hand) h.rest ∙ by_hand hand)
+  where
+    acting : act_choice (with_commands a b.commands) k n ≡ act_choice a k n
+    acting =
+        ap (λ (test : ℕ → Bool). if may_act a n then act_of (least_below (length a.clients) test) else Nothing)
+        (fun_ext (λ client. acts_same k a b h n client))
+
+    by_hand : (o : Option Hand) → choice_by (with_commands a b.commands) k n o ≡ choice_by a k n o
+    by_hand None = acting
+    by_hand (Some letter) = ap (λ choice. if may_take a k n (letter_seen letter.letter) then Take else choice) acting
+
+-- Which runners show a move: those whose node can make one.
 
 -- all that is known of runners that have met
 record CrewMet (script : ScriptData) (rs : List Parts) : Type 0 where
@@ -236,3 +268,15 @@ shows_is script rs crew kept met k p here fetched =
       where
         from_below : has_mail script (crew_world script rs) hand.from k ≡ true → hand.from < script.nodes
         from_below m = ltb-true hand.from script.nodes (and_parts (nat_lt hand.from script.nodes) _ m).0
+
+-- Who waits in the world of a crew.
+
+-- a client waits where its node says so
+pub waits_here : (script : ScriptData) (rs : List Parts) → IsCrew script rs → AreKept rs → AreMet AnyTwo rs → (client : ℕ) (p : Parts)
+    → slice_get rs (home script client) ≡ Some p → node_waits p.node.script (state_of p.node) client ≡ is_waiting script (crew_world script rs) client
+waits_here script rs crew kept met client p e =
+    let k = home script client in
+    let in_crew = crew.each k p e in
+    let run = joined_merges script _ (joined script rs crew kept met) in
+    let node : (crew_world script rs).node k ≡ state_of p.node = run.node k (part_of p) (part_here rs k p e) in
+    waits_same k p.node.script script in_crew.script_is (state_of p.node) client ∙ sym (ap (λ (n : NodeState). node_waits script n client) node)

@@ -1,7 +1,5 @@
 -- Runners at the start.
-use Rattle.std.proofs.Common.{◌≡◌, ℕ, zero, suc, ◌+◌, ◌<◌, ◌≤◌, inl, inr, List, [], ◌∷◌, ◌++◌, length, Some, None, refl, sym, ap, subst, arith, ◌∙◌, drop}
-use Rattle.std.specs.Prelude.{◌⊎◌, slice_get, slice_index_or, remove}
-use Rattle.std.proofs.lemmas.List.{length-append, length-drop}
+use Rattle.std.proofs.Common.{◌≡◌, ℕ, zero, suc, ◌+◌, ◌<◌, ◌≤◌, inl, inr, List, [], ◌∷◌, ◌++◌, length, Some, None, refl, sym, ap, subst, arith, ◌∙◌, drop, ◌⊎◌, slice_get, slice_index_or, remove, length-append, length-drop}
 use Rattle.lt_modes.specs.Script.{ScriptData}
 use Rattle.lt_spec.specs.Script.{IsScript}
 use Rattle.lt_lists.proofs.Members.{some_equal}
@@ -9,13 +7,12 @@ use Rattle.lt_spec.specs.declared.moves.TheConstants.{MAX_MOVES}
 use Rattle.lt_desk.specs.declared.letter.Letter.{Letter}
 use Rattle.lt_mail.specs.declared.mail.Mail.{Mail}
 use Rattle.lt_mail.specs.declared.lane.OutEnd.{OutEnd}
-use Rattle.lt_mail.specs.Lanes.{OutLane, lane_of, letters_to}
-use Rattle.lt_mail.specs.Words.{out_at, in_at, places_of, IsOpenLink, Both}
+use Rattle.lt_mail.specs.Words.{OutLane, lane_of, letters_to, out_at, in_at, places_of, IsOpenLink, Both}
 use Rattle.lt_mail.specs.Opening.{Opened, IsFresh}
 use Rattle.lt_runner.specs.declared.parts.Parts.{Parts}
-use Rattle.lt_runner.specs.Starts.{StartsWith}
-use Rattle.lt_threads.specs.Starting.{IsFirstRunner, Starting, IsFirstCrew}
-use Rattle.lt_threads.proofs.SameScripts.{same_itself, same_before}
+use Rattle.lt_runner.specs.Ready.{StartsWith}
+use Rattle.lt_threads.specs.Pushes.{IsFirstRunner, Starting, IsFirstCrew}
+use Rattle.lt_threads.proofs.Shown.{same_itself, same_before}
 
 -- before the first runner
 pub starting : (script : ScriptData) (capacity limit : ℕ) (mails : List Mail) → Opened script.nodes capacity mails → Starting script capacity limit 0 mails []

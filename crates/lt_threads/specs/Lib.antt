@@ -1,12 +1,5 @@
-pub mod Together
 pub mod Meeting
-pub mod Enabled
-pub mod Rounds
 pub mod Pushes
-pub mod Starting
-pub mod Finished
-pub mod Crews
 pub mod Threads
 pub mod Workers
 pub mod Settled
-pub mod Shares

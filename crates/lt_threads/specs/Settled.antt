@@ -5,7 +5,7 @@ use Rattle.lt_runner.specs.declared.parts.Parts.{Parts}
 use Rattle.lt_runner.specs.declared.turning.Worked.{Worked}
 use Rattle.lt_runner.specs.declared.turning.Worked.TheVariants.{Idle, Full, NoMemory}
 use Rattle.lt_runner.specs.Kept.{WorkEnds}
-use Rattle.lt_threads.specs.Together.{SomeCouldMove}
+use Rattle.lt_threads.specs.Meeting.{SomeCouldMove}
 
 -- where its log isn't full, it is as work leaves it that ends with Idle
 abbrev pub IsSettledRunner : ℕ → Parts → Type 0

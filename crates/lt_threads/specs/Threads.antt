@@ -1,12 +1,9 @@
 -- What a run on threads comes to.
 use Rattle.std.specs.Prelude.{◌≡◌, ◌<◌, ◌≤◌, true, ℕ, List}
 use Rattle.lt_modes.specs.Script.{ScriptData}
-use Rattle.lt_spec.specs.Log.{Logged}
-use Rattle.lt_spec.specs.World.{IsRun, world_after}
+use Rattle.lt_spec.specs.World.{Logged, IsRun, world_after, EndsBy, moves_of, can_move}
 use Rattle.lt_merge.specs.Merging.{AreRising}
 use Rattle.lt_spec.specs.declared.ending.Ending.{Ending}
-use Rattle.lt_spec.specs.Endings.{EndsBy}
-use Rattle.lt_spec.specs.Cut.{moves_of, can_move}
 
 -- no node has made more moves than it may
 abbrev pub StaysWithin : ℕ → ScriptData → List Logged → Type 0

@@ -1,8 +1,7 @@
 // The node that can make a move.
 ghost use Rattle.std.specs.Prelude.{◌≡◌, length};
 ghost use Rattle.lt_runner.specs.Kept.{AsSeen};
-ghost use Rattle.lt_threads.specs.Together.{EachIs, IsCrew, crew_world};
-ghost use Rattle.lt_threads.specs.Enabled.{IsLeastEnabled, EachShows, IsFirstMove};
+ghost use Rattle.lt_threads.specs.Meeting.{EachIs, IsCrew, crew_world, IsLeastEnabled, EachShows, IsFirstMove};
 
 use crate::fetching::{all_kept, fetch_all};
 use crate::meeting::meet_all;
@@ -29,7 +28,7 @@ pub fn any_enabled(script: &Script, runners: &mut Vec<Runner>) -> Option<u8>
     first_to_move(runners, script.nodes())
 }
 
-#[tactic(auto, using(crate::proofs::Enabling::next_shows, crate::proofs::Enabling::first_shows, crate::proofs::Enabling::none_shows))]
+#[tactic(auto, using(crate::proofs::Logs::next_shows, crate::proofs::Logs::first_shows, crate::proofs::Logs::none_shows))]
 fn first_to_move(runners: &[Runner], nodes: u8) -> Option<u8>
     requires { nodes ≡ length runners.now }
     ensures { IsFirstMove runners.now result }

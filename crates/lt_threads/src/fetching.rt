@@ -1,12 +1,11 @@
 // What each runner does by itself.
 ghost use Rattle.std.specs.Prelude.{vec_len};
-ghost use Rattle.lt_threads.specs.Together.{AreKept};
-ghost use Rattle.lt_threads.specs.Meeting.{AreMet, AnyTwo, Fetching};
+ghost use Rattle.lt_threads.specs.Meeting.{AreKept, AreMet, AnyTwo, Fetching};
 
 use lt_runner::Runner;
 
 /// What each runner keeps.
-#[tactic(auto, using(crate::proofs::Fetches::next_kept, crate::proofs::Fetches::all_kept))]
+#[tactic(auto, using(crate::proofs::Each::next_kept, crate::proofs::Each::all_kept))]
 pub(crate) fn all_kept(runners: &[Runner])
     ensures { AreKept runners.now }
 {

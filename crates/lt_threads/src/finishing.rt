@@ -1,7 +1,6 @@
 // The logs of all runners.
 ghost use Rattle.std.specs.Prelude.{◌≡◌, ◌≤◌, [], IfOk, length, map, vec_capacity};
-ghost use Rattle.lt_threads.specs.Together.{IsCrew};
-ghost use Rattle.lt_threads.specs.Finished.{AreCrewLogs, run_entries, log_of};
+ghost use Rattle.lt_threads.specs.Meeting.{IsCrew, AreCrewLogs, run_entries, log_of};
 
 use crate::fetching::all_kept;
 use crate::meeting::meet_all;

@@ -3,9 +3,9 @@ ghost use Rattle.std.specs.Prelude.{◌≡◌, ◌<◌, ◌≤◌, ◌+◌, ◌+
 ghost use Rattle.lt_modes.specs.Script.{ScriptData};
 ghost use Rattle.lt_spec.specs.Script.{IsScript};
 ghost use Rattle.lt_spec.specs.declared.limits.TheConstants.{MAX_COMMANDS};
-ghost use Rattle.lt_spec.specs.Commands.{with_commands};
+ghost use Rattle.lt_spec.specs.NodeMove.{with_commands};
 ghost use Rattle.lt_threads.specs.declared.joining.JoinError.TheVariants as errors;
-ghost use Rattle.lt_threads.specs.Shares.{AreShares, ShareScript, AreScripts, IsJoined, IsSharedRun, AreTooMany, commands_in};
+ghost use Rattle.lt_threads.specs.Meeting.{AreShares, ShareScript, AreScripts, IsJoined, IsSharedRun, AreTooMany, commands_in};
 
 use crate::finishing::finish;
 use lt_merge::{Run, merge};

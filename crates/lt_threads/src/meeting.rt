@@ -1,9 +1,7 @@
 // Each two runners look at the rings between them.
 ghost use Rattle.std.specs.Prelude.{◌≡◌, ◌<◌, ◌+◌, ◌++◌, ◌∷◌, [], length, vec_len, vec_capacity};
-ghost use Rattle.lt_runner.specs.Looking.{AreBeside};
-ghost use Rattle.lt_runner.specs.Kept.{AsSeen};
-ghost use Rattle.lt_threads.specs.Together.{EachIs};
-ghost use Rattle.lt_threads.specs.Meeting.{AreMet, AnyTwo, RunnersLinked, BothLook, PairMeets, Meeting};
+ghost use Rattle.lt_runner.specs.Kept.{AreBeside, AsSeen};
+ghost use Rattle.lt_threads.specs.Meeting.{EachIs, AreMet, AnyTwo, RunnersLinked, BothLook, PairMeets, Meeting};
 
 use lt_runner::Runner;
 

@@ -1,7 +1,6 @@
 ghost use Rattle.std.specs.Prelude.{◌<◌, ◌≤◌, length, IfOk};
 ghost use Rattle.lt_runner.specs.Kept.{Grew};
-ghost use Rattle.lt_threads.specs.Together.{EachIs, IsCrew};
-ghost use Rattle.lt_threads.specs.Rounds.{RoundsEnd};
+ghost use Rattle.lt_threads.specs.Meeting.{EachIs, IsCrew, RoundsEnd};
 ghost use Rattle.lt_threads.specs.declared.sharing.TheConstants.{MAX_WORKERS};
 ghost use Rattle.lt_threads.specs.Pushes.{OnePushed, PushedAt, CanPush, PushEnds};
 
@@ -114,7 +113,7 @@ fn push_at<G: Gate>(runners: &mut Vec<Runner>, place: usize, gate: &G) -> Turned
 }
 
 // Lets the runner make a turn.
-#[tactic(auto, using(crate::proofs::Turns::one_pushed))]
+#[tactic(auto, using(crate::proofs::Pushing::one_pushed))]
 fn push<G: Gate>(runner: &mut Runner, gate: &G) -> Turned
     ensures { OnePushed result runner.old runner.new }
 {

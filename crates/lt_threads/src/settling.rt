@@ -2,7 +2,7 @@
 ghost use Rattle.std.specs.Prelude.{◌≡◌, ◌≢◌, ◌<◌, ℕ, true, false, Some, length, slice_get};
 ghost use Rattle.lt_runner.specs.Kept.{Grew, CouldMove};
 ghost use Rattle.lt_runner.specs.declared.parts.Parts.{Parts as RunnerParts};
-ghost use Rattle.lt_threads.specs.Together.{EachIs, SomeCouldMove};
+ghost use Rattle.lt_threads.specs.Meeting.{EachIs, SomeCouldMove};
 ghost use Rattle.lt_threads.specs.Settled.{IsSettledRunner, AreSettled, CrewWorked, some_full};
 
 use lt_runner::{Gate, Runner, Worked};

@@ -2,7 +2,7 @@
 ghost use Rattle.std.specs.Prelude.{◌≡◌, ◌<◌, ◌≤◌, length, IfOk};
 ghost use Rattle.lt_pool.specs.PoolData.{new_badge};
 ghost use Rattle.lt_runner.specs.Kept.{Grew};
-ghost use Rattle.lt_threads.specs.Together.{EachIs};
+ghost use Rattle.lt_threads.specs.Meeting.{EachIs};
 ghost use Rattle.lt_threads.specs.Workers.{IsFree, AreFree, LeadsPool};
 ghost use Rattle.lt_threads.specs.Settled.{CrewWorked};
 ghost use Rattle.lt_threads.specs.declared.sharing.TheConstants.{MAX_WORKERS};

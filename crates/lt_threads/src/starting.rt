@@ -1,6 +1,6 @@
 ghost use Rattle.std.specs.Prelude.{◌<◌, ◌≤◌, ◌+◌, IfOk, OnOk};
 ghost use Rattle.lt_spec.specs.declared.moves.TheConstants.{MAX_MOVES};
-ghost use Rattle.lt_threads.specs.Starting.{Starting, IsFirstCrew};
+ghost use Rattle.lt_threads.specs.Pushes.{Starting, IsFirstCrew};
 
 use lt_mail::{MAX_CAPACITY, Mail, open};
 use lt_runner::Runner;

@@ -7,7 +7,7 @@ ghost use Rattle.lt_runner.specs.Kept.{CouldMove, Grew};
 use lt_runner::{Choice, Found, Gate, Runner, Turned, Worked};
 
 /// Lets the runner take letters until it finds none or has sent one, and tells to which nodes, a bit each.
-#[tactic(auto, using(crate::proofs::Turns::grew_join))]
+#[tactic(auto, using(crate::proofs::Pushing::grew_join))]
 pub(crate) fn take_letters<G: Gate>(runner: &mut Runner, gate: &G) -> (u64, Worked)
     ensures { Grew runner.old runner.new }
 {
@@ -20,7 +20,7 @@ pub(crate) fn take_letters<G: Gate>(runner: &mut Runner, gate: &G) -> (u64, Work
 }
 
 // Lets the runner take a letter, and tells whether the visit ends so.
-#[tactic(auto, using(crate::proofs::Turns::grew_join))]
+#[tactic(auto, using(crate::proofs::Pushing::grew_join))]
 fn take_one<G: Gate>(runner: &mut Runner, gate: &G) -> Option<(u64, Worked)>
     ensures { Grew runner.old runner.new }
 {
@@ -33,7 +33,7 @@ fn take_one<G: Gate>(runner: &mut Runner, gate: &G) -> Option<(u64, Worked)>
 }
 
 // Where letters were sent, a look for the next move gives the rings what waits in the outboxes.
-#[tactic(auto, using(crate::proofs::Turns::seen_grew, crate::proofs::Turns::grew_join))]
+#[tactic(auto, using(crate::proofs::Pushing::seen_grew, crate::proofs::Pushing::grew_join))]
 fn send_on(runner: &mut Runner) -> Option<(u64, Worked)>
     ensures { Grew runner.old runner.new }
 {
@@ -45,7 +45,7 @@ fn send_on(runner: &mut Runner) -> Option<(u64, Worked)>
     Some((reached, Worked::Idle))
 }
 
-#[tactic(auto, using(crate::proofs::Turns::seen_grew, crate::proofs::Turns::grew_join))]
+#[tactic(auto, using(crate::proofs::Pushing::seen_grew, crate::proofs::Pushing::grew_join))]
 fn turn_by_mail<G: Gate>(runner: &mut Runner, gate: &G) -> Turned
     ensures { Grew runner.old runner.new }
 {
@@ -56,7 +56,7 @@ fn turn_by_mail<G: Gate>(runner: &mut Runner, gate: &G) -> Turned
     }
 }
 
-#[tactic(auto, using(crate::proofs::Turns::seen_grew, crate::proofs::Turns::moved_grew))]
+#[tactic(auto, using(crate::proofs::Pushing::seen_grew, crate::proofs::Pushing::moved_grew))]
 fn take_in_hand<G: Gate>(runner: &mut Runner, gate: &G) -> Turned
     requires chosen { next_choice runner.old ≡ choices.Take }
     requires could { CouldMove runner.old }

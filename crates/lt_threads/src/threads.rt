@@ -1,10 +1,9 @@
 ghost use Rattle.std.specs.Prelude.{◌<◌, ◌≤◌, IfOk, IfErr};
 ghost use Rattle.lt_spec.specs.declared.moves.TheConstants.{MAX_MOVES};
-ghost use Rattle.lt_threads.specs.Together.{IsCrew, EachIs, SomeCouldMove};
-ghost use Rattle.lt_threads.specs.Rounds.{RoundsEnd};
+ghost use Rattle.lt_threads.specs.Meeting.{IsCrew, EachIs, SomeCouldMove, RoundsEnd};
 ghost use Rattle.lt_runner.specs.Kept.{AsSeen};
 ghost use Rattle.lt_threads.specs.Threads.{IsThreadRun};
-ghost use Rattle.lt_threads.specs.Crews.{CrewEnds, MovedOn};
+ghost use Rattle.lt_threads.specs.Pushes.{CrewEnds, MovedOn};
 ghost use Rattle.lt_threads.specs.declared.sharing.TheConstants.{MAX_WORKERS};
 
 use crate::finishing::finish;

@@ -2,8 +2,7 @@
 ghost use Rattle.std.specs.Prelude.{◌≡◌, ◌<◌, length};
 ghost use Rattle.lt_spec.specs.World.{anyone_waits, is_waiting};
 ghost use Rattle.lt_runner.specs.Kept.{AsSeen};
-ghost use Rattle.lt_threads.specs.Together.{EachIs, IsCrew, AreKept, crew_world};
-ghost use Rattle.lt_threads.specs.Meeting.{AreMet, AnyTwo};
+ghost use Rattle.lt_threads.specs.Meeting.{EachIs, IsCrew, AreKept, crew_world, AreMet, AnyTwo};
 
 use crate::fetching::all_kept;
 use crate::meeting::meet_all;

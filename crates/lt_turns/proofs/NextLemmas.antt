@@ -1,6 +1,5 @@
 -- The first turn of those that come after another one.
-use Rattle.std.proofs.Common.{◌≡◌, ℕ, ◌+◌, Bool, true, false, List, length, Option, Some, None, inl, inr, refl, sym, ap, ◌∙◌, subst, arith}
-use Rattle.std.specs.Prelude.{if◌then◌else◌, option_map, unwrap_or}
+use Rattle.std.proofs.Common.{◌≡◌, ℕ, ◌+◌, Bool, true, false, List, length, Option, Some, None, inl, inr, refl, sym, ap, ◌∙◌, subst, arith, if◌then◌else◌, option_map, unwrap_or}
 use Rattle.std.proofs.lemmas.Bool.{cases_eq}
 use Rattle.lt_turns.specs.declared.tree.Turn.{Turn}
 use Rattle.lt_turns.specs.Turns.{number_at, IsAfter, IsNext, comes_before, earlier_turn, turn_at, turn_after, NoneBefore, IsTurn, IsFirstAfter}

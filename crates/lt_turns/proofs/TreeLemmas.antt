@@ -1,9 +1,8 @@
 -- The first turns of a tree, as one of them changes, and the first turn of all.
-use Rattle.std.proofs.Common.{◌≡◌, ◌≢◌, ℕ, zero, suc, ◌+◌, ◌-◌, ◌*◌, ◌/◌, ◌<◌, ◌≤◌, ◌==◌, ◌&&◌, Bool, true, false, nat_lt, List, [], ◌∷◌, length, Option, Some, None, inl, inr, ◌⊎◌, refl, sym, ap, ap₂, ◌∙◌, subst, arith, length-set, get_or-set_same, get_or-set_other}
-use Rattle.std.specs.Prelude.{if◌then◌else◌, count_by, is_some, option_map, slice_index_or, slice_set}
+use Rattle.std.proofs.Common.{◌≡◌, ◌≢◌, ℕ, zero, suc, ◌+◌, ◌-◌, ◌*◌, ◌/◌, ◌<◌, ◌≤◌, ◌==◌, ◌&&◌, Bool, true, false, nat_lt, List, [], ◌∷◌, length, Option, Some, None, inl, inr, ◌⊎◌, refl, sym, ap, ap₂, ◌∙◌, subst, arith, length-set, get_or-set_same, get_or-set_other, if◌then◌else◌, count_by, is_some, option_map, slice_index_or, slice_set, lt-ltb, ltb-true, le-ltb, eqb-true, eq-eqb}
 use Rattle.std.proofs.lemmas.List.{get_or_past, get_or_default}
 use Rattle.std.proofs.lemmas.List.Sums.{sum_by-set, get_or-le-sum_by, sum_by-cons}
-use Rattle.std.proofs.lemmas.Bool.{cases_eq, cases_lt, cases_order, lt-ltb, ltb-true, le-ltb, eqb-true, eq-eqb, or_cases, or_left, or_right, and_parts, and_from, false≢true}
+use Rattle.std.proofs.lemmas.Bool.{cases_eq, cases_lt, cases_order, or_cases, or_left, or_right, and_parts, and_from, false≢true}
 use Rattle.lt_turns.specs.declared.tree.Turn.{Turn}
 use Rattle.lt_turns.specs.Turns.{number_at, IsFirst, comes_before, earlier_turn, turn_at, winner_at, AreWon, AreWonBut, IsTree, NoneBefore, IsTurn, IsAfter}
 

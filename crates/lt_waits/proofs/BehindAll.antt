@@ -1,20 +1,18 @@
 -- Each client that is led to some clients waits behind them.
-use Rattle.std.proofs.Common.{◌≡◌, ◌∙◌, ℕ, zero, suc, ◌+◌, ◌<◌, ◌≤◌, inl, inr, List, [], ◌∷◌, ◌++◌, length, Option, Some, None, Bool, true, false, refl, sym, subst, ap, arith}
-use Rattle.std.specs.Prelude.{◌⊎◌, ◌==◌, if◌then◌else◌, is_some, not, filter, flat_map, Contains}
+use Rattle.std.proofs.Common.{◌≡◌, ◌∙◌, ℕ, zero, suc, ◌<◌, ◌≤◌, inl, inr, List, [], ◌∷◌, length, Option, Some, None, Bool, true, false, refl, sym, subst, ap, arith, ◌⊎◌, ◌==◌, is_some, not, flat_map, Contains, eq-eqb, eqb-true}
 use Rattle.std.specs.List.{list_any}
-use Rattle.std.proofs.lemmas.Bool.{eq-eqb, eqb-true, false≢true}
+use Rattle.std.proofs.lemmas.Bool.{false≢true}
 use Rattle.std.proofs.lemmas.List.Elements.{Contains-append_left, Contains-append_right}
 use Rattle.std.proofs.lemmas.List.FromFn.{length-range_with_len}
 use Rattle.lt_lists.proofs.Members.{contains_first, contains_cases, contains_filter, contains_filtered, list_any-at, list_any-which, none_in}
-use Rattle.lt_spec.specs.Rings.{Graph, AreBelow, IsPath, has_come, next_among, numbers_below}
-use Rattle.lt_waits.specs.declared.edge.Edge.{Edge}
+use Rattle.lt_spec.specs.Rings.{Graph, has_come, next_among, numbers_below}
 use Rattle.lt_waits.specs.Edges.{edge}
 use Rattle.lt_waits.specs.Shortest.{waiting_for, not_waiting_for, IsLayer, LeadsOut}
-use Rattle.lt_waits.specs.Behind.{or_else, nearest, edge_to, edges_to, behind_from, behind, all_but}
-use Rattle.lt_waits.specs.BehindLaws.{IsLedTo, BehindAreAll}
-use Rattle.lt_waits.proofs.Rounds.{filter_few}
+use Rattle.lt_waits.specs.Behind.{or_else, nearest, edge_to, edges_to, behind_from, all_but}
+use Rattle.lt_waits.specs.BehindLaws.{BehindAreAll}
+use Rattle.lt_waits.proofs.SoFar.{filter_few}
 use Rattle.lt_waits.proofs.Layers.{among_or, find_tells, not_both, of_next, of_rest, next_or_rest, next_layer, parts, shorter}
-use Rattle.lt_law_waiting.proofs.RingSets.{in_below, below_in}
+use Rattle.lt_law_waiting.proofs.RingWalks.{in_below, below_in}
 
 -- what each item makes is in what all make
 flat_map-at : {X Y : Type 0} (f : X → List Y) (xs : List X) (x : X) (y : Y) → Contains xs x → Contains (f x) y → Contains (flat_map f xs) y

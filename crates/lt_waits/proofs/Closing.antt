@@ -1,9 +1,8 @@
 -- The ring that a path closes, and the path that a ring is.
-use Rattle.std.proofs.Common.{◌≡◌, ◌∙◌, ℕ, ◌+◌, ◌<◌, ◌≤◌, inl, inr, List, [], ◌∷◌, ◌++◌, length, Bool, true, false, refl, sym, subst, ap, arith}
-use Rattle.std.specs.Prelude.{◌⊎◌, Contains}
+use Rattle.std.proofs.Common.{◌≡◌, ℕ, ◌<◌, inl, inr, List, [], ◌∷◌, ◌++◌, length, true, refl, sym, subst, arith, ◌⊎◌, Contains}
 use Rattle.std.specs.List.{list_any}
 use Rattle.lt_lists.proofs.Members.{contains_first, contains_later, contains_cases, list_any-at, list_any-which, none_in}
-use Rattle.lt_law_waiting.proofs.RingSets.{in_below, below_in}
+use Rattle.lt_law_waiting.proofs.RingWalks.{in_below, below_in}
 use Rattle.lt_spec.specs.Rings.{Graph, AreBelow, first_or, IsPath, IsRing, numbers_below}
 use Rattle.lt_waits.specs.Shortest.{waiting_for, not_waiting_for, IsLayer, IsPathTo, LeadsOut, IsRingOf}
 use Rattle.lt_waits.proofs.Layers.{goes_on, of_next, of_rest, next_or_rest, not_both}

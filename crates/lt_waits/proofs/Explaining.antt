@@ -1,18 +1,15 @@
 -- The report at the end of a run at rest tells why each client waits.
-use Rattle.std.proofs.Common.{ℕ, List, length, take, subst, sym, arith}
-use Rattle.std.specs.Prelude.{IsTrue}
-use Rattle.std.proofs.lemmas.List.{take_all}
+use Rattle.std.proofs.Common.{ℕ, List, length, take, subst, sym, arith, IsTrue, take_all}
 use Rattle.lt_modes.specs.Script.{ScriptData}
 use Rattle.lt_spec.specs.Script.{IsScript}
-use Rattle.lt_spec.specs.Log.{Logged}
-use Rattle.lt_spec.specs.Waiting.{waits_for}
-use Rattle.lt_spec.specs.World.{world_after, IsRun, is_at_rest}
-use Rattle.lt_spec.specs.WholeScripts.{IsWhole}
-use Rattle.lt_law_invariant.proofs.Within.{whole}
-use Rattle.lt_law_journals.specs.Journals.{IsFinished}
+use Rattle.lt_spec.specs.World.{Logged, world_after, IsRun, is_at_rest}
+use Rattle.lt_spec.specs.Holdings.{waits_for}
+use Rattle.lt_spec.specs.NodeMove.{IsWhole}
+use Rattle.lt_law_invariant.proofs.FewAsks.{whole}
+use Rattle.lt_law_journals.specs.Checking.{IsFinished}
 use Rattle.lt_law_waiting.specs.ReportLaws.{CyclesAreRings, RingsAreTold}
 use Rattle.lt_law_waiting.specs.WaitingLaws.{EachWaitsForSome, EndsAreReported, WaitersAreReported}
-use Rattle.lt_waits.specs.Explained.{Explains}
+use Rattle.lt_waits.specs.Serves.{Explains}
 
 explained_at : (script : ScriptData) (run : List Logged) (k : ℕ) → EachWaitsForSome → CyclesAreRings → RingsAreTold → EndsAreReported → WaitersAreReported
     → IsWhole script → IsRun script run → IsTrue (is_at_rest script (world_after script (take k run))) → Explains script (take k run)

@@ -1,10 +1,8 @@
 -- What is told of a path that was found and made one client longer.
-use Rattle.std.proofs.Common.{◌≡◌, ◌∙◌, ℕ, ◌+◌, ◌≤◌, ◌<◌, List, [], ◌∷◌, ◌++◌, length, Option, Some, None, Result, Ok, Err, Bool, true, false, IfOk, IfSome, IsTrue, is_some, refl, sym, ap, subst, arith}
-use Rattle.std.specs.Prelude.{◌⊎◌, Contains}
+use Rattle.std.proofs.Common.{◌≡◌, ◌∙◌, ℕ, ◌≤◌, List, [], ◌∷◌, ◌++◌, length, Option, Some, None, Result, Ok, Err, IfOk, IfSome, IsTrue, is_some, refl, sym, ap, subst, arith, ◌⊎◌, Contains}
 use Rattle.std.specs.List.{list_any}
 use Rattle.std.proofs.lemmas.Bool.{false≢true}
 use Rattle.std.proofs.lemmas.List.{length_push}
-use Rattle.lt_lists.proofs.Members.{none_in}
 use Rattle.lt_spec.specs.Rings.{Graph}
 use Rattle.lt_waits.specs.Shortest.{waiting_for, not_waiting_for, IsLayer, IsPathTo, LeadsOut}
 use Rattle.lt_waits.proofs.Layers.{goes_on, of_next, shorter}

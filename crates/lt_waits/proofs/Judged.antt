@@ -1,12 +1,12 @@
 -- What an answer says of an input that was read: the report of its run, or why there is none.
 use Rattle.std.proofs.Common.{◌≡◌, ◌∙◌, ℕ, List, Option, ap, sym, subst}
-use Rattle.lt_io.specs.Source.{SourceState}
+use Rattle.lt_io.specs.Streams.{SourceState}
 use Rattle.lt_call.specs.declared.outcome.Outcome.TheVariants as outcome
 use Rattle.lt_call.specs.Outcomes.{IsRefusal, SaysOfSource}
 use Rattle.lt_call.proofs.Answering.{failed_reading, long_reading, memory_reading, refused_reading}
 use Rattle.lt_modes.specs.Script.{ScriptData}
 use Rattle.lt_spec.specs.World.{world_after}
-use Rattle.lt_spec.specs.Reports.{waits_report}
+use Rattle.lt_spec.specs.Rings.{waits_report}
 use Rattle.lt_world.specs.Fields.{WorldData, world_of}
 use Rattle.lt_checker.specs.declared.limits.TheConstants.{MAX_JOURNAL}
 use Rattle.lt_checker.specs.declared.error.InputError.{InputError}
@@ -14,9 +14,7 @@ use Rattle.lt_checker.specs.declared.error.InputError.TheVariants as error
 use Rattle.lt_checker.specs.Input.{IsEndedRun, FailsInput}
 use Rattle.lt_waits.specs.declared.answer.Answer.{Answer}
 use Rattle.lt_waits.specs.Answers.{answer_of_input, outcome_of}
-use Rattle.lt_waits.specs.Explained.{Explains}
-use Rattle.lt_waits.specs.Report.{waits_text}
-use Rattle.lt_waits.specs.Serves.{IsReportOf, IsWhyOf, IsUnfit}
+use Rattle.lt_waits.specs.Serves.{Explains, waits_text, IsReportOf, IsWhyOf, IsUnfit}
 use Rattle.lt_waits.specs.Why.{NamesRing, why_text}
 
 fails_says : (e : InputError) (before after : SourceState) → FailsInput e before after → SaysOfSource MAX_JOURNAL (outcome_of (answer_of_input e)) before after

@@ -1,14 +1,13 @@
 -- The search for a shortest ring, layer by layer: of those that are left, those go that wait for one of the last layer.
-use Rattle.std.proofs.Common.{◌≡◌, ℕ, zero, suc, ◌+◌, ◌<◌, ◌≤◌, inl, inr, List, [], ◌∷◌, ◌++◌, length, Option, Some, None, Bool, true, false, refl, sym, subst, ap, arith, ◌∙◌}
-use Rattle.std.specs.Prelude.{◌⊎◌, ◌||◌, ◌==◌, is_some, not, filter, Contains, if◌then◌else◌}
-use Rattle.std.specs.List.{list_any, find, IsDistinct}
-use Rattle.std.proofs.lemmas.Bool.{eqb-true, eq-eqb, false≢true}
+use Rattle.std.proofs.Common.{◌≡◌, ℕ, ◌+◌, ◌<◌, ◌≤◌, inl, inr, List, [], ◌∷◌, ◌++◌, length, Some, Bool, true, false, refl, sym, subst, ap, arith, ◌∙◌, ◌⊎◌, ◌||◌, ◌==◌, is_some, not, Contains, if◌then◌else◌, find, eqb-true, eq-eqb}
+use Rattle.std.specs.List.{list_any}
+use Rattle.std.proofs.lemmas.Bool.{false≢true}
 use Rattle.std.proofs.lemmas.Cmp.{nat_eq_equiv}
 use Rattle.std.proofs.lemmas.List.Elements.{Contains-push_cases}
 use Rattle.std.proofs.lemmas.Map.Keys.{IsDistinct-push}
 use Rattle.lt_lists.proofs.Members.{contains_first, contains_later, contains_cases, contains_filter, contains_filtered, list_any-at, list_any-which, none_in}
-use Rattle.lt_spec.specs.Rings.{Graph, AreBelow, first_or, IsPath, IsRing, numbers_below}
-use Rattle.lt_waits.specs.Shortest.{waiting_for, not_waiting_for, IsLayer, IsPathTo, LeadsOut, IsRingOf}
+use Rattle.lt_spec.specs.Rings.{Graph, AreBelow, first_or, IsPath}
+use Rattle.lt_waits.specs.Shortest.{waiting_for, not_waiting_for, IsLayer, IsPathTo, LeadsOut}
 
 pub not_both : {A : Type 0} (b : Bool) → b ≡ true → not b ≡ true → A
 not_both true e f = absurd (false≢true f)

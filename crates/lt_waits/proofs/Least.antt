@@ -1,5 +1,5 @@
 -- The shortest of the rings through each client.
-use Rattle.std.proofs.Common.{◌≡◌, ◌∙◌, ℕ, ◌+◌, ◌<◌, ◌≤◌, List, [], ◌∷◌, length, Option, Some, None, Bool, true, false, IfSome, IsTrue, is_some, refl, sym, subst, ap, arith}
+use Rattle.std.proofs.Common.{◌≡◌, ℕ, ◌+◌, ◌<◌, ◌≤◌, List, [], ◌∷◌, length, Option, Some, None, true, IfSome, IsTrue, is_some, refl, arith}
 use Rattle.std.proofs.lemmas.Bool.{false≢true}
 use Rattle.lt_lists.proofs.Members.{contains_first}
 use Rattle.lt_spec.specs.Rings.{Graph, AreBelow, IsRing}

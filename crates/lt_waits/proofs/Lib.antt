@@ -5,14 +5,10 @@ mod FoundPaths
 mod Judged
 mod Layers
 mod Least
-mod Marks
+mod SoFar
 mod Naming
 mod RingEdges
 mod Rounding
-mod Rounds
-mod Rows
 mod SameGraph
-mod SoFar
-mod Told
-mod TrueEdges
 mod Walks
+mod TrueEdges

@@ -1,19 +1,16 @@
 -- The ring that is named, and what is said of it.
-use Rattle.std.proofs.Common.{◌≡◌, ◌∙◌, ℕ, ◌<◌, List, [], ◌∷◌, ◌++◌, length, Option, Some, None, Vec, Global, Bool, true, false, IfSome, IsTrue, is_some, refl, sym, subst, ap, ap₂, arith, append-nil, All}
-use Rattle.std.specs.Prelude.{◌↔◌, ◌&&◌, codes}
+use Rattle.std.proofs.Common.{◌≡◌, ◌∙◌, ℕ, ◌<◌, List, [], ◌∷◌, ◌++◌, length, Option, Some, None, Vec, Global, Bool, true, false, IfSome, IsTrue, is_some, refl, sym, subst, ap, arith, All, ◌↔◌, ◌&&◌, codes}
 use Rattle.std.proofs.lemmas.Bool.{and_parts, false≢true}
 use Rattle.std.proofs.lemmas.List.Elements.{Contains-get_or}
 use Rattle.lt_modes.specs.declared.event.Event.{Event}
 use Rattle.lt_modes.specs.Script.{ScriptData}
-use Rattle.lt_spec.specs.Holdings.{lines_of}
-use Rattle.lt_spec.specs.Log.{Logged}
+use Rattle.lt_spec.specs.Holdings.{lines_of, waits_for}
+use Rattle.lt_spec.specs.World.{Logged, world_after}
 use Rattle.lt_spec.specs.Rings.{Graph, AreBelow, IsPath, IsRing}
-use Rattle.lt_spec.specs.Waiting.{waits_for}
-use Rattle.lt_spec.specs.World.{world_after}
 use Rattle.lt_waits.specs.declared.edge.Edge.{Edge}
 use Rattle.lt_waits.specs.Behind.{behind, idle}
 use Rattle.lt_waits.specs.Edges.{ring_edges}
-use Rattle.lt_waits.specs.Graph.{GraphData, graph_of, Tells}
+use Rattle.lt_waits.specs.Serves.{GraphData, graph_of, Tells}
 use Rattle.lt_waits.specs.Reasons.{is_barred, want_of, by_lock, waits_by_lock, edges_text}
 use Rattle.lt_waits.specs.Shortest.{HasRing, IsRingOf, IsShortest, IsRingNamed}
 use Rattle.lt_waits.specs.Why.{NamesRing, items_of, behind_text, why_of, why_text}

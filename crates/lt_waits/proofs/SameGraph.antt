@@ -1,12 +1,11 @@
 -- Graphs that agree on each two of n clients have the same rings, and the same clients wait behind some clients.
-use Rattle.std.proofs.Common.{◌≡◌, ◌∙◌, ℕ, zero, suc, ◌<◌, List, [], ◌∷◌, ◌++◌, Option, Some, None, Bool, refl, sym, ap, ap₂}
-use Rattle.std.specs.Prelude.{not, Contains}
-use Rattle.std.specs.List.{AllByRecursion, list_any}
+use Rattle.std.proofs.Common.{◌≡◌, ◌∙◌, ℕ, zero, suc, ◌<◌, List, [], ◌∷◌, ◌++◌, refl, sym, ap, ap₂, not}
+use Rattle.std.specs.List.{list_any}
 use Rattle.lt_lists.proofs.Members.{contains_first, contains_later}
 use Rattle.lt_spec.specs.Rings.{Graph, AreBelow, first_or, IsPath, IsRing, has_come, numbers_below, waits_for_some}
 use Rattle.lt_waits.specs.Behind.{or_else, nearest, edge_to, edges_to, behind_from, behind, all_but, idle}
 use Rattle.lt_waits.specs.Shortest.{HasRing, IsRingOf, IsShortest, IsRingNamed, waiting_for, not_waiting_for}
-use Rattle.lt_waits.proofs.Told.{AreClients, any_same, filter_agree, flat_map_same, all_by, all_filter, all_clients, rows, next_same}
+use Rattle.lt_waits.proofs.Walks.{AreClients, any_same, filter_agree, flat_map_same, all_by, all_filter, all_clients, rows, next_same}
 
 -- the graphs agree on each two of n clients
 abbrev pub Agree : ℕ → Graph → Graph → Type 0

@@ -1,16 +1,16 @@
 -- What is written of the clients so far, and of one client more.
-use Rattle.std.proofs.Common.{◌≡◌, ℕ, zero, suc, ◌+◌, ◌<◌, List, [], ◌∷◌, ◌++◌, Bool, true, false, refl, sym, ap, arith, ◌∙◌, append_assoc, append-nil, length, take, get_or}
-use Rattle.std.specs.Prelude.{if◌then◌else◌, map, filter}
-use Rattle.std.specs.List.{flat_map, range_with_len}
-use Rattle.std.proofs.lemmas.List.{map-append, take_more}
+use Rattle.std.proofs.Common.{◌≡◌, ℕ, zero, suc, ◌+◌, ◌<◌, List, [], ◌∷◌, ◌++◌, Bool, true, false, refl, sym, ap, arith, ◌∙◌, append_assoc, append-nil, length, take, get_or, ◌-◌, ◌*◌, ◌≤◌, inl, inr, length-append, ap₂, if◌then◌else◌, map, filter, All, flat_map, suc-mul}
+use Rattle.std.specs.List.{range_with_len, list_any}
+use Rattle.std.proofs.lemmas.List.{map-append, take_more, get_or_append_left, get_or-append_right, map_push}
 use Rattle.std.proofs.lemmas.List.Concat.{flat_map-append}
 use Rattle.std.proofs.lemmas.List.Elements.{filter-append}
+use Rattle.std.proofs.lemmas.Bool.{cases_lt, cases_eq}
+use Rattle.std.proofs.lemmas.List.FromFn.{length-map-range_with_len, get_or-map-range_with_len, length-range_with_len, get_or-range_with_len}
 use Rattle.lt_modes.specs.Script.{ScriptData, client_name}
+use Rattle.lt_spec.specs.Rings.{Graph, numbers_below, ring_set, walk_end, waits_for_some, ReportLine, WaitsLine, NoCycleLine, EndsLine, waits_lines, ends_lines, last_lines, report, still_waiting, remaining}
 use Rattle.lt_text.specs.Text.{spaced, text, after_space, each_after_space}
-use Rattle.lt_spec.specs.Rings.{Graph, numbers_below, ring_set, walk_end, waits_for_some}
-use Rattle.lt_spec.specs.Reports.{ReportLine, WaitsLine, NoCycleLine, EndsLine, waits_lines, ends_lines, last_lines, report}
-use Rattle.lt_waits.proofs.Told.{report_same}
-use Rattle.lt_waits.specs.Report.{report_words, waits_text, waits_line, waits_lines_of, ends_line}
+use Rattle.lt_waits.proofs.Walks.{report_same}
+use Rattle.lt_waits.specs.Serves.{report_words, waits_text, waits_line, waits_lines_of, ends_line, Tells, marks}
 
 range_push : (a n : ℕ) → range_with_len a (n + 1) ≡ range_with_len a n ++ (a + n) ∷ []
 range_push a zero =
@@ -106,3 +106,123 @@ pub no_ring_written : (script : ScriptData) (n : ℕ) (graph : Graph) (members o
 no_ring_written script n graph members old between now is none first last =
     piece_more script now between old (NoCycleLine ∷ []) (ends_lines n graph) (NoCycleLine ∷ ends_lines n graph) last first refl
     ∙ ap (λ (set : List ℕ). old ++ waits_text script (last_lines n graph set)) (sym none ∙ is)
+
+-- Where the marks of a graph stand.
+
+-- the marks of one client more
+pub marks_push : (n : ℕ) (graph : Graph) (k : ℕ) → marks n graph (k + 1) ≡ marks n graph k ++ map (graph k) (numbers_below n)
+marks_push n graph k =
+    ap (flat_map (λ c. map (graph c) (numbers_below n))) (numbers_push k)
+    ∙ flat_map-append (λ c. map (graph c) (numbers_below n)) (numbers_below k) (k ∷ [])
+    ∙ ap (λ (l : List Bool). marks n graph k ++ l) (append-nil (map (graph k) (numbers_below n)))
+
+next_marks : (n : ℕ) (graph : Graph) (k : ℕ) → marks n graph (suc k) ≡ marks n graph k ++ map (graph k) (numbers_below n)
+next_marks n graph k =
+    let one : suc k ≡ k + 1 = omega arith in
+    ap (marks n graph) one ∙ marks_push n graph k
+
+pub length_marks : (n : ℕ) (graph : Graph) (k : ℕ) → length (marks n graph k) ≡ k * n
+length_marks n graph zero = omega arith
+length_marks n graph (suc k) =
+    ap length (next_marks n graph k)
+    ∙ omega (arith, length-append (marks n graph k) (map (graph k) (numbers_below n)), length_marks n graph k, length-map-range_with_len (graph k) 0 n, suc-mul k n)
+
+row_within : (k c n : ℕ) → c < k → c * n + n ≤ k * n
+row_within zero c n h = absurd (omega (arith, h))
+row_within (suc k) c n h = elim (cases_lt c k) [
+  | inl before ↦ omega (arith, row_within k c n before, suc-mul k n)
+  | inr last ↦
+      let same : c ≡ k = omega (arith, h, last) in
+      omega (arith, ap (λ (x : ℕ). x * n) same, suc-mul k n)
+]
+
+mark_at : (n : ℕ) (graph : Graph) (k c d : ℕ) → c < k → d < n → get_or (marks n graph k) (c * n + d) false ≡ graph c d
+mark_at n graph zero c d h under = absurd (omega (arith, h))
+mark_at n graph (suc k) c d h under =
+    let all = marks n graph k in
+    let row = map (graph k) (numbers_below n) in
+    ap (λ (l : List Bool). get_or l (c * n + d) false) (next_marks n graph k) ∙ elim (cases_lt c k) [
+      | inl before ↦
+          get_or_append_left all row false (c * n + d) (omega (arith, row_within k c n before, under, length_marks n graph k))
+          ∙ mark_at n graph k c d before under
+      | inr last ↦
+          let same : c ≡ k = omega (arith, h, last) in
+          let place : c * n + d - k * n ≡ d = omega (arith, ap (λ (x : ℕ). x * n) same) in
+          get_or-append_right all row (k * n) (c * n + d) false (length_marks n graph k) (omega (arith, ap (λ (x : ℕ). x * n) same))
+          ∙ ap (λ (i : ℕ). get_or row i false) place
+          ∙ get_or-map-range_with_len (graph k) 0 n d d false under (omega arith)
+          ∙ ap (λ (x : ℕ). graph x d) (sym same)
+    ]
+
+-- a graph of these marks tells of each two clients
+pub marks_tell : (n : ℕ) (pairs : List Bool) (graph : Graph) → pairs ≡ marks n graph n → Tells (record { clients = n; pairs = pairs }) graph
+marks_tell n pairs graph e c d h under = ap (λ (l : List Bool). get_or l (c * n + d) false) e ∙ mark_at n graph n c d h under
+
+-- The marks of a client with the others so far, and of all clients.
+
+pub row_push : (row : ℕ → Bool) (old before now : List Bool) (k : ℕ) → before ≡ old ++ map row (numbers_below k) → now ≡ before ++ row k ∷ []
+    → now ≡ old ++ map row (numbers_below (k + 1))
+row_push row old before now k so_far pushed =
+    pushed
+    ∙ ap (λ (l : List Bool). l ++ row k ∷ []) so_far
+    ∙ append_assoc old (map row (numbers_below k)) (row k ∷ [])
+    ∙ ap (λ (l : List Bool). old ++ l) (sym (map_push row (numbers_below k) k) ∙ ap (map row) (sym (numbers_push k)))
+
+-- once all clients were asked, there is a mark for each pair
+pub square : (n k count : ℕ) (graph : Graph) (pairs : List Bool) → pairs ≡ marks n graph k → k ≡ n → count ≡ n → length pairs ≡ count * count
+square n k count graph pairs is all counted =
+    ap length is ∙ length_marks n graph k ∙ ap (λ (x : ℕ). x * n) all ∙ ap₂ (λ (x y : ℕ). x * y) (sym counted) (sym counted)
+
+pub all_marks : (n k count : ℕ) (graph : Graph) (pairs : List Bool) → pairs ≡ marks n graph k → k ≡ n → count ≡ n → pairs ≡ marks count graph count
+all_marks n k count graph pairs is all counted =
+    is ∙ ap (marks n graph) all ∙ ap (λ (x : ℕ). marks x graph x) (sym counted)
+
+-- Rounds that take clients away come to an end where one takes none away.
+
+-- what is filtered is no longer
+pub filter_few : {X : Type 0} (test : X → Bool) (xs : List X) → length (filter test xs) ≤ length xs
+filter_few test [] = omega arith
+filter_few test (x ∷ rest) = by_test (test x) (filter_few test rest)
+  where
+    by_test : (t : Bool) → length (filter test rest) ≤ length rest → length (if t then x ∷ filter test rest else filter test rest) ≤ length (x ∷ rest)
+    by_test true few = omega (arith, few)
+    by_test false few = omega (arith, few)
+
+-- where as many are left as there were, they are the same
+pub filter_all : {X : Type 0} (test : X → Bool) (xs : List X) → length (filter test xs) ≡ length xs → filter test xs ≡ xs
+filter_all test [] e = refl
+filter_all {X} test (x ∷ rest) e = by_test (test x) e (filter_all test rest)
+  where
+    by_test : (t : Bool) → length (if t then x ∷ filter test rest else filter test rest) ≡ length (x ∷ rest) → (length (filter test rest) ≡ length rest → filter test rest ≡ rest)
+        → (if t then x ∷ filter test rest else filter test rest) ≡ x ∷ rest
+    by_test true f again = ap (λ (ys : List X). x ∷ ys) (again (omega (arith, f)))
+    by_test false f again = absurd (omega (arith, f, filter_few test rest))
+
+-- once a round takes none away, no later one does
+pub rounds_stay : (graph : Graph) (clients : List ℕ) (k n : ℕ) → k ≤ n → still_waiting graph (remaining graph clients k) ≡ remaining graph clients k
+    → remaining graph clients n ≡ remaining graph clients k
+rounds_stay graph clients k zero few e =
+    let same : zero ≡ k = omega (arith, few) in
+    ap (remaining graph clients) same
+rounds_stay graph clients k (suc n) few e = elim (cases_eq k (suc n)) [
+  | inl same ↦ ap (remaining graph clients) (sym same)
+  | inr other ↦ ap (still_waiting graph) (rounds_stay graph clients k n (omega (arith, few, other)) e) ∙ e
+]
+
+-- so a round after which as many are left is the last one
+pub round_is_last : (graph : Graph) (clients left after : List ℕ) (k n : ℕ) → k ≤ n → left ≡ remaining graph clients k → after ≡ still_waiting graph left
+    → length after ≡ length left → left ≡ remaining graph clients n
+round_is_last graph clients left after k n few is e same =
+    let stays : still_waiting graph left ≡ left = filter_all (λ c. list_any (graph c) left) left (sym (ap length e) ∙ same) in
+    is ∙ sym (rounds_stay graph clients k n few (sym (ap (still_waiting graph) is) ∙ stays ∙ is))
+
+-- one round more
+pub next_round : (graph : Graph) (clients left after : List ℕ) (k : ℕ) → left ≡ remaining graph clients k → after ≡ still_waiting graph left
+    → after ≡ remaining graph clients (k + 1)
+next_round graph clients left after k is e =
+    let one : suc k ≡ k + 1 = omega arith in
+    e ∙ ap (still_waiting graph) is ∙ ap (remaining graph clients) one
+
+-- the numbers below n are below n
+pub all_below : (n : ℕ) → All (λ c. c < n) (numbers_below n)
+all_below n k d h = omega (arith, get_or-range_with_len 0 n k d (omega (arith, h, length-range_with_len 0 n)), h, length-range_with_len 0 n)

@@ -1,27 +1,21 @@
 -- What the lines of a run tell of a client that waits for another one.
-use Rattle.std.proofs.Common.{◌≡◌, ◌∙◌, ℕ, ◌<◌, inl, inr, List, length, take, Option, Some, None, Bool, true, false, refl, sym, subst, ap, arith}
+use Rattle.std.proofs.Common.{◌≡◌, ◌∙◌, ℕ, ◌<◌, inl, inr, List, length, Some, None, Bool, true, refl, subst, ap, arith, ◌⊎◌, ◌&&◌, if◌then◌else◌, nat_lt, IsTrue, lt-ltb, take_all}
 use Rattle.std.proofs.Math.Path.{fun_ext}
-use Rattle.std.specs.Prelude.{◌⊎◌, ◌||◌, ◌&&◌, if◌then◌else◌, nat_lt, IsTrue}
 use Rattle.std.specs.List.{list_any}
-use Rattle.std.proofs.lemmas.Bool.{lt-ltb, or_cases}
-use Rattle.std.proofs.lemmas.List.{take_all}
+use Rattle.std.proofs.lemmas.Bool.{or_cases}
 use Rattle.lt_modes.specs.declared.mode.Mode.{Mode}
-use Rattle.lt_modes.specs.Held.{count_of}
-use Rattle.lt_modes.specs.Modes.{conflicts, modes_in_order}
+use Rattle.lt_modes.specs.Modes.{count_of, conflicts, modes_in_order}
 use Rattle.lt_modes.specs.Script.{ScriptData}
 use Rattle.lt_spec.specs.Facts.{state_at}
-use Rattle.lt_spec.specs.Families.{home}
-use Rattle.lt_spec.specs.Holdings.{Holding, holding, lines_of, wanted}
-use Rattle.lt_spec.specs.Log.{Logged}
-use Rattle.lt_spec.specs.Waiting.{holds_against, waits_behind, waits_for}
-use Rattle.lt_spec.specs.WholeScripts.{IsWhole}
-use Rattle.lt_spec.specs.World.{World, world_after, IsRun}
+use Rattle.lt_spec.specs.NodeMove.{home, IsWhole}
+use Rattle.lt_spec.specs.Holdings.{Holding, holding, lines_of, wanted, holds_against, waits_behind, waits_for}
+use Rattle.lt_spec.specs.World.{Logged, World, world_after, IsRun}
 use Rattle.lt_model.specs.Invariant.{LinesKept}
 use Rattle.lt_law_lines.proofs.KeptLines.{lines_kept_in_runs}
 use Rattle.lt_law_waiting.proofs.KeptAsks.{KeptAsk, waits_kept}
 use Rattle.lt_world.proofs.AgainstLemmas.{against_all}
 use Rattle.lt_waits.specs.EdgeLaws.{IsTrueEdge, EdgesAreTold}
-use Rattle.lt_waits.specs.Reasons.{in_sets, want_of, bars_want, is_barred}
+use Rattle.lt_waits.specs.Reasons.{in_sets, is_barred}
 
 kept_at_end : (script : ScriptData) (run : List Logged) → IsWhole script → IsRun script run → LinesKept script (lines_of run) (world_after script run)
 kept_at_end script run whole is_run =

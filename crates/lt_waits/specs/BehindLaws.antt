@@ -1,7 +1,6 @@
 -- What those who wait behind some clients are, as statements of any graphs.
-use Rattle.std.specs.Prelude.{◌≡◌, ◌<◌, ◌⊎◌, ℕ, List, ◌∷◌, ◌++◌, Contains, IsTrue, map}
+use Rattle.std.specs.Prelude.{ℕ, List, ◌∷◌, Contains}
 use Rattle.lt_spec.specs.Rings.{Graph, AreBelow, IsPath}
-use Rattle.lt_waits.specs.declared.edge.Edge.{Edge}
 use Rattle.lt_waits.specs.Edges.{edge}
 use Rattle.lt_waits.specs.Behind.{behind}
 
@@ -15,10 +14,3 @@ abbrev pub BehindAreAll : Type 0
 BehindAreAll = (n : ℕ) (locks graph : Graph) (clients : List ℕ) → AreBelow n clients
     → (c : ℕ) → (Contains clients c → ⊥) → IsLedTo n graph clients c
     → (other : ℕ) × Contains (behind n locks graph clients) (edge c other)
-
--- who waits behind them is none of them, and waits for one of them or for one that stands before it
-abbrev pub BehindAreLed : Type 0
-BehindAreLed = (n : ℕ) (locks graph : Graph) (clients : List ℕ) → ((c d : ℕ) → IsTrue (locks c d) → IsTrue (graph c d))
-    → (before after : List Edge) (e : Edge) → behind n locks graph clients ≡ before ++ e ∷ after
-    → (e.client < n) × (Contains clients e.client → ⊥) × IsTrue (graph e.client e.other)
-    × (Contains clients e.other ⊎ Contains (map (λ (b : Edge). b.client) before) e.other)

@@ -1,12 +1,9 @@
 -- What a line tells of a client that waits for another one, as a statement.
 use Rattle.std.specs.Prelude.{◌≡◌, ◌<◌, ◌⊎◌, ℕ, List, Some, length, IsTrue}
 use Rattle.lt_modes.specs.Script.{ScriptData}
-use Rattle.lt_spec.specs.Holdings.{Holding, lines_of}
-use Rattle.lt_spec.specs.Log.{Logged}
-use Rattle.lt_spec.specs.Waiting.{waits_for, waits_behind}
-use Rattle.lt_spec.specs.Waits.{WaitsFor}
-use Rattle.lt_spec.specs.WholeScripts.{IsWhole}
-use Rattle.lt_spec.specs.World.{world_after, IsRun}
+use Rattle.lt_spec.specs.Holdings.{Holding, lines_of, waits_for, waits_behind, WaitsFor}
+use Rattle.lt_spec.specs.World.{Logged, world_after, IsRun}
+use Rattle.lt_spec.specs.NodeMove.{IsWhole}
 use Rattle.lt_waits.specs.Reasons.{is_barred, want_of}
 
 -- what the client wants is what an unanswered ask of it wants; and the other one holds a lock that conflicts with it,

@@ -3,11 +3,8 @@ pub mod Behind
 pub mod BehindLaws
 pub mod EdgeLaws
 pub mod Edges
-pub mod Explained
-pub mod Graph
-pub mod Reasons
-pub mod Report
 pub mod Serves
+pub mod Reasons
 pub mod Shortest
 pub mod Tallied
 pub mod Why

@@ -6,11 +6,9 @@ use Rattle.lt_modes.specs.declared.event.Event.{Event}
 use Rattle.lt_modes.specs.Modes.{conflicts, modes_in_order, word_of}
 use Rattle.lt_modes.specs.Script.{ScriptData, client_name, set_name}
 use Rattle.lt_text.specs.Text.{text}
-use Rattle.lt_spec.specs.Holdings.{Holding, holding, holdings, times_held, wanted, lines_of}
-use Rattle.lt_spec.specs.Log.{Logged}
+use Rattle.lt_spec.specs.Holdings.{Holding, holding, holdings, times_held, wanted, lines_of, waits_for}
+use Rattle.lt_spec.specs.World.{Logged, world_after}
 use Rattle.lt_spec.specs.Rings.{Graph}
-use Rattle.lt_spec.specs.Waiting.{waits_for}
-use Rattle.lt_spec.specs.World.{world_after}
 use Rattle.lt_waits.specs.declared.edge.Edge.{Edge}
 
 -- the lock, if its set is of the script

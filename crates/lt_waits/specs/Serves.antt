@@ -1,20 +1,88 @@
--- All that the top call says of an answer: what was written, why the answer comes, and what it says of the source and the sink.
-use Rattle.std.specs.Prelude.{◌≡◌, ℕ, List, Option}
-use Rattle.lt_io.specs.Source.{SourceState}
-use Rattle.lt_call.specs.Calls.{Serves}
-use Rattle.lt_modes.specs.Script.{ScriptData}
-use Rattle.lt_spec.specs.Log.{Logged}
-use Rattle.lt_spec.specs.World.{world_after}
-use Rattle.lt_law_journals.specs.Journals.{IsFinished}
-use Rattle.lt_spec.specs.Reports.{waits_report}
+-- What the lines of a report tell of the clients that wait at the end of a run.
+use Rattle.std.specs.Prelude.{◌≡◌, ◌<◌, ◌==◌, ◌++◌, ◌∷◌, [], ℕ, List, length, Contains, IsTrue, if◌then◌else◌, map, filter, codes, ◌+◌, ◌*◌, Bool, false, slice_index_or, Option, flat_map}
+use Rattle.std.specs.List.{IsDistinct}
+use Rattle.lt_modes.specs.Script.{ScriptData, client_name}
+use Rattle.lt_spec.specs.Holdings.{lines_of, waits_for}
+use Rattle.lt_spec.specs.World.{Logged, world_after, is_waiting}
+use Rattle.lt_spec.specs.Rings.{AreBelow, IsRing, CycleLine, EndsLine, waits_lines, waits_report, Graph, numbers_below, walk_end, waits_for_some, ReportLine, WaitsLine, NoCycleLine}
+use Rattle.lt_spec.specs.Promised.{HasEnded, HoldsUp, WaitInRing}
+use Rattle.lt_io.specs.Streams.{SourceState}
+use Rattle.lt_text.specs.Text.{spaced, text}
+use Rattle.lt_law_journals.specs.Checking.{IsFinished}
 use Rattle.lt_checker.specs.declared.limits.TheConstants.{MAX_JOURNAL}
 use Rattle.lt_checker.specs.Input.{DenotesBefore, HasFaultBefore, IsJournalOf, IsBad}
+use Rattle.lt_call.specs.Calls.{Serves}
 use Rattle.lt_waits.specs.declared.answer.Answer.{Answer}
 use Rattle.lt_waits.specs.declared.answer.Answer.TheVariants.{Refused, BadJournal}
 use Rattle.lt_waits.specs.Answers.{outcome_of}
-use Rattle.lt_waits.specs.Explained.{Explains}
-use Rattle.lt_waits.specs.Report.{waits_text}
 use Rattle.lt_waits.specs.Why.{NamesRing, why_text}
+
+-- the report at the end of the run tells why each client waits
+pub record Explains (script : ScriptData) (run : List Logged) : Type 0 where
+  -- each client that waits waits for some client
+  pub some : (client : ℕ) → client < length script.clients → IsTrue (is_waiting script (world_after script run) client)
+      → (other : ℕ) × (other < length script.clients) × IsTrue (waits_for script (world_after script run) client other)
+  -- a line `cycle` names clients that wait in a ring, none of them twice
+  pub cycles : (ring : List ℕ) → Contains (waits_report script (world_after script run)) (CycleLine ring)
+      → AreBelow (length script.clients) ring × IsRing (waits_for script (world_after script run)) ring × IsDistinct (λ a b. a == b) ring
+  -- if some clients wait in a ring, one such line follows the lines `waits`
+  pub rings : WaitInRing script (world_after script run)
+      → (ring : List ℕ) × (waits_report script (world_after script run)
+      ≡ waits_lines (length script.clients) (waits_for script (world_after script run)) ++ CycleLine ring ∷ [])
+  -- of a line `ends` the first client waits, and the second has ended and holds a lock against a client that waits
+  pub ends : (client last : ℕ) → Contains (waits_report script (world_after script run)) (EndsLine client last)
+      → IsTrue (is_waiting script (world_after script run) client) × HasEnded script (world_after script run) last
+      × (waiter : ℕ) × (waiter < length script.clients) × HoldsUp script (lines_of run) (world_after script run) waiter last
+  -- if no clients wait in a ring, each client that waits has its line `ends`
+  pub all : (client : ℕ) → client < length script.clients → (WaitInRing script (world_after script run) → ⊥)
+      → IsTrue (is_waiting script (world_after script run) client)
+      → (last : ℕ) × Contains (waits_report script (world_after script run)) (EndsLine client last)
+
+-- The text of a report of who waits for whom.
+
+-- the words of a line of the report
+abbrev pub report_words : ScriptData → ReportLine → List (List ℕ)
+report_words script (WaitsLine client other) = codes "waits" ∷ client_name script client ∷ client_name script other ∷ []
+report_words script (CycleLine clients) = codes "cycle" ∷ map (client_name script) clients
+report_words script NoCycleLine = codes "no" ∷ codes "cycle" ∷ []
+report_words script (EndsLine client last) = codes "ends" ∷ client_name script client ∷ client_name script last ∷ []
+
+-- the text of these lines
+abbrev pub waits_text : ScriptData → List ReportLine → List ℕ
+waits_text script lines = text (map (λ line. spaced (report_words script line)) lines)
+
+-- the line of two clients, if the first waits for the second
+abbrev pub waits_line : Graph → ℕ → ℕ → List ReportLine
+waits_line graph client other = if graph client other then WaitsLine client other ∷ [] else []
+
+-- the lines of a client with each client for which it waits
+abbrev pub waits_lines_of : ℕ → Graph → ℕ → List ReportLine
+waits_lines_of n graph client = map (WaitsLine client) (filter (graph client) (numbers_below n))
+
+-- the line of the end of a client's walk, if the client waits
+abbrev pub ends_line : ℕ → Graph → ℕ → List ReportLine
+ends_line n graph client = if waits_for_some n graph client then EndsLine client (walk_end n graph client) ∷ [] else []
+
+-- What contracts see of a graph of who waits for whom.
+
+-- the number of clients, and a mark for each pair: those of the first client with each client in order, and so on
+pub record GraphData : Type 0 where
+  pub clients : ℕ
+  pub pairs : List Bool
+
+-- whether the first client waits for the second
+abbrev pub graph_of : GraphData → Graph
+graph_of g c d = slice_index_or g.pairs (c * g.clients + d) false
+
+-- the graph tells of each two of its clients whether the first waits for the second
+abbrev pub Tells : GraphData → Graph → Type 0
+Tells g graph = (c d : ℕ) → c < g.clients → d < g.clients → graph_of g c d ≡ graph c d
+
+-- the marks of the first k of n clients, each with each of the n: whether the first waits for the second
+abbrev pub marks : ℕ → Graph → ℕ → List Bool
+marks n graph k = flat_map (λ c. map (graph c) (numbers_below n)) (numbers_below k)
+
+-- All that the top call says of an answer: what was written, why the answer comes, and what it says of the source and the sink.
 
 -- the input is a script and the journal of a run of it that ended at rest, and this tells who waits for whom at its end, and
 -- why

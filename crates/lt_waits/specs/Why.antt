@@ -3,12 +3,10 @@ use Rattle.std.specs.Prelude.{◌↔◌, List, [], ◌∷◌, ◌++◌, ℕ, Opt
 use Rattle.std.specs.Global.{Global}
 use Rattle.lt_modes.specs.declared.event.Event.{Event}
 use Rattle.lt_modes.specs.Script.{ScriptData}
-use Rattle.lt_spec.specs.Ended.{WaitInRing}
-use Rattle.lt_spec.specs.Holdings.{lines_of}
-use Rattle.lt_spec.specs.Log.{Logged}
+use Rattle.lt_spec.specs.Promised.{WaitInRing}
+use Rattle.lt_spec.specs.Holdings.{lines_of, waits_for}
+use Rattle.lt_spec.specs.World.{Logged, world_after}
 use Rattle.lt_spec.specs.Rings.{Graph}
-use Rattle.lt_spec.specs.Waiting.{waits_for}
-use Rattle.lt_spec.specs.World.{world_after}
 use Rattle.lt_waits.specs.declared.edge.Edge.{Edge}
 use Rattle.lt_waits.specs.Behind.{behind, idle}
 use Rattle.lt_waits.specs.Edges.{ring_edges}

@@ -1,6 +1,5 @@
 -- The words that ask why clients wait.
-use Rattle.std.specs.Prelude.{ℕ, List, [], ◌∷◌, Bool, false, codes}
-use Rattle.std.specs.Str.{bytes_eq}
+use Rattle.std.specs.Prelude.{ℕ, List, [], ◌∷◌, Bool, false, codes, bytes_eq}
 
 -- the words are the word `why` alone
 abbrev pub asks_why : List (List ℕ) → Bool

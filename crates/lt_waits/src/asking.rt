@@ -1,8 +1,8 @@
 ghost use Rattle.std.specs.Prelude.{◌≡◌, ◌<◌, ◌++◌, map, length, IfOk, OnOk};
 ghost use Rattle.lt_spec.specs.Rings.{numbers_below};
-ghost use Rattle.lt_spec.specs.Waiting.{waits_for};
+ghost use Rattle.lt_spec.specs.Holdings.{waits_for};
 ghost use Rattle.lt_world.specs.Fields.{world_of};
-ghost use Rattle.lt_waits.specs.Graph.{Tells, marks};
+ghost use Rattle.lt_waits.specs.Serves.{Tells, marks};
 
 use crate::graph::WaitGraph;
 use lt_script::Script;

@@ -1,7 +1,7 @@
 ghost use Rattle.std.specs.Prelude.{◌≡◌, ◌<◌, ◌++◌, All, IfOk, IfSome, OnOk};
 ghost use Rattle.lt_spec.specs.Rings.{has_come};
 ghost use Rattle.lt_waits.specs.Edges.{IsEdgeOf};
-ghost use Rattle.lt_waits.specs.Graph.{graph_of};
+ghost use Rattle.lt_waits.specs.Serves.{graph_of};
 ghost use Rattle.lt_waits.specs.Behind.{behind, edge_to, edges_to, idle, nearest, all_but};
 
 use crate::edge::Edge;

@@ -1,6 +1,6 @@
 ghost use Rattle.std.specs.Prelude.{◌≡◌, ◌<◌, ◌*◌, length, IfSome};
 ghost use Rattle.lt_spec.specs.Rings.{Graph, next_among, numbers_below, waits_for_some};
-ghost use Rattle.lt_waits.specs.Graph.{graph_of, marks, Tells};
+ghost use Rattle.lt_waits.specs.Serves.{graph_of, marks, Tells};
 
 use std::marker::Model;
 
@@ -14,7 +14,7 @@ pub struct WaitGraph {
 
 impl Model for WaitGraph {
     ghost use Rattle.std.specs.Prelude.{◌≡◌, ◌<◌, ◌*◌, ◌^◌, length};
-    ghost use Rattle.lt_waits.specs.Graph.{GraphData};
+    ghost use Rattle.lt_waits.specs.Serves.{GraphData};
 
     ghost Value = { GraphData };
 

@@ -1,10 +1,8 @@
 ghost use Rattle.std.specs.Prelude.{◌≡◌, ◌<◌, ◌≤◌, ◌++◌, ◌∷◌, [], All, IfOk, OnOk, codes, length};
 ghost use Rattle.lt_text.specs.Text.{after_space, spaced, text};
 ghost use Rattle.lt_modes.specs.Script.{ScriptData, client_name};
-ghost use Rattle.lt_spec.specs.Rings.{Graph, ring_set};
-ghost use Rattle.lt_spec.specs.Reports.{CycleLine, NoCycleLine, waits_lines, ends_lines, last_lines, report};
-ghost use Rattle.lt_waits.specs.Graph.{graph_of, Tells};
-ghost use Rattle.lt_waits.specs.Report.{waits_text, waits_line, waits_lines_of, ends_line};
+ghost use Rattle.lt_spec.specs.Rings.{Graph, ring_set, CycleLine, NoCycleLine, waits_lines, ends_lines, last_lines, report};
+ghost use Rattle.lt_waits.specs.Serves.{graph_of, Tells, waits_text, waits_line, waits_lines_of, ends_line};
 
 use crate::graph::WaitGraph;
 use crate::rings::{ring_of, ring_set, walk_end};

@@ -1,6 +1,6 @@
 ghost use Rattle.std.specs.Prelude.{◌≡◌, ◌<◌, ◌++◌, map, length, IfOk, OnOk};
 ghost use Rattle.lt_spec.specs.Rings.{numbers_below};
-ghost use Rattle.lt_waits.specs.Graph.{Tells, graph_of};
+ghost use Rattle.lt_waits.specs.Serves.{Tells, graph_of};
 ghost use Rattle.lt_waits.specs.Reasons.{by_lock};
 
 use crate::graph::WaitGraph;

@@ -1,7 +1,7 @@
 ghost use Rattle.std.specs.Prelude.{◌≡◌, IfOk};
-ghost use Rattle.lt_spec.specs.Reports.{waits_report};
+ghost use Rattle.lt_spec.specs.Rings.{waits_report};
 ghost use Rattle.lt_world.specs.Fields.{world_of};
-ghost use Rattle.lt_waits.specs.Report.{waits_text};
+ghost use Rattle.lt_waits.specs.Serves.{waits_text};
 
 use crate::asking::wait_graph;
 use crate::lines::report_of;

@@ -1,7 +1,7 @@
 ghost use Rattle.std.specs.Prelude.{◌≡◌, ◌<◌, ◌≤◌, ◌==◌, ℕ, true, All, IfOk, IfSome, drop, length, position};
 ghost use Rattle.std.specs.List.{list_any, find};
 ghost use Rattle.lt_spec.specs.Rings.{still_waiting, ring_set, next_among, ring_of, walk_end};
-ghost use Rattle.lt_waits.specs.Graph.{graph_of};
+ghost use Rattle.lt_waits.specs.Serves.{graph_of};
 
 use crate::graph::WaitGraph;
 use std::alloc::{AllocError, Global};

@@ -1,6 +1,6 @@
 ghost use Rattle.std.specs.Prelude.{◌≡◌, ◌<◌, ◌++◌, ◌↔◌, ℕ, List, Option, All, IfOk, IfSome, IsTrue, OnOk, Some, None, codes, is_some, length};
 ghost use Rattle.lt_waits.specs.Edges.{IsEdgeOf};
-ghost use Rattle.lt_waits.specs.Graph.{graph_of};
+ghost use Rattle.lt_waits.specs.Serves.{graph_of};
 ghost use Rattle.lt_waits.specs.Shortest.{HasRing, IsRingNamed};
 ghost use Rattle.lt_waits.specs.Why.{NamesRing, behind_text, items_of, why_of, why_text};
 

@@ -1,7 +1,7 @@
 ghost use Rattle.std.specs.Prelude.{◌≡◌, ◌<◌, ◌≤◌, ◌+◌, ◌↔◌, ◌++◌, ◌∷◌, [], ◌⊎◌, ℕ, List, All, Contains, IfOk, IfSome, IsTrue, is_some, length};
 ghost use Rattle.std.specs.List.{list_any};
 ghost use Rattle.lt_spec.specs.Rings.{Graph, AreBelow, IsRing, numbers_below};
-ghost use Rattle.lt_waits.specs.Graph.{graph_of};
+ghost use Rattle.lt_waits.specs.Serves.{graph_of};
 ghost use Rattle.lt_waits.specs.Shortest.{HasRing, IsRingOf, IsShortest, IsLayer, IsPathTo, LeadsOut, waiting_for, not_waiting_for};
 
 use crate::graph::WaitGraph;

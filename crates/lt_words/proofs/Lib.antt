@@ -1,4 +1,2 @@
-pub mod Seeds
-pub mod MakeForm
-pub mod Forms
 pub mod NoForm
+pub mod Forms

@@ -1,12 +1,13 @@
 -- Words without a form are no command.
-use Rattle.std.proofs.Common.{◌≡◌, ◌⊎◌, refl, sym, ℕ, true, false, ◌&&◌, ◌==◌, nat_lt, nat_le, length, inl, inr, List, [], ◌∷◌, Option, Some, None, codes}
-use Rattle.std.specs.Str.{bytes_eq}
-use Rattle.std.proofs.lemmas.Bool.{and_cases, and_right, or_parts, cases_Bool, eqb-true}
+use Rattle.std.proofs.Common.{◌≡◌, ◌⊎◌, refl, sym, ℕ, true, false, ◌&&◌, ◌==◌, nat_lt, nat_le, length, inl, inr, List, [], ◌∷◌, Option, Some, None, codes, ◌^◌, ◌<◌, Bool, Result, Ok, Err, ap, bytes_eq, eqb-true, lt-ltb, ltb-true, le-leb, leb-true, is_some, if◌then◌else◌, OkIff}
+use Rattle.std.proofs.lemmas.Bool.{and_cases, and_right, or_parts, cases_Bool, and_parts}
+use Rattle.std.specs.Char.{is_ascii_digit}
+use Rattle.std.specs.Result.{result_ok}
+use Rattle.std.specs.Str.Parse.{digits_value, ParsesUnsigned}
+use Rattle.std.proofs.lemmas.Str.Parse.{IsDigitsTest, IsNumeralModel, numerals_by_value, parse_digits}
 use Rattle.lt_text.specs.Number.{are_digits, is_numeral, number}
-use Rattle.std.specs.Prelude.{is_some}
 use Rattle.lt_words.specs.declared.command.Command.{Command}
-use Rattle.lt_words.specs.Words.{command_of, one_word, two_words, sim_of, seed_of, make_of, five_words}
-use Rattle.lt_words.specs.Grammar.{is_plain, has_verb, is_form}
+use Rattle.lt_words.specs.Grammar.{command_of, one_word, two_words, sim_of, seed_of, make_of, five_words, is_plain, has_verb, is_form}
 
 pub none_found : (found : Option Command) → is_some found ≡ false → None ≡ found
 none_found None e = refl
@@ -111,3 +112,33 @@ no_form (verb ∷ t ∷ u ∷ v ∷ w ∷ []) form =
       ]
     ]
 no_form (verb ∷ t ∷ u ∷ v ∷ w ∷ x ∷ rest) form = refl
+
+-- What parsing a word of digits gives.
+
+digits_test : IsDigitsTest (λ ds. are_digits ds ≡ true)
+digits_test = record {
+  empty = refl;
+  parts = λ c cs e. let k = and_parts (is_ascii_digit c) (are_digits cs) e in let m = and_parts (nat_le 48 c) (nat_le c 57) k.0 in ((leb-true 48 c m.0, leb-true c 57 m.1), k.1);
+  more = λ c cs k e. rw (le-leb 48 c k.0, le-leb c 57 k.1, e);
+}
+
+own : IsNumeralModel (λ ds. are_digits ds ≡ true) (digits_value 10)
+own = numerals_by_value _ digits_test
+
+-- where the test fails, there is no value
+unless : (below : Bool) (value : ℕ) → (below ≡ true → ⊥) → None ≡ (if true && below then Some value else None)
+unless true value never = absurd (never refl)
+unless false value never = refl
+
+module _ {E : Type 0} where
+  seed_by_cases : (word : List ℕ) (r : Result ℕ E) → is_numeral word 20 ≡ true → 0 < length word
+      → OkIff r ((0 < length word) × (digits_value 10 word < 2 ^ 64)) (digits_value 10 word) → result_ok r ≡ seed_of word
+  seed_by_cases word (Ok value) numeral some h = rw (numeral, lt-ltb (digits_value 10 word) (2 ^ 64) h.0.1) (ap Some h.1)
+  seed_by_cases word (Err error) numeral some h =
+      rw numeral (unless (nat_lt (digits_value 10 word) (2 ^ 64)) (digits_value 10 word) (λ below. h (some, ltb-true (digits_value 10 word) (2 ^ 64) below)))
+
+  pub seed_parsed : (word : List ℕ) (r : Result ℕ E) → is_numeral word 20 ≡ true → ParsesUnsigned 64 10 word r → result_ok r ≡ seed_of word
+  seed_parsed word r numeral h =
+      let digits = and_parts (nat_lt 0 (length word) && nat_le (length word) 20) (are_digits word) numeral in
+      let some = and_parts (nat_lt 0 (length word)) (nat_le (length word) 20) digits.0 in
+      seed_by_cases word r numeral (ltb-true 0 (length word) some.0) (parse_digits own 64 word r h digits.1)

@@ -3,8 +3,7 @@ ghost use Rattle.std.specs.List.{list_all};
 ghost use Rattle.std.specs.Str.{bytes_eq};
 ghost use Rattle.std.specs.String.{string_bytes};
 ghost use Rattle.clap.specs.Words.{rows_of, found_of, subcommand_rows_of};
-ghost use Rattle.lt_words.specs.Words.{command_of, one_word, two_words, sim_of, soak_of, five_words};
-ghost use Rattle.lt_words.specs.Grammar.{text_at, command_in, is_form, has_verb, is_plain};
+ghost use Rattle.lt_words.specs.Grammar.{command_of, one_word, two_words, sim_of, soak_of, five_words, text_at, command_in, is_form, has_verb, is_plain};
 
 use crate::grammar::parse;
 use crate::numbers::{make_of, seed_of};

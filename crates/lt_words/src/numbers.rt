@@ -1,6 +1,6 @@
 ghost use Rattle.std.specs.Prelude.{◌≡◌, Some};
 ghost use Rattle.lt_text.specs.Number.{is_numeral, number};
-ghost use Rattle.lt_words.specs.Words.{seed_of, make_of};
+ghost use Rattle.lt_words.specs.Grammar.{seed_of, make_of};
 
 use crate::command::Command;
 use lt_gen::can_make;

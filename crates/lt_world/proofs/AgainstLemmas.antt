@@ -1,6 +1,5 @@
 -- Whether a client holds a lock of one of some modes, mode by mode.
-use Rattle.std.proofs.Common.{◌≡◌, ◌<◌, ◌+◌, ◌∙◌, ◌||◌, ℕ, Bool, true, false, drop, length, refl, sym, ap}
-use Rattle.std.specs.Prelude.{slice_index_or}
+use Rattle.std.proofs.Common.{◌≡◌, ◌<◌, ◌+◌, ◌∙◌, ◌||◌, ℕ, Bool, true, false, drop, length, refl, sym, ap, slice_index_or}
 use Rattle.std.specs.List.{list_any}
 use Rattle.std.proofs.lemmas.Bool.{false≢true}
 use Rattle.std.proofs.lemmas.List.{drop_more}
@@ -8,8 +7,7 @@ use Rattle.lt_modes.specs.declared.mode.Mode.{Mode}
 use Rattle.lt_modes.specs.declared.mode.Mode.TheVariants.{IntentionRead}
 use Rattle.lt_modes.specs.declared.mode.TheConstants.{MODES}
 use Rattle.lt_modes.specs.Modes.{any_mode}
-use Rattle.lt_modes.proofs.EachMode.{in_order}
-use Rattle.lt_modes.proofs.ModeAlgebra.{any_mode-which, any_mode-at}
+use Rattle.lt_modes.proofs.ModeAlgebra.{in_order, any_mode-which, any_mode-at}
 use Rattle.lt_lists.proofs.Members.{list_any-at, list_any-which}
 
 -- some mode of the list passes exactly where some mode does

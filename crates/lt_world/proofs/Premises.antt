@@ -1,26 +1,29 @@
 -- Where a move is enabled, its node can make it.
-use Rattle.std.proofs.Common.{◌≡◌, ℕ, ◌+◌, ◌<◌, ◌≤◌, ◌^◌, List, ◌∷◌, length, take, refl, sym, subst, arith}
-use Rattle.std.specs.Prelude.{◌&&◌, ◌==◌, not, nat_lt, nat_le, IsTrue, Contains}
-use Rattle.std.proofs.lemmas.Bool.{and_parts, eqb-true, ltb-true}
+use Rattle.std.proofs.Common.{◌≡◌, ℕ, ◌+◌, ◌<◌, ◌≤◌, ◌^◌, List, ◌∷◌, length, take, refl, sym, subst, arith, ◌≢◌, [], ◌++◌, inl, inr, ap, ◌∙◌, length-set, get_or-set_same, get_or-set_other, map, filter, flat_map, ◌&&◌, ◌==◌, not, nat_lt, nat_le, IsTrue, Contains, if◌then◌else◌, slice_set, eqb-true, ltb-true, eq-eqb, ne_eqb, lt-ltb, filter_map}
+use Rattle.std.proofs.lemmas.Bool.{and_parts, cases_eq}
+use Rattle.std.specs.List.{range_with_len}
 use Rattle.lt_modes.specs.declared.moves.Step.TheVariants.{Act, Take}
 use Rattle.lt_modes.specs.Script.{ScriptData}
 use Rattle.lt_modes.specs.State.{Letter}
 use Rattle.lt_modes.specs.Fits.{Numbers, fits, head_fits, numbers_of}
+use Rattle.lt_modes.specs.declared.stamp.Stamp.{Stamp}
+use Rattle.lt_lists.specs.Below.{put}
+use Rattle.lt_lists.proofs.Puts.{put-same, put-other}
 use Rattle.lt_spec.specs.Script.{IsScript}
-use Rattle.lt_spec.specs.Limits.{node_within, leaves_asks}
-use Rattle.lt_spec.specs.Log.{Logged}
-use Rattle.lt_spec.specs.Families.{home}
-use Rattle.lt_spec.specs.NodeMove.{NodeState, node_waits, has_command}
-use Rattle.lt_spec.specs.World.{World, world_after, is_enabled, is_runnable, IsRun}
-use Rattle.lt_model.proofs.ClocksGrow.{clocks_in_runs}
-use Rattle.lt_law_invariant.proofs.KeptRuns.{letters_fit_in_runs}
-use Rattle.lt_law_invariant.proofs.Within.{nodes_within, asks_placed, whole}
+use Rattle.lt_spec.specs.NodeMove.{node_within, leaves_asks, home, NodeState, node_waits, has_command, NodeMade, node_act, act_stamp}
+use Rattle.lt_spec.specs.World.{Logged, World, world_after, is_enabled, is_runnable, IsRun, put_mail, after_made, letter_for, node_move, move_stamp, has_mail, is_some_letter}
+use Rattle.lt_spec.specs.FixedOrder.{take_turn, senders, takes}
 use Rattle.lt_law_enabled.specs.OrderLaws.{HasLetter}
 use Rattle.lt_law_enabled.proofs.Order.{takes_where}
-use Rattle.lt_node.specs.NodeData.{NodeData, state_of}
-use Rattle.lt_world.specs.Fields.{IsNodeOf}
-use Rattle.lt_world.specs.Moving.{IsWithin, CanAct, CanTake}
-use Rattle.lt_world.proofs.Runs.{whole_run}
+use Rattle.lt_model.proofs.ClocksGrow.{clocks_in_runs}
+use Rattle.lt_law_invariant.proofs.SoundStates.{letters_fit_in_runs}
+use Rattle.lt_law_invariant.proofs.FewAsks.{nodes_within, asks_placed, whole}
+use Rattle.lt_desk.specs.DeskData.{OutData}
+use Rattle.lt_node.specs.NodeData.{NodeData, state_of, NodeDoes, SameNode, with_sent}
+use Rattle.lt_inbox.specs.Mail.{MailData, mail_in, SameLetters, AreDelivered, takes_in}
+use Rattle.lt_inbox.proofs.TakeOrder.{filter_same, flat_map_same}
+use Rattle.lt_world.specs.Fields.{IsNodeOf, IsWithin, CanAct, CanTake, node_of_none, node_at, IsWorld, OnlyMemory, IsOpened, Holds}
+use Rattle.lt_world.proofs.Runs.{whole_run, own_mail}
 
 -- what holds of the node of the world holds of the code's
 carried : {script : ScriptData} {q : ℕ} {state : NodeState} {n : NodeData} (P : ScriptData → ℕ → NodeState → Type 0)
@@ -108,3 +111,177 @@ can_take script run q p letter rest n good is_run enabled few front is =
         let b = and_parts (nat_lt letter.link.node numbers.nodes) _ a.1 in
         let d = and_parts (nat_le letter.link.epoch letter.stamp.clock) _ b.1 in
         ltb-true (letter.stamp.clock + 1) (2 ^ 32) (and_parts (nat_lt (letter.stamp.clock + 1) (2 ^ 32)) (nat_lt (clock + 1) (2 ^ 32)) d.1).0
+
+-- The code's nodes and letters after a part of a move are those of the world after it.
+
+-- one node of these, with another in its place
+pub node_put : (nodes : List NodeData) (q : ℕ) (d : NodeData) → q < length nodes → node_at (slice_set nodes q d) q ≡ d
+node_put nodes q d inside = get_or-set_same nodes q d node_of_none inside
+
+nodes_put : (script : ScriptData) (state state' : ℕ → NodeState) (nodes : List NodeData) (q : ℕ) (d : NodeData)
+    → length nodes ≡ script.nodes → ((k : ℕ) → k < script.nodes → IsNodeOf script k (state k) (node_at nodes k))
+    → q < script.nodes → IsNodeOf script q (state' q) d → ((k : ℕ) → k ≢ q → state' k ≡ state k)
+    → (k : ℕ) → k < script.nodes → IsNodeOf script k (state' k) (node_at (slice_set nodes q d) k)
+nodes_put script state state' nodes q d count are inside is others k below = elim (cases_eq k q) [
+  | inl same ↦
+      subst (λ (i : ℕ). IsNodeOf script i (state' i) (node_at (slice_set nodes q d) i)) (sym same)
+      (subst (IsNodeOf script q (state' q)) (sym (node_put nodes q d (omega (arith, inside, count)))) is)
+  | inr other ↦
+      subst (λ (n : NodeState). IsNodeOf script k n (node_at (slice_set nodes q d) k)) (sym (others k other))
+      (subst (IsNodeOf script k (state k)) (sym (get_or-set_other nodes q k d node_of_none other)) (are k below))
+]
+
+-- a node with other memory is the same node
+pub same_node : (script : ScriptData) (q : ℕ) (state : NodeState) (old new : NodeData) → IsNodeOf script q state old → SameNode old new
+    → IsNodeOf script q state new
+same_node script q state old new is same = record {
+  script_is = same.script ∙ is.script_is;
+  me = same.me ∙ is.me;
+  state_is = same.state ∙ is.state_is;
+}
+
+-- nothing but memory changed
+pub world_same : (script : ScriptData) (w : World) (q : ℕ) (nodes nodes' : List NodeData) (boxes boxes' : MailData)
+    → IsWorld script nodes boxes w → q < script.nodes → OnlyMemory q nodes nodes' → SameLetters boxes boxes' → IsWorld script nodes' boxes' w
+world_same script w q nodes nodes' boxes boxes' h inside memory same = record {
+  node_count = ap length memory.others ∙ (length-set nodes q _ ∙ h.node_count);
+  nodes_are = λ k below. subst (λ (ns : List NodeData). IsNodeOf script k (w.node k) (node_at ns k)) (sym memory.others)
+      (nodes_put script w.node w.node nodes q (node_at nodes' q) h.node_count h.nodes_are inside
+      (same_node script q (w.node q) (node_at nodes q) (node_at nodes' q) (h.nodes_are q inside) memory.node) (λ k' d. refl) k below);
+  receivers = same.receivers ∙ h.receivers;
+  mail_is = λ a b la lb. same.letters a b ∙ h.mail_is a b la lb;
+}
+
+-- only the letters from p to q changed
+pub world_put : (script : ScriptData) (w : World) (p q : ℕ) (ls : List Letter) (nodes : List NodeData) (boxes boxes' : MailData)
+    → IsWorld script nodes boxes w → boxes'.nodes ≡ boxes.nodes → mail_in boxes' p q ≡ ls
+    → ((a b : ℕ) → (a ≡ p → b ≡ q → ⊥) → mail_in boxes' a b ≡ mail_in boxes a b)
+    → IsWorld script nodes boxes' (record w { mail = put_mail w.mail p q ls })
+world_put script w p q ls nodes boxes boxes' h same put others = record {
+  node_count = h.node_count;
+  nodes_are = h.nodes_are;
+  receivers = same ∙ h.receivers;
+  mail_is = λ a b la lb. elim (cases_eq a p) [
+    | inr other ↦ rw (ne_eqb a p other) (others a b (λ e f. other e) ∙ h.mail_is a b la lb)
+    | inl sender ↦ elim (cases_eq b q) [
+      | inr other ↦ rw (eq-eqb a p sender, ne_eqb b q other) (others a b (λ e f. other f) ∙ h.mail_is a b la lb)
+      | inl receiver ↦ rw (eq-eqb a p sender, eq-eqb b q receiver) (ap (λ (x : ℕ). mail_in boxes' x b) sender ∙ (ap (mail_in boxes' p) receiver ∙ put))
+    ]
+  ];
+}
+
+-- a node made its move, and its letters were delivered
+pub world_moved : (script : ScriptData) (w : World) (q : ℕ) (made : NodeMade) (d : NodeData) (nodes : List NodeData) (boxes boxes' : MailData)
+    → IsWorld script nodes boxes w → q < script.nodes → IsNodeOf script q made.node d → AreDelivered q made.posts boxes boxes'
+    → IsWorld script (slice_set nodes q d) boxes' (after_made q made w)
+world_moved script w q made d nodes boxes boxes' h inside is sent = record {
+  node_count = length-set nodes q d ∙ h.node_count;
+  nodes_are = nodes_put script w.node (put w.node q made.node) nodes q d h.node_count h.nodes_are inside
+      (subst (λ (n : NodeState). IsNodeOf script q n d) (sym (put-same w.node q made.node)) is) (λ k other. put-other w.node q made.node k other);
+  receivers = sent.receivers ∙ h.receivers;
+  mail_is = λ a b la lb. sent.letters a b
+      ∙ ap (λ (ls : List Letter). ls ++ (if a == q then filter_map (letter_for b) made.posts else [])) (h.mail_is a b la lb);
+}
+
+-- the node of the world did what the rule makes
+pub record Did (script : ScriptData) (q : ℕ) (made : NodeMade) (had : OutData) (new : NodeData) (out : OutData) : Type 0 where
+  pub node : IsNodeOf script q made.node new
+  pub sent : out ≡ with_sent made had
+
+pub did : (script : ScriptData) (q : ℕ) (state : NodeState) (rule : ScriptData → ℕ → NodeState → NodeMade) (old : NodeData) (had : OutData) (new : NodeData) (out : OutData)
+    → IsNodeOf script q state old → NodeDoes (rule old.script old.me (state_of old)) old had new out → Did script q (rule script q state) had new out
+did script q state rule old had new out is does =
+    let same : rule old.script old.me (state_of old) ≡ rule script q state =
+    ap (λ (s : ScriptData). rule s old.me (state_of old)) is.script_is
+    ∙ (ap (λ (x : ℕ). rule script x (state_of old)) is.me ∙ ap (rule script q) is.state_is) in
+    record {
+      node = record {
+        script_is = does.script ∙ is.script_is;
+        me = does.me ∙ is.me;
+        state_is = does.state ∙ ap (λ (m : NodeMade). m.node) same;
+      };
+      sent = does.sent ∙ ap (λ (m : NodeMade). with_sent m had) same;
+    }
+
+-- A command of a client, from what its parts do.
+
+pub within_before : (script : ScriptData) (q client : ℕ) (nodes : List NodeData) (boxes : MailData) (had : OutData) (run : List Logged)
+    → Holds script nodes boxes had run → IsTrue (is_enabled script (world_after script run) q (Act client)) → IsWithin (node_at nodes q)
+within_before script q client nodes boxes had run h enabled =
+    let below = act_inside script (world_after script run) q client h.is_script enabled in
+    within script run q (node_at nodes q) h.is_script h.is_run below (h.world.nodes_are q below)
+
+pub act_opened : (script : ScriptData) (q client : ℕ) (nodes : List NodeData) (boxes : MailData) (had : OutData) (run : List Logged)
+    → Holds script nodes boxes had run → IsTrue (is_enabled script (world_after script run) q (Act client)) → length run + 1 < 2 ^ 32
+    → IsOpened script q (Act client) nodes boxes had run
+act_opened script q client nodes boxes had run h enabled few = record {
+  is_script = h.is_script;
+  is_run = h.is_run;
+  enabled = enabled;
+  few = few;
+  world = h.world;
+  no_posts = h.no_posts;
+  no_events = h.no_events;
+}
+
+-- where the command isn't made
+pub act_left : (script : ScriptData) (q client : ℕ) (nodes : List NodeData) (boxes : MailData) (had : OutData) (run : List Logged)
+    → IsOpened script q (Act client) nodes boxes had run → Holds script nodes boxes had run
+act_left script q client nodes boxes had run h = record {
+  is_script = h.is_script;
+  world = h.world;
+  no_posts = h.no_posts;
+  no_events = h.no_events;
+  is_run = h.is_run;
+}
+
+mover : (script : ScriptData) (q client : ℕ) (nodes : List NodeData) (boxes : MailData) (had : OutData) (run : List Logged)
+    → IsOpened script q (Act client) nodes boxes had run → IsNodeOf script q ((world_after script run).node q) (node_at nodes q)
+mover script q client nodes boxes had run h = h.world.nodes_are q (act_inside script (world_after script run) q client h.is_script h.enabled)
+
+pub acts_now : (script : ScriptData) (q client : ℕ) (nodes : List NodeData) (boxes : MailData) (had : OutData) (run : List Logged)
+    → IsOpened script q (Act client) nodes boxes had run → CanAct (node_at nodes q) client
+acts_now script q client nodes boxes had run h =
+    can_act script run q client (node_at nodes q) h.is_script h.is_run h.enabled h.few (mover script q client nodes boxes had run h)
+
+-- what the node did is the move
+pub acted : (script : ScriptData) (q client : ℕ) (nodes : List NodeData) (boxes : MailData) (had out : OutData) (run : List Logged) (n : NodeData)
+    → IsOpened script q (Act client) nodes boxes had run
+    → NodeDoes (node_act (node_at nodes q).script (node_at nodes q).me client (state_of (node_at nodes q))) (node_at nodes q) had n out
+    → Did script q (node_move script (world_after script run) q (Act client)) had n out
+acted script q client nodes boxes had out run n h does =
+    did script q ((world_after script run).node q) (λ s x state. node_act s x client state) (node_at nodes q) had n out
+    (mover script q client nodes boxes had run h) does
+
+pub act_stamped : (script : ScriptData) (q client : ℕ) (nodes : List NodeData) (boxes : MailData) (had : OutData) (run : List Logged) (stamp : Stamp)
+    → IsOpened script q (Act client) nodes boxes had run → stamp ≡ act_stamp (node_at nodes q).me (state_of (node_at nodes q))
+    → stamp ≡ move_stamp (world_after script run) q (Act client)
+act_stamped script q client nodes boxes had run stamp h at =
+    let is = mover script q client nodes boxes had run h in
+    at ∙ (ap (λ (x : ℕ). act_stamp x (state_of (node_at nodes q))) is.me ∙ ap (act_stamp q) is.state_is)
+
+-- The takes of the code are those of the world.
+
+pub takes_are : (script : ScriptData) (nodes : List NodeData) (inboxes : MailData) (out : OutData) (run : List Logged)
+    → Holds script nodes inboxes out run → takes_in inboxes ≡ takes script (world_after script run)
+takes_are script nodes inboxes out run h =
+    ap (λ (n : ℕ). flat_map (λ q. map (take_turn q) (filter (λ p. is_some_letter (mail_in inboxes p q)) (range_with_len 0 n))) (range_with_len 0 n)) h.world.receivers
+    ∙ flat_map_same (λ q. map (take_turn q) (filter (λ p. is_some_letter (mail_in inboxes p q)) (range_with_len 0 script.nodes))) (λ q. map (take_turn q) (senders script w q)) 0 script.nodes
+    (λ q below. ap (map (take_turn q)) (senders_are q (omega (arith, below))))
+  where
+    w : World
+    w = world_after script run
+
+    passes : (p q : ℕ) → p < script.nodes → q < script.nodes → is_some_letter (mail_in inboxes p q) ≡ has_mail script w p q
+    passes p q hp hq =
+        ap is_some_letter (h.world.mail_is p q hp hq)
+        ∙ elim (cases_eq p q) [
+          | inl same ↦
+              let none : w.mail p q ≡ [] = subst (λ (x : ℕ). w.mail p x ≡ []) same (own_mail script run p h.is_script.some_node h.is_run hp) in
+              rw (lt-ltb p script.nodes hp, lt-ltb q script.nodes hq, eq-eqb p q same) (ap is_some_letter none)
+          | inr apart ↦ rw (lt-ltb p script.nodes hp, lt-ltb q script.nodes hq, ne_eqb p q apart) refl
+        ]
+
+    senders_are : (q : ℕ) → q < script.nodes → filter (λ p. is_some_letter (mail_in inboxes p q)) (range_with_len 0 script.nodes) ≡ senders script w q
+    senders_are q below =
+        filter_same (λ p. is_some_letter (mail_in inboxes p q)) (λ p. has_mail script w p q) 0 script.nodes (λ p inside. passes p q (omega (arith, inside)) below)

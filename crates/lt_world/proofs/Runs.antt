@@ -1,24 +1,17 @@
 -- A run and one enabled move more.
-use Rattle.std.proofs.Common.{◌≡◌, ℕ, ◌<◌, List, [], ◌∷◌, length, take, refl, sym, ap, subst, ◌∙◌, arith}
-use Rattle.std.specs.Prelude.{IsTrue, All, Contains, ◌==◌, if◌then◌else◌}
-use Rattle.std.specs.List.{filter_map}
-use Rattle.std.proofs.lemmas.Bool.{eq-eqb}
-use Rattle.std.proofs.lemmas.List.{take_all}
+use Rattle.std.proofs.Common.{◌≡◌, ℕ, ◌<◌, List, [], ◌∷◌, length, take, refl, sym, ap, subst, ◌∙◌, arith, IsTrue, All, Contains, ◌==◌, if◌then◌else◌, filter_map, eq-eqb, take_all}
 use Rattle.std.proofs.lemmas.List.Elements.{Contains-append_right}
 use Rattle.lt_modes.specs.declared.moves.Step.{Step}
 use Rattle.lt_modes.specs.declared.moves.Step.TheVariants.{Act, Take}
 use Rattle.lt_modes.specs.Script.{ScriptData}
-use Rattle.lt_modes.specs.State.{Letter}
-use Rattle.lt_modes.specs.Made.{Post}
+use Rattle.lt_modes.specs.State.{Letter, Post}
 use Rattle.lt_lists.proofs.Members.{all_of, filter_map-at}
-use Rattle.lt_spec.specs.Log.{Logged}
+use Rattle.lt_spec.specs.World.{Logged, World, world_after, is_enabled, logged, after, opened, node_move, front_stamp, move_stamp, letter_for, IsRun}
 use Rattle.lt_spec.specs.NodeMove.{NodeState}
-use Rattle.lt_spec.specs.World.{World, world_after, is_enabled, logged, after, opened, node_move, front_stamp, move_stamp, letter_for, IsRun}
 use Rattle.lt_spec.specs.World as runs
-use Rattle.lt_world.specs.Network.{run_with}
-use Rattle.lt_model.specs.Paths.{Paths}
-use Rattle.lt_model.proofs.Runs.{after_run-push, IsRunFrom-push}
-use Rattle.lt_model.proofs.PathsInRuns.{paths_in_runs}
+use Rattle.lt_world.specs.Fields.{run_with}
+use Rattle.lt_model.specs.Invariant.{Paths}
+use Rattle.lt_model.proofs.Runs.{after_run-push, IsRunFrom-push, paths_in_runs}
 
 front_node : (q : ℕ) (n : NodeState) (letters : List Letter) → (front_stamp q n letters).node ≡ q
 front_node q n [] = refl

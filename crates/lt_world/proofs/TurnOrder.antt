@@ -1,18 +1,38 @@
--- The order of the clients that can act, by their turns.
-use Rattle.std.proofs.Common.{◌≡◌, ◌≢◌, ℕ, zero, suc, ◌+◌, ◌<◌, ◌≤◌, Bool, true, false, List, [], ◌∷◌, Option, Some, None, length, inl, inr, ◌⊎◌, refl, sym, ap, subst, ◌∙◌, arith}
-use Rattle.std.specs.Prelude.{◌&&◌, ◌||◌, ◌==◌, nat_lt, if◌then◌else◌, is_some, count_by, slice_index_or, IfSome}
-use Rattle.std.proofs.lemmas.Bool.{cases_eq, cases_lt, and_parts, and_from, or_left, or_right, lt-ltb, eq-eqb, false≢true, false_from_ne_true}
-use Rattle.std.proofs.lemmas.List.{get_or_past}
+-- The client so many places further on.
+use Rattle.std.proofs.Common.{◌≡◌, ℕ, zero, suc, ◌<◌, ◌-◌, Option, Some, None, refl, subst, arith, ◌≢◌, ◌+◌, ◌≤◌, Bool, true, false, List, [], ◌∷◌, length, inl, inr, ◌⊎◌, sym, ap, ◌∙◌, length-set, get_or-set_same, get_or-set_other, option_and_then, ◌&&◌, ◌||◌, ◌==◌, nat_lt, if◌then◌else◌, is_some, count_by, slice_index_or, IfSome, lt-ltb, eq-eqb}
+use Rattle.std.proofs.lemmas.Bool.{cases_eq, cases_lt, and_parts, and_from, or_left, or_right, false≢true, false_from_ne_true}
+use Rattle.std.proofs.lemmas.List.{get_or_past, get_or_default}
 use Rattle.std.proofs.lemmas.List.Sums.{sum_by-cons}
 use Rattle.lt_modes.specs.Script.{ScriptData}
+use Rattle.lt_modes.specs.declared.event.Event.{Event}
+use Rattle.lt_modes.specs.declared.moves.Step.{Step}
+use Rattle.lt_modes.specs.declared.moves.Step.TheVariants.{Act, Take}
 use Rattle.lt_lists.specs.Below.{count_below}
 use Rattle.lt_lists.proofs.Members.{some_equal}
 use Rattle.lt_lists.proofs.Searches.{IsStrictOrder, Found, found, any_below_at, none_counted, same_count}
-use Rattle.lt_spec.specs.World.{World, made_by, is_runnable}
-use Rattle.lt_spec.specs.FixedOrder.{acts_before, next_act}
+use Rattle.lt_spec.specs.World.{World, made_by, is_runnable, line_client}
+use Rattle.lt_spec.specs.FixedOrder.{next_act, act_after, acts_before}
 use Rattle.lt_law_enabled.proofs.Acts.{after_this, acts_order, by_two}
 use Rattle.lt_turns.specs.Turns.{IsFirst, IsNext, IsAfter}
-use Rattle.lt_world.specs.Fields.{AreTurns}
+use Rattle.lt_world.specs.Fields.{AreTurns, turn_of, NoneNames, OthersStand, with_turn}
+
+act_after_more : (script : ScriptData) (w : World) (earlier : Option ℕ) (k : ℕ) → 0 < k
+    → act_after script w earlier k ≡ option_and_then (λ next. act_after script w (Some next) (k - 1)) (next_act script w earlier)
+act_after_more script w earlier zero h = absurd (omega arith)
+act_after_more script w earlier (suc k) h =
+    subst (λ (j : ℕ). option_and_then (λ next. act_after script w (Some next) k) (next_act script w earlier) ≡ option_and_then (λ next. act_after script w (Some next) j) (next_act script w earlier))
+    (omega arith) refl
+
+-- one place further on
+pub act_after_next : (script : ScriptData) (w : World) (earlier : Option ℕ) (next k : ℕ) → 0 < k → next_act script w earlier ≡ Some next
+    → act_after script w earlier k ≡ act_after script w (Some next) (k - 1)
+act_after_next script w earlier next k h e = rw (act_after_more script w earlier k h, e) refl
+
+pub act_after_none : (script : ScriptData) (w : World) (earlier : Option ℕ) (k : ℕ) → 0 < k → next_act script w earlier ≡ None
+    → act_after script w earlier k ≡ None
+act_after_none script w earlier k h e = rw (act_after_more script w earlier k h, e) refl
+
+-- The order of the clients that can act, by their turns.
 
 -- a search finds what passes and leads
 found_alone : (n : ℕ) (test : ℕ → Bool) (before : ℕ → ℕ → Bool) (a b : Option ℕ) → IsStrictOrder before → Found n test before a → Found n test before b → a ≡ b
@@ -149,3 +169,85 @@ counted script w turns h =
     counted_places turns
     ∙ (ap (λ (n : ℕ). count_below n (λ k. is_some (slice_index_or turns k None))) h.count
     ∙ same_count (length script.clients) (λ k. is_some (slice_index_or turns k None)) (is_runnable script w) (λ k below. runs_by_turn script w turns k h below))
+
+-- The turns as clients are noted one after the other.
+
+pub with_turn_count : (script : ScriptData) (w : World) (named : Option ℕ) (turns : List (Option ℕ)) → length (with_turn script w named turns) ≡ length turns
+with_turn_count script w None turns = refl
+with_turn_count script w (Some client) turns = length-set turns client (turn_of script w client)
+
+-- one that is noted has its turn
+turn_here : (script : ScriptData) (w : World) (client : ℕ) (turns : List (Option ℕ)) → length turns ≡ length script.clients → client < length script.clients
+    → slice_index_or (with_turn script w (Some client) turns) client None ≡ turn_of script w client
+turn_here script w client turns count below = get_or-set_same turns client (turn_of script w client) None (omega (arith, count, below))
+
+-- and each other one what it had
+turn_there : (script : ScriptData) (w : World) (named : Option ℕ) (c : ℕ) (turns : List (Option ℕ)) → named ≢ Some c
+    → slice_index_or (with_turn script w named turns) c None ≡ slice_index_or turns c None
+turn_there script w None c turns other = refl
+turn_there script w (Some client) c turns other = get_or-set_other turns client c (turn_of script w client) None (λ e. other (ap Some (sym e)))
+
+-- one line more
+pub line_noted : (script : ScriptData) (w : World) (step : Step) (lines : List Event) (k : ℕ) (line : Event) (turns : List (Option ℕ))
+    → length turns ≡ length script.clients → k < length lines → line ≡ slice_index_or lines k line
+    → OthersStand script turns w step lines k → OthersStand script (with_turn script w (line_client line) turns) w step lines (k + 1)
+line_noted script w step lines k line turns count inside at h = λ c below other none.
+    by_line c below other none (line_client line) refl
+  where
+    none_from : (c : ℕ) → line_client line ≢ Some c → NoneNames c lines (k + 1) → NoneNames c lines k
+    none_from c differs none = λ j d after within. elim (cases_eq j k) [
+      | inl same ↦ subst (λ (i : ℕ). line_client (slice_index_or lines i d) ≢ Some c) (sym same)
+          (subst (λ (e : Event). line_client e ≢ Some c) (at ∙ get_or_default lines k line d inside) differs)
+      | inr apart ↦ none j d (omega (arith, after, apart)) within
+    ]
+
+    by_line : (c : ℕ) → c < length script.clients → step ≢ Act c → NoneNames c lines (k + 1) → (named : Option ℕ) → line_client line ≡ named
+        → slice_index_or (with_turn script w named turns) c None ≡ turn_of script w c
+    by_line c below other none None e = h c below other (none_from c (λ f. none_some (sym e ∙ f)) none)
+      where
+        none_some : None ≡ Some c → ⊥
+        none_some f = cc
+    by_line c below other none (Some client) e = elim (cases_eq client c) [
+      | inl same ↦ subst (λ (i : ℕ). slice_index_or (with_turn script w (Some i) turns) c None ≡ turn_of script w c) (sym same) (turn_here script w c turns count below)
+      | inr apart ↦ turn_there script w (Some client) c turns (λ f. apart (some_same f)) ∙ h c below other (none_from c (λ f. apart (some_same (sym e ∙ f))) none)
+    ]
+      where
+        some_same : Some client ≡ Some c → client ≡ c
+        some_same f = some_equal client c f
+
+-- once all lines are noted
+pub lines_noted : (script : ScriptData) (w : World) (step : Step) (lines : List Event) (k : ℕ) (turns : List (Option ℕ)) → length lines ≤ k
+    → OthersStand script turns w step lines k → (c : ℕ) → c < length script.clients → step ≢ Act c → slice_index_or turns c None ≡ turn_of script w c
+lines_noted script w step lines k turns past h = λ c below other. h c below other (λ j d after within. absurd (omega (arith, past, after, within)))
+
+-- and the client whose command it was
+pub actor_noted : (script : ScriptData) (w : World) (client : ℕ) (turns : List (Option ℕ)) → length turns ≡ length script.clients
+    → ((c : ℕ) → c < length script.clients → Act client ≢ Act c → slice_index_or turns c None ≡ turn_of script w c)
+    → AreTurns script (with_turn script w (Some client) turns) w
+actor_noted script w client turns count h = record {
+  count = length-set turns client (turn_of script w client) ∙ count;
+  turns_are = λ c below. elim (cases_eq client c) [
+    | inl same ↦ subst (λ (i : ℕ). slice_index_or (with_turn script w (Some i) turns) c None ≡ turn_of script w c) (sym same) (turn_here script w c turns count below)
+    | inr apart ↦ turn_there script w (Some client) c turns (λ f. apart (some_equal client c f)) ∙ h c below (λ e. apart (same_client client c e))
+  ];
+}
+  where
+    same_client : (a b : ℕ) → Act a ≡ Act b → a ≡ b
+    same_client a b e = cc
+
+-- a take is no client's command
+pub none_acted : (script : ScriptData) (w : World) (sender : ℕ) (turns : List (Option ℕ)) → length turns ≡ length script.clients
+    → ((c : ℕ) → c < length script.clients → Take sender ≢ Act c → slice_index_or turns c None ≡ turn_of script w c) → AreTurns script turns w
+none_acted script w sender turns count h = record { count = count; turns_are = λ c below. h c below (no_act c) }
+  where
+    no_act : (c : ℕ) → Take sender ≢ Act c
+    no_act c e = cc
+
+-- the first of the clients, as all are noted at the start
+pub client_noted : (script : ScriptData) (w : World) (client : ℕ) (turns : List (Option ℕ)) → length turns ≡ length script.clients → client < length script.clients
+    → ((c : ℕ) → c < client → slice_index_or turns c None ≡ turn_of script w c)
+    → (c : ℕ) → c < client + 1 → slice_index_or (with_turn script w (Some client) turns) c None ≡ turn_of script w c
+client_noted script w client turns count inside h c below = elim (cases_eq client c) [
+  | inl same ↦ subst (λ (i : ℕ). slice_index_or (with_turn script w (Some i) turns) c None ≡ turn_of script w c) (sym same) (turn_here script w c turns count (omega (arith, inside, same)))
+  | inr apart ↦ turn_there script w (Some client) c turns (λ f. apart (some_equal client c f)) ∙ h c (omega (arith, below, apart))
+]

@@ -1,18 +1,28 @@
 -- What the fields of a world hold, for the moves that were made.
-use Rattle.std.specs.Prelude.{◌≡◌, ◌<◌, ◌≤◌, ◌+◌, ◌^◌, ℕ, List, [], Option, Some, None, length, slice_index_or, slice_set, if◌then◌else◌, IsTrue}
+use Rattle.std.specs.Prelude.{◌≡◌, ◌<◌, ◌≤◌, ◌+◌, ◌^◌, ℕ, List, [], Option, Some, None, length, slice_index_or, slice_set, if◌then◌else◌, IsTrue, Bool, ◌&&◌, nat_lt, ◌∷◌, ◌++◌, ◌≢◌, ◌-◌, unwrap_or, not}
 use Rattle.lt_modes.specs.declared.moves.Step.{Step}
 use Rattle.lt_modes.specs.Script.{ScriptData}
+use Rattle.lt_modes.specs.declared.mode.Mode.{Mode}
+use Rattle.lt_modes.specs.Modes.{conflicts, count_of}
+use Rattle.lt_modes.specs.declared.moves.Step.TheVariants as steps
+use Rattle.lt_modes.specs.declared.event.Event.{Event}
+use Rattle.lt_modes.specs.declared.moves.Step.TheVariants.{Act}
+use Rattle.lt_modes.specs.State.{Letter}
+use Rattle.lt_modes.specs.Fits.{fits, numbers_of}
 use Rattle.lt_lists.specs.Below.{sum_below}
 use Rattle.lt_spec.specs.Script.{IsScript}
-use Rattle.lt_spec.specs.Log.{Logged}
-use Rattle.lt_spec.specs.NodeMove.{NodeState}
-use Rattle.lt_spec.specs.World.{World, world_after, made_by, is_runnable, is_enabled, opened, IsRun}
-use Rattle.lt_desk.specs.OutData.{OutData}
-use Rattle.lt_node.specs.NodeData.{NodeData, SameNode, state_of}
-use Rattle.lt_merge.specs.Run.{RunData}
+use Rattle.lt_spec.specs.World.{Logged, World, world_after, made_by, is_runnable, is_enabled, opened, IsRun, moves_of, logged, line_client}
+use Rattle.lt_spec.specs.NodeMove.{NodeState, home, node_within, leaves_asks, node_waits, has_command}
 use Rattle.lt_spec.specs.declared.moves.TheConstants.{MAX_MOVES}
-use Rattle.lt_spec.specs.Cut.{moves_of}
+use Rattle.lt_spec.specs.Facts.{state_at}
+use Rattle.lt_merge.specs.Merging.{RunData, events_at}
+use Rattle.lt_desk.specs.DeskData.{OutData}
+use Rattle.lt_desk.specs.LetterSeen.{letter_seen}
+use Rattle.lt_node.specs.NodeData.{NodeData, SameNode, state_of, RoomToAct, RoomToTake}
 use Rattle.lt_inbox.specs.Mail.{MailData, mail_in}
+use Rattle.lt_world.specs.declared.network.Network.{Network}
+use Rattle.lt_world.specs.declared.reserved.Reserved.{Reserved}
+use Rattle.lt_world.specs.declared.reserved.Reserved.TheVariants.{Acting, Taking}
 
 -- what contracts see of a world: its script, how many moves a node may make, and the run so far
 pub record WorldData : Type 0 where
@@ -106,3 +116,88 @@ pub record Stands (script : ScriptData) (limit most : ℕ) (nodes : List NodeDat
   pub counted : AreCounted script limit moves run
   pub at_most : AreAtMost script most run
   pub acts : AreTurns script turns (world_after script run)
+
+-- Whether a lock of a client in one mode stands against a mode.
+
+-- the client holds a lock of the set in its own mode, with which the mode conflicts
+abbrev pub bars_by_lock : WorldData → ℕ → Mode → ℕ → Mode → Bool
+bars_by_lock w set mode client own =
+    conflicts mode own && nat_lt 0 (count_of (state_at (world_of w) set (home w.script client)).held client own)
+
+-- The nodes, the letters on their way and the run, between two moves.
+
+-- all stand as they are after the moves of the run
+abbrev pub IsAfterRun : ScriptData → Network → Type 0
+IsAfterRun script n = Holds script n.nodes.items n.inboxes n.out n.run.entries
+
+-- the world after these moves
+abbrev pub world_in : ScriptData → Network → World
+world_in script n = world_after script n.run.entries
+
+-- the run with this move more
+abbrev pub run_with : ScriptData → List Logged → ℕ → Step → List Logged
+run_with script run node step = run ++ logged script (world_after script run) node step ∷ []
+
+-- A move for which room was made.
+
+abbrev pub step_of : Reserved → Step
+step_of (Acting client) = steps.Act client
+step_of (Taking sender letter) = steps.Take sender
+
+-- the node has room for the move; a letter in hand is the front one of its sender, and can go back
+abbrev pub NodeRoom : World → ℕ → List NodeData → MailData → OutData → Reserved → Type 0
+NodeRoom w q nodes inboxes out (Acting client) = RoomToAct (node_at nodes q) out
+NodeRoom w q nodes inboxes out (Taking sender letter) =
+    RoomToTake (node_at nodes q) letter out × (w.mail sender q ≡ letter_seen letter ∷ mail_in inboxes sender q)
+    × (0 < inboxes.free)
+
+-- all stand as they are after the moves of the run, with room for an enabled move of node q
+pub record IsReserved (script : ScriptData) (n : Network) (q : ℕ) (reserved : Reserved) : Type 0 where
+  pub opened : IsOpened script q (step_of reserved) n.nodes.items n.inboxes n.out n.run.entries
+  pub room : NodeRoom (world_in script n) q n.nodes.items n.inboxes n.out reserved
+  pub send : InboxRoom n.inboxes n.run n.out
+
+-- Which clients can act after a move: those that it doesn't name as before it.
+
+-- the lines of the last move
+abbrev pub lines_of_last_move : List Logged → List Event
+lines_of_last_move run = unwrap_or (events_at run (length run - 1)) []
+
+-- none of the lines from place k on names the client
+abbrev pub NoneNames : ℕ → List Event → ℕ → Type 0
+NoneNames client lines k =
+    (j : ℕ) (d : Event) → k ≤ j → j < length lines → line_client (slice_index_or lines j d) ≢ Some client
+
+-- each client has its turn in this world, but for the one whose command the step is, and those that the lines from place k
+-- on name
+abbrev pub OthersStand : ScriptData → List (Option ℕ) → World → Step → List Event → ℕ → Type 0
+OthersStand script turns w step lines k =
+    (c : ℕ) → c < length script.clients → step ≢ Act c → NoneNames c lines k
+    → slice_index_or turns c None ≡ turn_of script w c
+
+-- the turns, with that of the client as it is in this world
+abbrev pub with_turn : ScriptData → World → Option ℕ → List (Option ℕ) → List (Option ℕ)
+with_turn script w None turns = turns
+with_turn script w (Some client) turns = slice_set turns client (turn_of script w client)
+
+-- When a node can make a move.
+
+-- what the node keeps leaves room for a move
+abbrev pub IsWithin : NodeData → Type 0
+IsWithin n = IsTrue (node_within n.script (state_of n))
+
+-- the node can make the client's next command
+pub record CanAct (n : NodeData) (client : ℕ) : Type 0 where
+  pub client_is : client < length n.script.clients
+  pub at_home : home n.script client ≡ n.me
+  pub runnable : IsTrue (not (node_waits n.script (state_of n) client) && has_command n.script (state_of n) client)
+  pub within : IsWithin n
+  pub asks : IsTrue (leaves_asks n.script (state_of n))
+  pub clock : n.clock + 1 < 2 ^ 32
+
+-- the node can take the letter
+pub record CanTake (n : NodeData) (letter : Letter) : Type 0 where
+  pub fits_here : IsTrue (fits (numbers_of n.script) n.me n.clock ((state_of n).set letter.set) letter)
+  pub within : IsWithin n
+  pub clock : n.clock + 1 < 2 ^ 32
+  pub stamp : letter.stamp.clock + 1 < 2 ^ 32

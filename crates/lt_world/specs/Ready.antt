@@ -1,12 +1,10 @@
 -- A world with room for one move.
 use Rattle.std.specs.Prelude.{◌≡◌, ◌<◌}
-use Rattle.lt_spec.specs.Cut.{moves_of}
+use Rattle.lt_spec.specs.World.{moves_of}
 use Rattle.lt_world.specs.declared.choice.Choice.{Choice}
 use Rattle.lt_world.specs.declared.reserved.Reserved.{Reserved}
 use Rattle.lt_world.specs.declared.world.ready.Parts.{Parts}
-use Rattle.lt_world.specs.Fields.{WorldData, AreCounted, AreAtMost, AreTurns, Stands}
-use Rattle.lt_world.specs.Network.{world_in}
-use Rattle.lt_world.specs.Reserved.{IsReserved, step_of}
+use Rattle.lt_world.specs.Fields.{WorldData, AreCounted, AreAtMost, AreTurns, Stands, world_in, IsReserved, step_of}
 
 -- the world, and the move for which there is room
 pub record ReadyData : Type 0 where

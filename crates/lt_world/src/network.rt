@@ -1,20 +1,16 @@
 mod reserving;
 
 ghost use Rattle.std.specs.Prelude.{◌≡◌, ◌<◌, ◌+◌, ◌^◌, ℕ, [], ◌∷◌, ◌++◌, All, length, slice_set, IsTrue, IfOk, OnOk, OnErr};
-ghost use Rattle.lt_modes.specs.Made as rules;
+ghost use Rattle.lt_modes.specs.State as rules;
 ghost use Rattle.lt_modes.specs.declared.moves.Step.TheVariants.{Act, Take};
 ghost use Rattle.lt_spec.specs.World.{start, is_enabled};
 ghost use Rattle.lt_desk.specs.LetterSeen.{letter_seen};
 ghost use Rattle.lt_spec.specs.NodeMove.{node_act, node_take, act_stamp, take_stamp};
-ghost use Rattle.lt_node.specs.NodeData.{NodeDoes, state_of};
-ghost use Rattle.lt_node.specs.Room.{RoomToAct, RoomToTake};
+ghost use Rattle.lt_node.specs.NodeData.{NodeDoes, state_of, RoomToAct, RoomToTake};
 ghost use Rattle.lt_inbox.specs.Mail.{AreDelivered};
 ghost use Rattle.lt_spec.specs.Script.{IsScript};
-ghost use Rattle.lt_world.specs.Moving.{CanAct, CanTake};
-ghost use Rattle.lt_world.specs.Network.{IsAfterRun, world_in, run_with};
+ghost use Rattle.lt_world.specs.Fields.{CanAct, CanTake, IsAfterRun, world_in, run_with, IsReserved, step_of, IsNodeOf, InboxRoom, node_at};
 ghost use Rattle.lt_world.specs.declared.reserved.Reserved.TheVariants.{Acting, Taking};
-ghost use Rattle.lt_world.specs.Reserved.{IsReserved, step_of};
-ghost use Rattle.lt_world.specs.Fields.{IsNodeOf, InboxRoom, node_at};
 
 use crate::choice::Choice;
 use crate::recording::note_events;

@@ -1,5 +1,5 @@
 ghost use Rattle.std.specs.Prelude.{◌≡◌, ◌≤◌, ◌<◌, [], length};
-ghost use Rattle.lt_merge.specs.Run.{with_events};
+ghost use Rattle.lt_merge.specs.Merging.{with_events};
 
 use lt_desk::Out;
 use lt_merge::Run;

@@ -6,10 +6,9 @@ mod waiting;
 
 ghost use Rattle.std.specs.Prelude.{◌≡◌, ◌≤◌, ◌<◌, ◌+◌, ◌^◌, ◌↔◌, ℕ, [], ◌∷◌, ◌++◌, length, IsTrue, IsFalse, IsNone, IfOk, IfSome, OnSome, OnOk, OnErr, option_map, slice_index_or, slice_set};
 ghost use Rattle.lt_spec.specs.declared.moves.TheConstants.{MAX_MOVES};
-ghost use Rattle.lt_spec.specs.World.{is_runnable, is_enabled, is_at_rest, anyone_waits, is_waiting, has_mail, logged, IsRun};
+ghost use Rattle.lt_spec.specs.World.{is_runnable, is_enabled, is_at_rest, anyone_waits, is_waiting, has_mail, logged, IsRun, moves_of};
 ghost use Rattle.lt_spec.specs.FixedOrder.{pick, count_turns};
 ghost use Rattle.lt_world.specs.Choice.{choice_of};
-ghost use Rattle.lt_spec.specs.Cut.{moves_of};
 ghost use Rattle.lt_world.specs.Fields.{world_of};
 
 use crate::choice::Choice;

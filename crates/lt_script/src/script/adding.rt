@@ -1,8 +1,7 @@
 // What is added to a script: a last set, client or command. A script that shares its parts with a copy gets parts of its
 // own first.
 ghost use Rattle.std.specs.Prelude.{◌≡◌, ◌<◌, ◌++◌, ◌∷◌, [], true, false, length, OnOk, OnErr};
-ghost use Rattle.lt_spec.specs.Names.{is_name};
-ghost use Rattle.lt_spec.specs.Script.{IsFamilyOfNext, IsRequest, HasModesOf, most_clients, load_of, is_declared};
+ghost use Rattle.lt_spec.specs.Script.{is_name, IsFamilyOfNext, IsRequest, HasModesOf, most_clients, load_of, is_declared};
 ghost use Rattle.lt_spec.specs.declared.limits.TheConstants.{MAX_SETS, MAX_CLIENTS_OF_NODE, MAX_COMMANDS};
 
 use crate::declarations::{ClientDecl, SetDecl};

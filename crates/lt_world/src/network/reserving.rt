@@ -2,13 +2,10 @@ ghost use Rattle.std.specs.Prelude.{◌≡◌, ◌<◌, ◌+◌, ◌^◌, length
 ghost use Rattle.lt_modes.specs.declared.moves.Step.TheVariants.{Act, Take};
 ghost use Rattle.lt_spec.specs.World.{is_enabled};
 ghost use Rattle.lt_desk.specs.LetterSeen.{letter_seen};
-ghost use Rattle.lt_node.specs.Room.{RoomToAct, RoomToTake};
+ghost use Rattle.lt_node.specs.NodeData.{RoomToAct, RoomToTake};
 ghost use Rattle.lt_inbox.specs.Mail.{SameLetters};
-ghost use Rattle.lt_world.specs.Moving.{IsWithin, CanTake};
-ghost use Rattle.lt_world.specs.Network.{IsAfterRun, world_in};
+ghost use Rattle.lt_world.specs.Fields.{IsWithin, CanTake, IsAfterRun, world_in, IsReserved, step_of, OnlyMemory, InboxRoom, node_at};
 ghost use Rattle.lt_world.specs.declared.reserved.Reserved.TheVariants.{Acting, Taking};
-ghost use Rattle.lt_world.specs.Reserved.{IsReserved, step_of};
-ghost use Rattle.lt_world.specs.Fields.{OnlyMemory, InboxRoom, node_at};
 
 use super::Network;
 use crate::choice::Choice;

@@ -2,9 +2,7 @@ ghost use Rattle.std.specs.Prelude.{◌≡◌, ◌<◌, ℕ, None, length, IsTru
 ghost use Rattle.lt_modes.specs.declared.moves.Step.{Step};
 ghost use Rattle.lt_modes.specs.declared.moves.Step.TheVariants.{Act, Take};
 ghost use Rattle.lt_lists.specs.Below.{any_below};
-ghost use Rattle.lt_spec.specs.World.{is_enabled, is_at_rest};
-ghost use Rattle.lt_spec.specs.Cut.{moves_of, can_move, is_full, full_node};
-ghost use Rattle.lt_spec.specs.Endings.{EndsBy};
+ghost use Rattle.lt_spec.specs.World.{is_enabled, is_at_rest, moves_of, can_move, is_full, full_node, EndsBy};
 ghost use Rattle.lt_world.specs.Fields.{world_of};
 
 use super::World;

@@ -61,7 +61,7 @@ impl World {
     }
 
     // The client that acts at place `k`.
-    #[tactic(auto, using(crate::proofs::ActOrder::act_after_next, crate::proofs::ActOrder::act_after_none))]
+    #[tactic(auto, using(crate::proofs::TurnOrder::act_after_next, crate::proofs::TurnOrder::act_after_none))]
     fn client_at(&self, k: u32) -> Option<u16>
         ensures client { result ≡ act_after self.now.script (world_of self.now) None k }
         ensures runnable { IfSome result (IsRunnable self.now) }

@@ -1,6 +1,5 @@
 ghost use Rattle.std.specs.Prelude.{◌≡◌, ◌<◌, ◌∷◌, ◌++◌, [], IsTrue, IfOk, IfErr};
-ghost use Rattle.lt_spec.specs.World.{is_enabled, logged};
-ghost use Rattle.lt_spec.specs.Cut.{moves_of};
+ghost use Rattle.lt_spec.specs.World.{is_enabled, logged, moves_of};
 ghost use Rattle.lt_world.specs.Fields.{world_of};
 ghost use Rattle.lt_world.specs.Ready.{AreWorldParts, world_with};
 

@@ -1,9 +1,7 @@
 ghost use Rattle.std.specs.Prelude.{◌≡◌, ◌≢◌, ◌<◌, None, ℕ, length, slice_index_or, Some, IfOk};
 ghost use Rattle.lt_modes.specs.declared.moves.Step.TheVariants.{Act};
-ghost use Rattle.lt_spec.specs.OwnLines.{line_client};
-ghost use Rattle.lt_world.specs.Fields.{AreTurns, turn_of};
-ghost use Rattle.lt_world.specs.Network.{IsAfterRun, world_in};
-ghost use Rattle.lt_world.specs.Turns.{OthersStand, lines_of_last_move, with_turn};
+ghost use Rattle.lt_spec.specs.World.{line_client};
+ghost use Rattle.lt_world.specs.Fields.{AreTurns, turn_of, IsAfterRun, world_in, OthersStand, lines_of_last_move, with_turn};
 
 use crate::network::Network;
 use lt_modes::{Event, Step};

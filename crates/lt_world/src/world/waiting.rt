@@ -1,12 +1,11 @@
 ghost use Rattle.std.specs.Prelude.{◌≡◌, ◌<◌, ◌||◌, length};
 ghost use Rattle.lt_lists.specs.Below.{any_below};
-ghost use Rattle.lt_modes.specs.Held.{count_of};
+ghost use Rattle.lt_modes.specs.Modes.{count_of};
 ghost use Rattle.lt_modes.specs.Waiting.{pending_ask, stands_before, parked_behind};
 ghost use Rattle.lt_spec.specs.Facts.{state_at};
-ghost use Rattle.lt_spec.specs.Families.{home};
-ghost use Rattle.lt_spec.specs.Waiting.{holds_against, waits_behind, is_kept_by, kept_if, waits_for};
-ghost use Rattle.lt_world.specs.Fields.{world_of};
-ghost use Rattle.lt_world.specs.Against.{bars_by_lock};
+ghost use Rattle.lt_spec.specs.NodeMove.{home};
+ghost use Rattle.lt_spec.specs.Holdings.{holds_against, waits_behind, is_kept_by, kept_if, waits_for};
+ghost use Rattle.lt_world.specs.Fields.{world_of, bars_by_lock};
 
 use super::World;
 use lt_modes::{Ask, MODES, Mode};

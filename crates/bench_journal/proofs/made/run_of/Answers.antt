@@ -1,6 +1,5 @@
-use Rattle.std.proofs.Common.{◌∙◌, List, length, ap, arith}
-use Rattle.std.proofs.lemmas.List.{length-append}
-use Rattle.lt_spec.specs.Log.{Logged}
+use Rattle.std.proofs.Common.{◌∙◌, List, length, ap, arith, length-append}
+use Rattle.lt_spec.specs.World.{Logged}
 use Rattle.bench_journal.proofs.Lengths.{length-with_event}
 use Rattle.bench_journal.proofs.made.run_of.Goals as goal
 

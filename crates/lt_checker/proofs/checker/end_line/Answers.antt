@@ -1,6 +1,5 @@
-use Rattle.std.proofs.Common.{◌≡◌, ◌++◌, ◌∙◌, ◌==◌, ℕ, List, [], ◌∷◌, true, take, length, min, ap, refl, sym, arith}
+use Rattle.std.proofs.Common.{◌≡◌, ◌++◌, ◌∙◌, ◌==◌, ℕ, List, [], ◌∷◌, true, take, length, min, ap, refl, sym, arith, eqb-true}
 use Rattle.std.proofs.lemmas.List.{take_min}
-use Rattle.std.proofs.lemmas.Bool.{eqb-true}
 use Rattle.lt_text.specs.Text.{without_return}
 use Rattle.lt_law_journals.specs.Checking.{read_on}
 use Rattle.lt_checker.proofs.checker.end_line.Goals as goal

@@ -1,8 +1,7 @@
 use Rattle.std.proofs.Common.{◌++◌, ◌∙◌, List, ℕ, take, ap, subst, sym}
 use Rattle.lt_modes.specs.Script.{ScriptData}
 use Rattle.lt_text.specs.Text.{without_return, is_line_end, HasNone}
-use Rattle.lt_law_journals.specs.Checking.{Reader, read_on}
-use Rattle.lt_law_journals.specs.Feeding.{Feed}
+use Rattle.lt_law_journals.specs.Checking.{Reader, read_on, Feed}
 use Rattle.lt_checker.proofs.Pieces.{fed_part, none_found, none_later, one_found, next_line}
 use Rattle.lt_checker.proofs.checker.feed_all.Goals as goal
 

@@ -1,6 +1,6 @@
 use Rattle.std.proofs.Common.{◌≡◌, ◌≢◌, None, length}
 use Rattle.lt_text.specs.Text.{is_line_end, HasNone}
-use Rattle.lt_law_journals.specs.Feeding.{fed_piece}
+use Rattle.lt_law_journals.specs.Checking.{fed_piece}
 use Rattle.lt_checker.proofs.checker.feed_all.Given as goal
 
 -- what the bytes that are left make of what is kept is what all bytes make

@@ -1,6 +1,5 @@
 use Rattle.std.proofs.Common.{◌++◌, ◌∙◌, List, ℕ, take, ap, ap₂, sym}
-use Rattle.lt_law_journals.specs.Checking.{Reader}
-use Rattle.lt_law_journals.specs.Feeding.{Feed}
+use Rattle.lt_law_journals.specs.Checking.{Reader, Feed}
 use Rattle.lt_checker.proofs.Pieces.{fed_part, none_found_back, skipped_to}
 use Rattle.lt_checker.proofs.checker.skip_lines.Goals as goal
 

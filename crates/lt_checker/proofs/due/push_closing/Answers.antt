@@ -1,7 +1,6 @@
 use Rattle.std.proofs.Common.{◌≡◌, ◌++◌, ◌∙◌, List, ap, subst, true, None, refl, rules}
 use Rattle.lt_modes.specs.Script.{ScriptData}
-use Rattle.lt_spec.specs.Log.{Logged}
-use Rattle.lt_spec.specs.World.{world_after, is_at_rest}
+use Rattle.lt_spec.specs.World.{Logged, world_after, is_at_rest}
 use Rattle.lt_journal.specs.declared.line.Line.{Line}
 use Rattle.lt_journal.specs.RunLines.{closing_lines}
 use Rattle.lt_law_journals.specs.Checking.{closing_at_rest}

@@ -1,4 +1,4 @@
-use Rattle.lt_checker.proofs.DueLines.{due_place}
+use Rattle.lt_checker.proofs.Moving.{due_place}
 use Rattle.lt_checker.proofs.following.follow.Goals as goal
 
 pub returns-clause-place : goal.returns-clause-place

@@ -1,14 +1,10 @@
-use Rattle.std.proofs.Common.{◌≡◌, ◌-◌, ◌++◌, ℕ, nat_lt, true, List, Some, length, get_or, sym, ap, subst, ◌∙◌, arith, rules}
-use Rattle.std.proofs.lemmas.Bool.{ltb-true}
-use Rattle.lt_spec.specs.Log.{Logged}
-use Rattle.lt_spec.specs.World.{is_enabled}
-use Rattle.lt_spec.specs.declared.moves.TheConstants.{MAX_MOVES}
-use Rattle.lt_merge.specs.Run.{made_at, events_at}
+use Rattle.std.proofs.Common.{◌≡◌, ◌-◌, ◌++◌, true, List, Some, length, sym, ap, ◌∙◌, rules}
+use Rattle.lt_spec.specs.World.{Logged, is_enabled}
+use Rattle.lt_merge.specs.Merging.{made_at, events_at}
 use Rattle.lt_journal.specs.declared.line.Line.{Line}
 use Rattle.lt_journal.specs.RunLines.{event_lines}
 use Rattle.lt_world.specs.Fields.{world_of}
 use Rattle.lt_law_journals.specs.Checking.{Place, by_move, closing_at_rest}
-use Rattle.lt_checker.specs.Place.{IsPlace}
 use Rattle.lt_checker.proofs.Moving.{room_for_move, stepped, last_place, next_clock, wrong_clock, right_move, next_place, next_is_place}
 use Rattle.lt_checker.proofs.following.next_move.Goals as goal
 

@@ -1,5 +1,5 @@
 use Rattle.std.proofs.Common.{rules, ◌≡◌, ◌+◌, ◌-◌, ◌<◌, get_or, length, take, drop, subst}
-use Rattle.lt_law_journals.specs.Input.{HasJournal, IsSettled}
+use Rattle.lt_law_journals.specs.Checking.{HasJournal, IsSettled}
 use Rattle.lt_checker.proofs.LastLines.{line_whole, in_three}
 use Rattle.lt_checker.proofs.head.last_line.Goals as goal
 

@@ -1,5 +1,5 @@
 use Rattle.std.proofs.Common.{rules, ◌++◌, take, arith, length-take, length-append}
-use Rattle.lt_io.proofs.InPieces.{read_more, fails_later, gives_up}
+use Rattle.lt_io.proofs.Pieces.{read_more, fails_later, gives_up}
 use Rattle.lt_checker.specs.declared.limits.TheConstants.{MAX_JOURNAL}
 use Rattle.lt_checker.proofs.head.read_head.Goals as goal
 

@@ -1,7 +1,7 @@
 -- What was read so far is what the source gave, and the last line in it begins at its place.
 use Rattle.std.proofs.Common.{◌≤◌, ◌-◌, take, vec_len}
-use Rattle.lt_io.specs.Reading.{ReadsOn}
-use Rattle.lt_law_journals.specs.Input.{EndsLine}
+use Rattle.lt_io.specs.Streams.{ReadsOn}
+use Rattle.lt_law_journals.specs.Checking.{EndsLine}
 use Rattle.lt_checker.specs.declared.limits.TheConstants.{MAX_JOURNAL}
 use Rattle.lt_checker.proofs.head.read_head.Given as goal
 

@@ -2,7 +2,7 @@ use Rattle.std.proofs.Common.{rules, ◌≡◌, Err, drop, subst}
 use Rattle.lt_text.specs.Text.{lines}
 use Rattle.lt_journal.specs.Split.{input_parts}
 use Rattle.lt_law_journals.specs.Checking.{checked}
-use Rattle.lt_checker.specs.Endings.{EndsIn, IsWorldAnswer}
+use Rattle.lt_checker.specs.Checker.{EndsIn, IsWorldAnswer}
 use Rattle.lt_checker.proofs.Inputs.{bad_input}
 use Rattle.lt_checker.proofs.input.answered.Goals as goal
 

@@ -2,7 +2,7 @@ use Rattle.std.proofs.Common.{◌≡◌, ◌∙◌, ◌++◌, subst}
 use Rattle.lt_modes.specs.Script.{ScriptData}
 use Rattle.lt_text.specs.Text.{lines}
 use Rattle.lt_law_journals.specs.Checking.{checked}
-use Rattle.lt_checker.specs.Endings.{IsWorldAnswer}
+use Rattle.lt_checker.specs.Checker.{IsWorldAnswer}
 use Rattle.lt_checker.proofs.input.checked_journal.Goals as goal
 
 pub returns-clause-told : goal.returns-clause-told

@@ -4,10 +4,9 @@ use Rattle.lt_script.specs.Reading.{read_of}
 use Rattle.lt_journal.specs.declared.splitting.Parts.{Parts}
 use Rattle.lt_journal.specs.Split.{input_parts}
 use Rattle.lt_law_journals.specs.Checking.{checked}
-use Rattle.lt_checker.specs.Endings.{IsWorldAnswer}
+use Rattle.lt_checker.specs.Checker.{IsWorldAnswer}
 use Rattle.lt_checker.specs.declared.limits.TheConstants.{MAX_JOURNAL}
-use Rattle.lt_checker.proofs.BadLines.{journal_few, line_within, lines_few}
-use Rattle.lt_checker.proofs.TwoParts.{same_parts}
+use Rattle.lt_checker.proofs.Moving.{journal_few, line_within, lines_few, same_parts}
 use Rattle.lt_checker.proofs.input.judged.Goals as goal
 
 pub returns-clause-answer : goal.returns-clause-answer

@@ -1,8 +1,8 @@
 use Rattle.std.proofs.Common.{rules, List, ℕ, Result, ap, subst, ◌∙◌}
-use Rattle.lt_spec.specs.Log.{Logged}
+use Rattle.lt_spec.specs.World.{Logged}
 use Rattle.lt_spec.specs.Script.{IsScript}
-use Rattle.lt_law_journals.specs.Said.{checked_said}
-use Rattle.lt_law_journals.proofs.Heard.{said}
+use Rattle.lt_law_journals.specs.Checking.{checked_said}
+use Rattle.lt_law_journals.proofs.Feeds.{said}
 use Rattle.lt_checker.specs.Checker.{IsAnswer}
 use Rattle.lt_checker.proofs.replaying.replay.Goals as goal
 

@@ -1,6 +1,6 @@
 -- Some bytes were read and fed, and so many may still come.
 use Rattle.std.proofs.Common.{◌≡◌, ℕ, ◌+◌, List, length}
-use Rattle.lt_io.specs.Reading.{ReadsOn}
+use Rattle.lt_io.specs.Streams.{ReadsOn}
 use Rattle.lt_checker.specs.Heads.{IsFed}
 use Rattle.lt_checker.proofs.rest.feed_all.Given as goal
 

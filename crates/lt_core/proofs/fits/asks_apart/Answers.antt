@@ -1,5 +1,5 @@
 use Rattle.std.proofs.Common.{rules, ◌≡◌, ◌∙◌, ◌<◌, length, false, true}
-use Rattle.lt_modes.specs.Queue.{no_ask}
+use Rattle.lt_modes.specs.State.{no_ask}
 use Rattle.lt_desk.specs.declared.parked.Parked.TheVariants.{Ask}
 use Rattle.lt_core.proofs.FitsLemmas.{apart_refused, apart_passed}
 use Rattle.lt_core.proofs.fits.asks_apart.Goals as goal

@@ -1,5 +1,4 @@
-use Rattle.std.proofs.Common.{◌≡◌, drop, map}
-use Rattle.std.specs.Prelude.{filter_map}
+use Rattle.std.proofs.Common.{◌≡◌, drop, map, filter_map}
 use Rattle.lt_modes.specs.Fits.{are_apart, ask_if}
 use Rattle.lt_desk.specs.LetterSeen.{parked_seen}
 use Rattle.lt_core.proofs.fits.asks_apart.Given as goal

@@ -1,4 +1,4 @@
-use Rattle.lt_core.proofs.PremiseLemmas.{moves_have_room}
+use Rattle.lt_core.proofs.NoticeLemmas.{moves_have_room}
 use Rattle.lt_core.proofs.laws.law_room_to_move.Goals as goal
 
 pub returns : goal.returns

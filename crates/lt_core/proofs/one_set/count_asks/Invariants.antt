@@ -1,5 +1,4 @@
-use Rattle.std.proofs.Common.{◌≡◌, ◌+◌, length, map, drop}
-use Rattle.std.specs.Prelude.{filter_map}
+use Rattle.std.proofs.Common.{◌≡◌, ◌+◌, length, map, drop, filter_map}
 use Rattle.lt_modes.specs.Fits.{ask_if}
 use Rattle.lt_desk.specs.LetterSeen.{parked_seen}
 use Rattle.lt_core.proofs.one_set.count_asks.Given as goal

@@ -1,7 +1,7 @@
 use Rattle.std.proofs.Common.{◌≡◌, ◌∙◌, ◌+◌, ◌<◌, length, ap, sym, subst, arith}
 use Rattle.lt_modes.specs.Freezing.{is_target, frozen_entry}
 use Rattle.lt_table.specs.TableData.{TableData, entry_at, put_by}
-use Rattle.lt_desk.specs.Freezes.{HasBits}
+use Rattle.lt_desk.specs.DeskData.{HasBits}
 use Rattle.lt_desk.proofs.FreezeLemmas.{map_first, first_put, first_all, entry_first}
 use Rattle.lt_desk.proofs.MaskLemmas.{bits_set, bits_kept}
 use Rattle.lt_desk.proofs.freezes.tell_each.Goals as goal

@@ -1,8 +1,7 @@
 use Rattle.std.proofs.Common.{◌∙◌, ap, refl, arith}
 use Rattle.lt_modes.specs.Script.{ScriptData}
 use Rattle.lt_gen.specs.Generator.{clients_of}
-use Rattle.lt_gen.proofs.ClientNames.{name_made, name_is_new}
-use Rattle.lt_gen.proofs.Loads.{clients_counted, one_client_more, load_fits}
+use Rattle.lt_gen.proofs.Generated.{name_made, name_is_new, clients_counted, one_client_more, load_fits}
 use Rattle.lt_gen.proofs.making.add_clients.Goals as goal
 
 pub loop-client-init : goal.loop-client-init

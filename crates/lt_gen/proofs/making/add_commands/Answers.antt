@@ -3,11 +3,9 @@ use Rattle.std.proofs.lemmas.List.Elements.{All-from_recursion}
 use Rattle.lt_modes.specs.Script.{ScriptData}
 use Rattle.lt_modes.specs.declared.command.Command.{Command}
 use Rattle.lt_spec.specs.Script.{HasModesOf}
-use Rattle.lt_gen.specs.Groups.{group_commands, requests_of}
-use Rattle.lt_gen.specs.Generator.{requests_in}
-use Rattle.lt_gen.specs.Making.{Making}
+use Rattle.lt_gen.specs.Generator.{group_commands, requests_of, requests_in, Making}
 use Rattle.lt_gen.proofs.GroupLemmas.{group_modes}
-use Rattle.lt_gen.proofs.Turns.{next_turn, all_made, still_counted, fewer_turns}
+use Rattle.lt_gen.proofs.Generated.{next_turn, all_made, still_counted, fewer_turns}
 use Rattle.lt_gen.proofs.making.add_commands.Goals as goal
 
 pub add_turn-requires-clause-modes : goal.add_turn-requires-clause-modes

@@ -1,7 +1,6 @@
 -- The turns so far are made, and what is left of the whole is what they leave.
 use Rattle.std.proofs.Common.{◌≡◌, ◌≤◌, ◌+◌, length}
-use Rattle.lt_gen.specs.Generator.{requests_in}
-use Rattle.lt_gen.specs.Making.{Making}
+use Rattle.lt_gen.specs.Generator.{requests_in, Making}
 use Rattle.lt_gen.proofs.making.add_commands.Given as goal
 
 abbrev pub invariant-loop-left : goal.invariant-loop-left

@@ -1,8 +1,7 @@
 use Rattle.std.proofs.Common.{◌≡◌, rules, subst, sym}
 use Rattle.lt_modes.specs.Script.{ScriptData}
 use Rattle.lt_gen.specs.Generator.{script_of, HasSizes}
-use Rattle.lt_gen.proofs.Generated.{has_sizes}
-use Rattle.lt_gen.proofs.Loads.{clients_counted}
+use Rattle.lt_gen.proofs.Generated.{has_sizes, clients_counted}
 use Rattle.lt_gen.proofs.making.script.Goals as goal
 
 pub add_commands-requires-clause-clients : goal.add_commands-requires-clause-clients

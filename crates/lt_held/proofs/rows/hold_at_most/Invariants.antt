@@ -1,6 +1,5 @@
-use Rattle.std.proofs.Common.{◌≡◌, drop}
-use Rattle.std.specs.Prelude.{nat_le}
-use Rattle.lt_modes.specs.Held.{locks_in}
+use Rattle.std.proofs.Common.{◌≡◌, drop, nat_le}
+use Rattle.lt_modes.specs.Modes.{locks_in}
 use Rattle.lt_held.proofs.rows.hold_at_most.Given as goal
 
 abbrev pub invariant-loop-row : goal.invariant-loop-row

@@ -1,5 +1,5 @@
 use Rattle.std.proofs.Common.{◌≡◌, ◌+◌, drop}
-use Rattle.lt_modes.specs.Held.{locks_of}
+use Rattle.lt_modes.specs.Modes.{locks_of}
 use Rattle.lt_held.proofs.rows.locks.Given as goal
 
 abbrev pub invariant-loop-row : goal.invariant-loop-row

@@ -1,5 +1,4 @@
-use Rattle.std.proofs.Common.{◌≡◌, ◌-◌, length, filter}
-use Rattle.std.specs.Prelude.{slice_get}
+use Rattle.std.proofs.Common.{◌≡◌, ◌-◌, length, filter, slice_get}
 use Rattle.std.specs.List.{range_with_len}
 use Rattle.lt_inbox.specs.Mail.{has_from, senders_in}
 use Rattle.lt_inbox.proofs.inbox.sender_at.Given as goal

@@ -1,5 +1,5 @@
 use Rattle.std.proofs.Common.{◌∙◌}
-use Rattle.lt_inbox.proofs.First.{any_between}
+use Rattle.lt_inbox.proofs.Marks.{any_between}
 use Rattle.lt_inbox.proofs.sent.is_any_between.Goals as goal
 
 pub returns : goal.returns

@@ -1,5 +1,4 @@
-use Rattle.std.proofs.Common.{◌≡◌, ◌-◌, length}
-use Rattle.std.specs.Prelude.{slice_get}
+use Rattle.std.proofs.Common.{◌≡◌, ◌-◌, length, slice_get}
 use Rattle.lt_inbox.specs.Mail.{takes_from, takes_by}
 use Rattle.lt_inbox.proofs.takes.at.Given as goal
 

@@ -1,5 +1,5 @@
 use Rattle.std.proofs.Common.{rules, ◌++◌, take, arith, length-take, length-append}
-use Rattle.lt_io.proofs.InPieces.{read_more, fails_later}
+use Rattle.lt_io.proofs.Pieces.{read_more, fails_later}
 use Rattle.lt_io.proofs.piece.skip_all.Goals as goal
 
 pub returns-in_err-count-clause-err : goal.returns-in_err-count-clause-err

@@ -1,6 +1,6 @@
 -- Some bytes were read, and so many may still come.
 use Rattle.std.proofs.Common.{◌≡◌, ℕ, ◌+◌, List, length}
-use Rattle.lt_io.specs.Reading.{ReadsOn}
+use Rattle.lt_io.specs.Streams.{ReadsOn}
 use Rattle.lt_io.proofs.piece.skip_all.Given as goal
 
 abbrev pub invariant-loop-count : goal.invariant-loop-count

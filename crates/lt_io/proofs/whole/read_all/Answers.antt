@@ -1,5 +1,5 @@
 use Rattle.std.proofs.Common.{rules, ◌<◌, ◌++◌, length, take, arith, length-take, length-append}
-use Rattle.lt_io.proofs.InPieces.{read_more, fails_later, gives_up, some_given}
+use Rattle.lt_io.proofs.Pieces.{read_more, fails_later, gives_up, some_given}
 use Rattle.lt_io.proofs.whole.read_all.Goals as goal
 
 pub returns-in_err-count-clause-err : goal.returns-in_err-count-clause-err

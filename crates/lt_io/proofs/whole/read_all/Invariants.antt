@@ -1,6 +1,6 @@
 -- What was read so far is what the source gave, and none of it was an end.
 use Rattle.std.proofs.Common.{◌≤◌, ◌-◌, vec_len}
-use Rattle.lt_io.specs.Reading.{ReadsOn}
+use Rattle.lt_io.specs.Streams.{ReadsOn}
 use Rattle.lt_io.proofs.whole.read_all.Given as goal
 
 abbrev pub invariant-loop-bytes : goal.invariant-loop-bytes

@@ -1,6 +1,6 @@
 use Rattle.lt_spec.specs.Holdings.{holdings}
 use Rattle.lt_journal.specs.RunLines.{held_in_set}
-use Rattle.lt_journal.proofs.Steps.{list_more, lines_below-next}
+use Rattle.lt_journal.proofs.Fitting.{list_more, lines_below-next}
 use Rattle.lt_journal.proofs.closing.held_by.Goals as goal
 
 pub loop-set-preserved : goal.loop-set-preserved

@@ -1,10 +1,9 @@
-use Rattle.std.proofs.Common.{◌≡◌, ◌∙◌, ◌++◌, ap, ℕ, arith, get_or, take}
-use Rattle.std.specs.List.{flat_map}
+use Rattle.std.proofs.Common.{◌≡◌, ◌∙◌, ◌++◌, ap, ℕ, arith, get_or, take, flat_map}
 use Rattle.lt_modes.specs.declared.mode.Mode.TheVariants.{IntentionRead}
 use Rattle.lt_modes.specs.declared.mode.TheConstants.{MODES}
 use Rattle.lt_spec.specs.Holdings.{holding, holdings}
 use Rattle.lt_journal.specs.RunLines.{held_line, held_in_mode}
-use Rattle.lt_journal.proofs.Steps.{list_more, flat_map-more}
+use Rattle.lt_journal.proofs.Fitting.{list_more, flat_map-more}
 use Rattle.lt_journal.proofs.closing.held_in_set.Goals as goal
 
 pub loop-mode-preserved : goal.loop-mode-preserved

@@ -1,6 +1,6 @@
 use Rattle.lt_spec.specs.Holdings.{holdings}
 use Rattle.lt_journal.specs.RunLines.{held_by}
-use Rattle.lt_journal.proofs.Steps.{list_more, lines_below-next}
+use Rattle.lt_journal.proofs.Fitting.{list_more, lines_below-next}
 use Rattle.lt_journal.proofs.closing.held_lines.Goals as goal
 
 pub loop-client-preserved : goal.loop-client-preserved

@@ -2,7 +2,7 @@ use Rattle.std.proofs.Common.{◌≡◌, ◌<◌, ◌∙◌, ◌++◌, ap, ℕ, 
 use Rattle.lt_modes.specs.declared.parts.Link.{Link}
 use Rattle.lt_spec.specs.Holdings.{owner_of}
 use Rattle.lt_journal.specs.RunLines.{lines_below, owner_line}
-use Rattle.lt_journal.proofs.Steps.{list_more, lines_below-next}
+use Rattle.lt_journal.proofs.Fitting.{list_more, lines_below-next}
 use Rattle.lt_journal.proofs.closing.owner_lines.Goals as goal
 
 pub loop-set-preserved : goal.loop-set-preserved

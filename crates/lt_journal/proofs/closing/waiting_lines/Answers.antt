@@ -1,7 +1,7 @@
 use Rattle.std.proofs.Common.{◌≡◌, ◌<◌, ◌∙◌, ◌++◌, ap, ℕ, Option, length, arith}
 use Rattle.lt_spec.specs.Holdings.{Holding, wanted}
 use Rattle.lt_journal.specs.RunLines.{lines_below, waiting_line}
-use Rattle.lt_journal.proofs.Steps.{list_more, lines_below-next}
+use Rattle.lt_journal.proofs.Fitting.{list_more, lines_below-next}
 use Rattle.lt_journal.proofs.closing.waiting_lines.Goals as goal
 
 pub loop-client-preserved : goal.loop-client-preserved

@@ -1,10 +1,9 @@
-use Rattle.std.proofs.Common.{◌≡◌, ◌∙◌, ◌++◌, ap, sym, ℕ, List, arith, take}
-use Rattle.std.specs.List.{flat_map}
+use Rattle.std.proofs.Common.{◌≡◌, ◌∙◌, ◌++◌, ap, sym, ℕ, List, arith, take, flat_map}
 use Rattle.lt_modes.specs.declared.mode.Mode.TheVariants.{IntentionRead}
-use Rattle.lt_journal.specs.Words.{member_words}
+use Rattle.lt_journal.specs.RunLines.{member_words}
 use Rattle.lt_modes.specs.declared.mode.TheConstants.{MODES}
-use Rattle.lt_journal.proofs.ModeWords.{words_kept}
-use Rattle.lt_journal.proofs.Steps.{list_more, flat_map-more}
+use Rattle.lt_journal.proofs.Written.{words_kept}
+use Rattle.lt_journal.proofs.Fitting.{list_more, flat_map-more}
 use Rattle.lt_journal.proofs.events.words_of_modes.Goals as goal
 
 pub loop-mode-preserved : goal.loop-mode-preserved

@@ -1,6 +1,5 @@
 use Rattle.std.proofs.Common.{◌≡◌, ◌++◌, take}
-use Rattle.lt_journal.specs.RunLines.{event_lines}
-use Rattle.lt_journal.specs.Text.{lines_text}
+use Rattle.lt_journal.specs.RunLines.{event_lines, lines_text}
 use Rattle.lt_journal.proofs.journal.event_lines.Given as goal
 
 abbrev pub invariant-loop-event : goal.invariant-loop-event

@@ -1,9 +1,7 @@
-use Rattle.std.proofs.Common.{◌∙◌, ◌++◌, ap, List, ℕ}
-use Rattle.std.proofs.lemmas.List.{append_assoc}
+use Rattle.std.proofs.Common.{◌∙◌, ◌++◌, ap, List, ℕ, append_assoc}
 use Rattle.lt_journal.specs.declared.line.Line.TheVariants.{Move as MoveLine}
-use Rattle.lt_journal.specs.RunLines.{event_lines}
-use Rattle.lt_journal.specs.Text.{line_text, lines_text}
-use Rattle.lt_journal.proofs.Steps.{list_more, moves_text-more}
+use Rattle.lt_journal.specs.RunLines.{event_lines, line_text, lines_text}
+use Rattle.lt_journal.proofs.Fitting.{list_more, moves_text-more}
 use Rattle.lt_journal.proofs.journal.move_lines.Goals as goal
 
 pub loop-k-preserved : goal.loop-k-preserved

@@ -1,6 +1,5 @@
 use Rattle.lt_journal.proofs.Found.{as_written}
-use Rattle.lt_journal.proofs.Named.{named, few_nodes}
-use Rattle.lt_journal.proofs.Written.{line_back}
+use Rattle.lt_journal.proofs.Written.{named, few_nodes, line_back}
 use Rattle.lt_journal.proofs.laws.law_read_line.Goals as goal
 
 pub returns-clause-written : goal.returns-clause-written

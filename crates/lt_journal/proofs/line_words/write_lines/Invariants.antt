@@ -1,5 +1,5 @@
 use Rattle.std.proofs.Common.{◌≡◌, ◌++◌, drop}
-use Rattle.lt_journal.specs.Text.{lines_text}
+use Rattle.lt_journal.specs.RunLines.{lines_text}
 use Rattle.lt_journal.proofs.line_words.write_lines.Given as goal
 
 abbrev pub invariant-loop-line : goal.invariant-loop-line

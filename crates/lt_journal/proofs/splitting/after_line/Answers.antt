@@ -1,5 +1,5 @@
 use Rattle.std.proofs.Common.{sym, ◌∙◌}
-use Rattle.lt_journal.proofs.Lines.{after_line-found, after_line-none}
+use Rattle.lt_journal.proofs.Plain.{after_line-found, after_line-none}
 use Rattle.lt_journal.proofs.splitting.after_line.Goals as goal
 
 pub returns-in-Some : goal.returns-in-Some

@@ -3,7 +3,7 @@ use Rattle.std.specs.List.{position_from}
 use Rattle.std.proofs.lemmas.Iterator.Adapters.{position_from-zero}
 use Rattle.lt_text.specs.Text.{lines}
 use Rattle.lt_journal.specs.Split.{is_journal_line, after_first_line, after_lines}
-use Rattle.lt_journal.proofs.Lines.{first_line}
+use Rattle.lt_journal.proofs.Plain.{first_line}
 use Rattle.lt_journal.proofs.splitting.split.Goals as goal
 
 pub loop-line-init : goal.loop-line-init

@@ -3,9 +3,8 @@ use Rattle.lt_law_accounts.proofs.AccountAsks.{ticks_kept, ages_kept, asks_kept,
 use Rattle.lt_law_accounts.proofs.AccountGrants.{grants_kept, unlocks_kept, drops_kept}
 use Rattle.lt_law_accounts.proofs.AccountAnswers.{answers_kept, delivers_kept}
 use Rattle.lt_law_accounts.proofs.AccountTells.{stale_kept, tells_kept}
-use Rattle.lt_law_accounts.proofs.AccountApplies.{applies_kept}
+use Rattle.lt_law_accounts.proofs.AccountApplies.{applies_kept, settles_kept, arrives_kept}
 use Rattle.lt_law_accounts.proofs.AccountDesk.{owes_kept}
-use Rattle.lt_law_accounts.proofs.AccountSettles.{settles_kept, arrives_kept}
 
 pub returns : goal.returns
 returns c = record {

@@ -1,6 +1,6 @@
 use Rattle.lt_law_invariant.proofs.laws.law_kept_in_runs.Goals as goal
-use Rattle.lt_model.proofs.StandingInRuns.{one_place}
-use Rattle.lt_law_invariant.proofs.KeptRuns.{kept_in_runs, locks_never_conflict, letters_fit_in_runs, first_waiter_in_runs, led_in_runs, frozen_in_runs}
+use Rattle.lt_model.proofs.Runs.{one_place}
+use Rattle.lt_law_invariant.proofs.SoundStates.{kept_in_runs, locks_never_conflict, letters_fit_in_runs, first_waiter_in_runs, led_in_runs, frozen_in_runs}
 
 pub returns : goal.returns
 returns c = record {

@@ -1,5 +1,5 @@
 use Rattle.lt_law_invariant.proofs.laws.law_ledgers.Goals as goal
-use Rattle.lt_law_invariant.proofs.EachMove.{moves_keep_ledgers}
+use Rattle.lt_law_invariant.proofs.HeldUpMoves.{moves_keep_ledgers}
 
 pub returns : goal.returns
 returns c = moves_keep_ledgers

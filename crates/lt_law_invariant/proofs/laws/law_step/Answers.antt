@@ -1,5 +1,5 @@
 use Rattle.lt_law_invariant.proofs.laws.law_step.Goals as goal
-use Rattle.lt_law_invariant.proofs.KeptMoves.{kept_stays}
+use Rattle.lt_law_invariant.proofs.SoundStates.{kept_stays}
 use Rattle.lt_law_invariant.proofs.FittingLetters.{letters_fit}
 
 pub returns : goal.returns

@@ -1,4 +1,4 @@
-use Rattle.lt_law_journals.specs.Feeding.{new_feed}
+use Rattle.lt_law_journals.specs.Checking.{new_feed}
 use Rattle.std.proofs.Common.{arith}
 use Rattle.lt_law_journals.proofs.Feeds.{fed_all, kept_few}
 use Rattle.lt_law_journals.proofs.laws.law_bytes.Goals as goal

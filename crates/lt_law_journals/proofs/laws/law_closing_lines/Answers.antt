@@ -1,4 +1,4 @@
-use Rattle.lt_law_journals.proofs.ClosingLines.{held_lines_tell, waiting_lines_tell, owner_lines_tell}
+use Rattle.lt_law_journals.proofs.LinesAmong.{held_lines_tell, waiting_lines_tell, owner_lines_tell}
 use Rattle.lt_law_journals.proofs.laws.law_closing_lines.Goals as goal
 
 pub returns : goal.returns

@@ -1,7 +1,6 @@
 use Rattle.std.proofs.Common.{ap, ap₂, ◌∙◌, drop, List, ℕ}
 use Rattle.lt_journal.specs.Split.{input_parts}
-use Rattle.lt_law_journals.specs.Checking.{checked}
-use Rattle.lt_law_journals.specs.Input.{counted_from}
+use Rattle.lt_law_journals.specs.Checking.{checked, counted_from}
 use Rattle.lt_law_journals.proofs.Feeds.{fed_all}
 use Rattle.lt_law_journals.proofs.Inputs.{journal_part, script_part, lines_counted}
 use Rattle.lt_law_journals.proofs.laws.law_input.Goals as goal

@@ -1,8 +1,7 @@
 use Rattle.lt_journal.specs.RunLines.{run_lines}
 use Rattle.lt_journal.proofs.Fitting.{lines_fit}
-use Rattle.lt_law_journals.proofs.FitsInRuns.{fits_in_runs}
-use Rattle.lt_journal.proofs.Named.{named, few_nodes}
-use Rattle.lt_journal.proofs.Written.{read_back}
+use Rattle.lt_law_journals.proofs.Short.{fits_in_runs}
+use Rattle.lt_journal.proofs.Written.{named, few_nodes, read_back}
 use Rattle.lt_law_journals.proofs.laws.law_read_text.Goals as goal
 
 pub returns : goal.returns

@@ -1,4 +1,4 @@
-use Rattle.lt_law_journals.proofs.Heard.{said, due_fits_after, reads_as}
+use Rattle.lt_law_journals.proofs.Feeds.{said, due_fits_after, reads_as}
 use Rattle.lt_law_journals.proofs.laws.law_said.Goals as goal
 
 pub returns-clause-all : goal.returns-clause-all

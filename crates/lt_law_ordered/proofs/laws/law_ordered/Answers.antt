@@ -1,6 +1,5 @@
 use Rattle.lt_spec.proofs.FirstBad.{first_bad_is_exact}
-use Rattle.lt_law_ordered.proofs.OrderedRest.{ordered_finish, ordered_release, ranked_finish, ranked_release, alone_finish, ranked_hold, ranked_wait}
-use Rattle.lt_law_ordered.proofs.Releasing.{stuck_by_ring}
+use Rattle.lt_law_ordered.proofs.OrderedRest.{ordered_finish, ordered_release, ranked_finish, ranked_release, alone_finish, ranked_hold, ranked_wait, stuck_by_ring}
 use Rattle.lt_law_ordered.proofs.laws.law_ordered.Goals as goal
 
 pub returns : goal.returns

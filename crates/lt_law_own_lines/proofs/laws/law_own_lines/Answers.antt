@@ -1,4 +1,4 @@
-use Rattle.lt_law_own_lines.proofs.OwnMoves.{own_lines_of_moves}
+use Rattle.lt_law_own_lines.proofs.OwnEffects.{own_lines_of_moves}
 use Rattle.lt_law_own_lines.proofs.OwnRuns.{own_lines_in_runs, replies_at_home, replies_of_log, replies_so_far, replies_append}
 use Rattle.lt_law_own_lines.proofs.laws.law_own_lines.Goals as goal
 

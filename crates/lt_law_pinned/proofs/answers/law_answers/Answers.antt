@@ -1,13 +1,9 @@
-use Rattle.lt_law_pinned.proofs.OneLockSays.{one_lock_says}
-use Rattle.lt_law_pinned.proofs.TwoWritersSay.{two_writers_say, cut_short_says}
+use Rattle.lt_law_pinned.proofs.TwoWritersSay.{one_lock_says, two_writers_say, cut_short_says}
 use Rattle.lt_law_pinned.proofs.Refusals.{words_say, fault_says, counts_say}
-use Rattle.lt_law_pinned.proofs.CheckAnswers.{check_says}
+use Rattle.lt_law_pinned.proofs.CheckAnswers.{check_says, failures_say, unwritten_says, complete_says, serves_say}
 use Rattle.lt_law_pinned.proofs.MakeAnswers.{make_says, soak_says}
-use Rattle.lt_law_pinned.proofs.FailingAnswers.{failures_say, unwritten_says, complete_says}
 use Rattle.lt_law_pinned.proofs.Orderings.{orders_say}
-use Rattle.lt_law_pinned.proofs.OrderSaid.{order_says}
-use Rattle.lt_law_pinned.proofs.EndSaid.{ends_say}
-use Rattle.lt_law_pinned.proofs.ServeAnswers.{serves_say}
+use Rattle.lt_law_pinned.proofs.EndSaid.{order_says, ends_say}
 use Rattle.lt_law_pinned.proofs.answers.law_answers.Goals as goal
 
 pub returns-clause-one_lock : goal.returns-clause-one_lock

@@ -1,8 +1,4 @@
-use Rattle.lt_law_pinned.proofs.LocksExcluded.{locks_excluded}
-use Rattle.lt_law_pinned.proofs.PlacesExcluded.{places_excluded}
-use Rattle.lt_law_pinned.proofs.WaitsExcluded.{waits_excluded}
-use Rattle.lt_law_pinned.proofs.RestsExcluded.{rests_excluded}
-use Rattle.lt_law_pinned.proofs.TriesExcluded.{tries_excluded}
+use Rattle.lt_law_pinned.proofs.Excluding.{locks_excluded, places_excluded, waits_excluded, rests_excluded, tries_excluded}
 use Rattle.lt_law_pinned.proofs.laws.law_excluded.Goals as goal
 
 pub returns-clause-locks : goal.returns-clause-locks

@@ -1,5 +1,5 @@
 use Rattle.lt_law_pinned.proofs.WholeTexts.{whole_is}
-use Rattle.lt_law_pinned.proofs.DrawnScript.{drawn_is}
+use Rattle.lt_law_pinned.proofs.LimitsOpened.{drawn_is}
 use Rattle.lt_law_pinned.proofs.laws.law_texts.Goals as goal
 
 pub returns-clause-whole : goal.returns-clause-whole

@@ -1,6 +1,4 @@
-use Rattle.lt_law_pinned.proofs.RunsOpened.{words_are, runs_told, times_told}
-use Rattle.lt_law_pinned.proofs.OthersOpened.{soak_told, check_told, make_told}
-use Rattle.lt_law_pinned.proofs.LimitsOpened.{within_told, far_told, each_time_told, ends_told}
+use Rattle.lt_law_pinned.proofs.LimitsOpened.{words_are, runs_told, times_told, soak_told, check_told, make_told, within_told, far_told, each_time_told, ends_told}
 use Rattle.lt_law_pinned.proofs.laws.law_told.Goals as goal
 
 pub returns-clause-words : goal.returns-clause-words

@@ -1,5 +1,5 @@
 use Rattle.lt_law_pinned.proofs.Opened.{promised_opens}
-use Rattle.lt_law_pinned.proofs.WorldsExcluded.{counts_excluded, standing_excluded, turns_excluded}
+use Rattle.lt_law_pinned.proofs.Excluding.{counts_excluded, standing_excluded, turns_excluded}
 use Rattle.lt_law_pinned.proofs.laws.law_worlds_excluded.Goals as goal
 
 pub returns-clause-counts : goal.returns-clause-counts

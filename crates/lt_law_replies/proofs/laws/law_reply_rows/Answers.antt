@@ -1,6 +1,6 @@
 use Rattle.std.proofs.Common.{inl, inr, refl}
 use Rattle.lt_modes.specs.Modes.{conflicts}
-use Rattle.lt_law_replies.proofs.AnswerRows.{other_mode, not_wait}
+use Rattle.lt_law_replies.proofs.ReplyActs.{other_mode, not_wait}
 use Rattle.lt_law_replies.proofs.laws.law_reply_rows.Goals as goal
 
 pub returns : goal.returns

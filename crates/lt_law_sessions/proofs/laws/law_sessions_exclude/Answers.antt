@@ -1,6 +1,5 @@
 -- Each of the laws.
-use Rattle.lt_law_sessions.proofs.Excluding.{still_is_held, sessions_exclude}
-use Rattle.lt_law_sessions.proofs.Granted.{granted_is_had, had_unless_taken}
+use Rattle.lt_law_sessions.proofs.Excluding.{still_is_held, sessions_exclude, granted_is_had, had_unless_taken}
 use Rattle.lt_law_sessions.proofs.laws.law_sessions_exclude.Goals as goal
 
 pub returns : goal.returns

@@ -1,6 +1,4 @@
-use Rattle.lt_law_waiting.proofs.RingSets.{ring_set_waits, ring_set_is_greatest}
-use Rattle.lt_law_waiting.proofs.RingWalks.{walk_finds_ring, no_ring}
-use Rattle.lt_law_waiting.proofs.WalkEnds.{walks_end}
+use Rattle.lt_law_waiting.proofs.RingWalks.{ring_set_waits, ring_set_is_greatest, walk_finds_ring, no_ring, walks_end}
 use Rattle.lt_law_waiting.proofs.laws.law_rings.Goals as goal
 
 pub returns : goal.returns

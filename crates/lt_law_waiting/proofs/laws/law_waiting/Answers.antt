@@ -1,6 +1,5 @@
 use Rattle.lt_law_waiting.proofs.KeptAsks.{only_waiters_wait}
-use Rattle.lt_law_waiting.proofs.WaitsAtRest.{each_waits_for_some}
-use Rattle.lt_law_waiting.proofs.Ended.{ended_hold}
+use Rattle.lt_law_waiting.proofs.WaitsAtRest.{each_waits_for_some, ended_hold}
 use Rattle.lt_law_waiting.proofs.Explained.{waiters_are_explained, pairs_are_reported, ends_are_reported, waiters_are_reported}
 use Rattle.lt_law_waiting.proofs.laws.law_waiting.Goals as goal
 

@@ -1,4 +1,4 @@
-use Rattle.lt_live.proofs.Serving.{is_settled}
+use Rattle.lt_live.proofs.Telling.{is_settled}
 use Rattle.lt_live.proofs.both_ends.settle.Goals as goal
 
 pub returns : goal.returns

@@ -1,7 +1,7 @@
 -- One session after the other.
 use Rattle.std.proofs.Common.{arith}
-use Rattle.lt_live.specs.Finished.{SaysSame}
-use Rattle.lt_live.proofs.AlikeLists.{alike_len}
+use Rattle.lt_live.specs.Live.{SaysSame}
+use Rattle.lt_live.proofs.SeatLists.{alike_len}
 use Rattle.lt_live.proofs.Settling.{none_settled, next_settled, all_settled}
 use Rattle.lt_live.proofs.finishing.settle_all.Goals as goal
 

@@ -1,7 +1,6 @@
 -- The sessions of the first clients are settled.
 use Rattle.lt_modes.specs.Script.{ScriptData}
-use Rattle.lt_live.specs.Live.{AreLive}
-use Rattle.lt_live.specs.Finished.{Settling}
+use Rattle.lt_live.specs.Live.{AreLive, Settling}
 use Rattle.lt_live.proofs.finishing.settle_all.Given as goal
 
 abbrev pub invariant-loop-client : goal.invariant-loop-client

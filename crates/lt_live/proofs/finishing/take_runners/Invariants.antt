@@ -1,7 +1,6 @@
 -- The runners that were taken, and then those of the stations that are left.
-use Rattle.std.proofs.Common.{◌≡◌, ◌≤◌, ◌+◌, ◌++◌, length, map}
-use Rattle.std.specs.Prelude.{vec_len, vec_capacity}
-use Rattle.lt_live.specs.Opened.{runner_of}
+use Rattle.std.proofs.Common.{◌≡◌, ◌≤◌, ◌+◌, ◌++◌, length, map, vec_len, vec_capacity}
+use Rattle.lt_live.specs.Stations.{runner_of}
 use Rattle.lt_live.proofs.finishing.take_runners.Given as goal
 
 abbrev pub invariant-loop-stations : goal.invariant-loop-stations

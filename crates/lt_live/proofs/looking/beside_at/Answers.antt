@@ -1,10 +1,9 @@
 -- The seat at the session's place looked.
 use Rattle.std.proofs.Common.{subst, sym, refl, arith, ◌⊎◌, ◌≡◌, ◌<◌, length}
-use Rattle.lt_merge.specs.Run.{RunData}
+use Rattle.lt_merge.specs.Merging.{RunData}
 use Rattle.lt_live.specs.Words.{known_replies}
-use Rattle.lt_live.specs.Cursor.{IsCursor}
-use Rattle.lt_live.specs.Seats.{LooksBeside}
-use Rattle.lt_live.proofs.LookedSeats.{seat_found, seat_inside, station_looked, seat_looked}
+use Rattle.lt_live.specs.Seats.{IsCursor, LooksBeside}
+use Rattle.lt_live.proofs.OpenedStations.{seat_found, seat_inside, station_looked, seat_looked}
 use Rattle.lt_live.proofs.looking.beside_at.Goals as goal
 
 pub index_mut-requires : goal.index_mut-requires

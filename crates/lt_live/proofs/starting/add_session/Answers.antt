@@ -1,11 +1,9 @@
 -- One session more.
-use Rattle.std.proofs.Common.{◌≡◌, ◌+◌, ◌/◌, ℕ, List, [], ◌∷◌, ◌++◌, length, subst, sym, ap, ◌∙◌}
-use Rattle.std.specs.Prelude.{slice_set, slice_index_or}
+use Rattle.std.proofs.Common.{◌≡◌, ◌+◌, ◌/◌, ℕ, List, [], ◌∷◌, ◌++◌, length, subst, sym, ap, ◌∙◌, slice_set, slice_index_or}
 use Rattle.lt_spec.specs.declared.limits.TheConstants.{MAX_COMMANDS}
-use Rattle.lt_spec.specs.Families.{home}
+use Rattle.lt_spec.specs.NodeMove.{home}
 use Rattle.lt_live.specs.declared.ends.Session.{Session}
-use Rattle.lt_live.specs.Stations.{StationData}
-use Rattle.lt_live.specs.Opened.{Opens}
+use Rattle.lt_live.specs.Stations.{StationData, Opens}
 use Rattle.lt_live.proofs.OpenedStations.{Adds, opening_more, found_once, others_there, seat_there, station_there}
 use Rattle.lt_live.proofs.starting.add_session.Goals as goal
 

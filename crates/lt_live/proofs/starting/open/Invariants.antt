@@ -1,5 +1,5 @@
 -- The sessions of the first clients.
-use Rattle.lt_live.specs.Opened.{Opens}
+use Rattle.lt_live.specs.Stations.{Opens}
 use Rattle.lt_live.proofs.starting.open.Given as goal
 
 abbrev pub invariant-loop-client : goal.invariant-loop-client

@@ -2,9 +2,8 @@
 use Rattle.std.proofs.Common.{List, [], ◌∷◌, ◌++◌, length, subst, sym, ◌∙◌}
 use Rattle.std.proofs.lemmas.Iterator.Adapters.{YieldsList-from_vec}
 use Rattle.std.proofs.lemmas.Iterator.Consumers.{YieldsList-turn}
-use Rattle.lt_live.specs.Stations.{StationData}
-use Rattle.lt_live.specs.Opened.{AreSeatless}
-use Rattle.lt_live.proofs.FoundedStations.{no_commands, one_more_station}
+use Rattle.lt_live.specs.Stations.{StationData, AreSeatless}
+use Rattle.lt_live.proofs.OpenedStations.{no_commands, one_more_station}
 use Rattle.lt_live.proofs.starting.stations_of.Goals as goal
 
 pub new-requires : goal.new-requires

@@ -1,11 +1,9 @@
 -- One seat may have handed its command over, and the others stay.
-use Rattle.std.proofs.Common.{subst, sym, ◌∙◌}
-use Rattle.std.specs.Prelude.{slice_index_or}
+use Rattle.std.proofs.Common.{subst, sym, ◌∙◌, slice_index_or}
 use Rattle.std.proofs.lemmas.Option.{same_Some, slice_get-get_or}
 use Rattle.lt_live.specs.declared.ends.Seat.{Seat}
 use Rattle.lt_live.specs.Stations.{IsSeatOf, MayHandOver, HandMayGo, CanNotAppend}
-use Rattle.lt_live.proofs.Places.{set_here}
-use Rattle.lt_live.proofs.SeatLists.{seat_set}
+use Rattle.lt_live.proofs.SeatLists.{set_here, seat_set}
 use Rattle.lt_live.proofs.KeptStations.{station_handed, hand_goes}
 use Rattle.lt_live.proofs.TurnParts.{only_handed}
 use Rattle.lt_live.proofs.turning.append_at.Goals as goal

@@ -1,9 +1,7 @@
-use Rattle.std.proofs.Common.{subst, sym}
-use Rattle.std.specs.Prelude.{slice_index_or}
+use Rattle.std.proofs.Common.{subst, sym, slice_index_or}
 use Rattle.std.proofs.lemmas.Option.{slice_get-get_or}
 use Rattle.lt_live.specs.declared.ends.Seat.{Seat}
-use Rattle.lt_live.specs.Cursor.{IsCursor}
-use Rattle.lt_live.specs.Seats.{TellsSeat}
+use Rattle.lt_live.specs.Seats.{IsCursor, TellsSeat}
 use Rattle.lt_live.proofs.SeatLists.{seat_set}
 use Rattle.lt_live.proofs.turning.tell_at.Goals as goal
 

@@ -1,6 +1,6 @@
 -- A turn leaves a station a station.
 use Rattle.std.proofs.Common.{subst, sym}
-use Rattle.lt_merge.specs.Run.{RunData}
+use Rattle.lt_merge.specs.Merging.{RunData}
 use Rattle.lt_live.specs.Seats.{TellsSeat}
 use Rattle.lt_live.specs.Stations.{EachSeat, HaveCursors}
 use Rattle.lt_live.proofs.KeptStations.{station_taken, station_told, station_grew}

@@ -1,5 +1,5 @@
 -- The station that is given back is the one that was claimed, after its turn.
-use Rattle.lt_live.proofs.Live.{turns_on}
+use Rattle.lt_live.proofs.Settling.{turns_on}
 use Rattle.lt_live.proofs.visiting.visit.Goals as goal
 
 pub give-requires-clause-item : goal.give-requires-clause-item

@@ -1,6 +1,6 @@
 -- One desk after the other.
 use Rattle.std.proofs.Common.{refl, ◌∙◌}
-use Rattle.lt_live.proofs.AlikeLists.{alike_len}
+use Rattle.lt_live.proofs.SeatLists.{alike_len}
 use Rattle.lt_live_callers.specs.Desks.{DeskGoesOn}
 use Rattle.lt_live_callers.proofs.GoingOn.{desks_itself, desks_join}
 use Rattle.lt_live_callers.proofs.alone.step_each.Goals as goal

@@ -1,7 +1,7 @@
 -- The runners are those of the script, and have made the run that the sessions were served in.
 use Rattle.std.proofs.Common.{List, subst, ◌∙◌}
 use Rattle.lt_runner.specs.declared.parts.Parts.{Parts}
-use Rattle.lt_threads.specs.Shares.{IsJoined}
+use Rattle.lt_threads.specs.Meeting.{IsJoined}
 use Rattle.lt_live.proofs.Finished.{finishes, never_many}
 use Rattle.lt_live_callers.proofs.Ended.{shared, ends_so}
 use Rattle.lt_live_callers.proofs.ending.end_run.Goals as goal

@@ -1,7 +1,6 @@
 -- The runners only looked at their rings again, so the world is the same.
 use Rattle.std.proofs.Common.{ℕ, Option, sym, subst, ◌∙◌}
-use Rattle.lt_threads.specs.Enabled.{IsLeastEnabled}
-use Rattle.lt_threads.specs.Together.{crew_world}
+use Rattle.lt_threads.specs.Meeting.{IsLeastEnabled, crew_world}
 use Rattle.lt_live_callers.proofs.Ended.{rests_stuck, rests_done}
 use Rattle.lt_live_callers.proofs.ending.ending_of.Goals as goal
 

@@ -1,6 +1,5 @@
 -- The desks so far, and then the callers and sessions that are left.
-use Rattle.std.proofs.Common.{◌≡◌, ◌++◌, length, map}
-use Rattle.std.specs.Prelude.{vec_len}
+use Rattle.std.proofs.Common.{◌≡◌, ◌++◌, length, map, vec_len}
 use Rattle.lt_live_callers.specs.Desks.{caller_of, session_of}
 use Rattle.lt_live_callers.specs.Served.{NoneRefused}
 use Rattle.lt_live_callers.proofs.opening.desks_of.Given as goal

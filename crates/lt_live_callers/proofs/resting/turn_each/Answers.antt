@@ -1,7 +1,7 @@
 -- One station after the other.
 use Rattle.std.proofs.Common.{refl, ◌∙◌}
 use Rattle.lt_live.specs.Live.{StationGoesOn}
-use Rattle.lt_live.proofs.AlikeLists.{alike_len}
+use Rattle.lt_live.proofs.SeatLists.{alike_len}
 use Rattle.lt_live_callers.proofs.GoingOn.{stations_itself, stations_join}
 use Rattle.lt_live_callers.proofs.resting.turn_each.Goals as goal
 

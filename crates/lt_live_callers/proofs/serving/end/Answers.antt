@@ -1,8 +1,7 @@
 -- The sessions are those of the desks.
 use Rattle.std.proofs.Common.{List, sym, subst}
 use Rattle.lt_live.specs.declared.ends.Session.{Session}
-use Rattle.lt_live.specs.Live.{AreLive}
-use Rattle.lt_live.specs.Finished.{IsServedRun}
+use Rattle.lt_live.specs.Live.{AreLive, IsServedRun}
 use Rattle.lt_live_callers.proofs.serving.end.Goals as goal
 
 pub end_run-requires : goal.end_run-requires

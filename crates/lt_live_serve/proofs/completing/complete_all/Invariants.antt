@@ -1,7 +1,5 @@
 -- The stations are those of the script, and lack fewer commands each time.
-use Rattle.lt_live_serve.specs.Calls.{AllSubmitted}
-use Rattle.lt_live_serve.specs.Completing.{all_lack}
-use Rattle.lt_live_serve.specs.Serving.{AreServing}
+use Rattle.lt_live_serve.specs.Completing.{AllSubmitted, all_lack, AreServing}
 use Rattle.lt_live_serve.proofs.completing.complete_all.Given as goal
 
 abbrev pub invariant-loop : goal.invariant-loop

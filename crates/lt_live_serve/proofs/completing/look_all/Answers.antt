@@ -1,7 +1,7 @@
 -- One caller after the other.
 use Rattle.std.proofs.Common.{arith}
-use Rattle.lt_live.proofs.AlikeLists.{alike_len}
-use Rattle.lt_live_serve.specs.Calls.{Calls}
+use Rattle.lt_live.proofs.SeatLists.{alike_len}
+use Rattle.lt_live_serve.specs.Completing.{Calls}
 use Rattle.lt_live_serve.proofs.Looked.{none_look, next_look, all_look}
 use Rattle.lt_live_serve.proofs.completing.look_all.Goals as goal
 

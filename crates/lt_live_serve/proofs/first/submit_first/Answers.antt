@@ -1,8 +1,7 @@
 -- One caller more submitted a command.
-use Rattle.std.proofs.Common.{◌<◌, length, arith}
-use Rattle.std.specs.Prelude.{slice_set}
-use Rattle.lt_live.proofs.AlikeLists.{alike_join, alike_len}
-use Rattle.lt_live_serve.specs.Calls.{Calls}
+use Rattle.std.proofs.Common.{◌<◌, length, arith, slice_set}
+use Rattle.lt_live.proofs.SeatLists.{alike_join, alike_len}
+use Rattle.lt_live_serve.specs.Completing.{Calls}
 use Rattle.lt_live_serve.proofs.Lasting.{calls_join, one_called}
 use Rattle.lt_live_serve.proofs.first.submit_first.Goals as goal
 

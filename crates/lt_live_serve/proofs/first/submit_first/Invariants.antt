@@ -1,5 +1,5 @@
 -- The callers are the same, but for what those before submitted.
-use Rattle.lt_live_serve.specs.Calls.{Calls, EachCaller}
+use Rattle.lt_live_serve.specs.Completing.{Calls, EachCaller}
 use Rattle.lt_live_serve.proofs.first.submit_first.Given as goal
 
 abbrev pub invariant-loop-place : goal.invariant-loop-place

@@ -1,9 +1,9 @@
 -- The rounds keep stations and callers those of the script, and what was polled is told of the callers' vector.
 use Rattle.std.proofs.Common.{◌≡◌, List, length, map, subst}
 use Rattle.lt_lists.specs.Below.{gather_below}
-use Rattle.lt_live.specs.Opened.{runner_of}
+use Rattle.lt_live.specs.Stations.{runner_of}
 use Rattle.lt_live_serve.specs.declared.callers.Caller.{Caller}
-use Rattle.lt_live_serve.specs.Telling.{heard_at}
+use Rattle.lt_live_serve.specs.Completing.{heard_at}
 use Rattle.lt_live_serve.proofs.Heard.{live_run}
 use Rattle.lt_live_serve.proofs.Lasting.{serving_lasts}
 use Rattle.lt_live_serve.proofs.live.ended_run.Goals as goal

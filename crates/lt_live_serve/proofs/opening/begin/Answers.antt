@@ -1,9 +1,9 @@
 use Rattle.std.proofs.Common.{ℕ, subst}
 use Rattle.lt_modes.specs.Script.{ScriptData}
 use Rattle.lt_live_serve.specs.declared.limits.TheConstants.{MOVES}
-use Rattle.lt_live.specs.Opened.{IsOpen}
-use Rattle.lt_live_serve.specs.Opening.{share_or_one}
-use Rattle.lt_live_serve.proofs.Opened.{are_new, first_serving}
+use Rattle.lt_live.specs.Stations.{IsOpen}
+use Rattle.lt_live_serve.specs.Completing.{share_or_one}
+use Rattle.lt_live_serve.proofs.Beside.{are_new, first_serving}
 use Rattle.lt_live_serve.proofs.opening.begin.Goals as goal
 
 pub callers_of-requires-clause-new : goal.callers_of-requires-clause-new

@@ -3,8 +3,8 @@ use Rattle.std.proofs.Common.{List, [], ◌∷◌, ◌++◌, length, subst, sym,
 use Rattle.std.proofs.lemmas.Iterator.Adapters.{YieldsList-from_vec}
 use Rattle.std.proofs.lemmas.Iterator.Consumers.{YieldsList-turn}
 use Rattle.lt_live_serve.specs.declared.callers.Caller.{Caller}
-use Rattle.lt_live_serve.specs.Opening.{AreNewCallers}
-use Rattle.lt_live_serve.proofs.Opened.{can_call, one_more_caller}
+use Rattle.lt_live_serve.specs.Completing.{AreNewCallers}
+use Rattle.lt_live_serve.proofs.Beside.{can_call, one_more_caller}
 use Rattle.lt_live_serve.proofs.opening.callers_of.Goals as goal
 
 pub caller_of-requires-clause-session : goal.caller_of-requires-clause-session

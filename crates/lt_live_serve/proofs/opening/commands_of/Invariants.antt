@@ -1,6 +1,6 @@
 -- The client's commands among those that were looked at.
 use Rattle.std.proofs.Common.{◌≡◌}
-use Rattle.lt_live_serve.specs.Clients.{among}
+use Rattle.lt_live_serve.specs.Serves.{among}
 use Rattle.lt_live_serve.proofs.opening.commands_of.Given as goal
 
 abbrev pub invariant-loop-place : goal.invariant-loop-place

@@ -1,5 +1,5 @@
 use Rattle.std.proofs.Common.{◌≡◌, arith}
-use Rattle.lt_live_serve.proofs.Clients.{pushed_own, pushed_other}
+use Rattle.lt_live_serve.proofs.Completed.{pushed_own, pushed_other}
 use Rattle.lt_live_serve.proofs.opening.push_own.Goals as goal
 
 pub returns-in_ok-push : goal.returns-in_ok-push

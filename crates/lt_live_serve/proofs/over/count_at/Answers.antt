@@ -1,5 +1,5 @@
 use Rattle.std.proofs.Common.{◌≡◌, arith}
-use Rattle.lt_live_serve.proofs.Clients.{count_own, count_other}
+use Rattle.lt_live_serve.proofs.Completed.{count_own, count_other}
 use Rattle.lt_live_serve.proofs.over.count_at.Goals as goal
 
 pub returns-then-other-client-clause-count : goal.returns-then-other-client-clause-count

@@ -1,6 +1,6 @@
 -- Stations and callers went on, and each round has fewer commands left.
 use Rattle.lt_live.specs.Live.{StationGoesOn, EachStation}
-use Rattle.lt_live_serve.specs.Calls.{Calls, EachCaller, all_left}
+use Rattle.lt_live_serve.specs.Completing.{Calls, EachCaller, all_left}
 use Rattle.lt_live_serve.proofs.rounds.rounds_of.Given as goal
 
 abbrev pub invariant-loop-stations : goal.invariant-loop-stations

@@ -1,8 +1,7 @@
 -- The caller at this place has submitted all.
-use Rattle.std.proofs.Common.{◌<◌, length, arith}
-use Rattle.std.specs.Prelude.{slice_set}
-use Rattle.lt_live.proofs.AlikeLists.{alike_join, alike_len}
-use Rattle.lt_live_serve.specs.Calls.{Calls}
+use Rattle.std.proofs.Common.{◌<◌, length, arith, slice_set}
+use Rattle.lt_live.proofs.SeatLists.{alike_join, alike_len}
+use Rattle.lt_live_serve.specs.Completing.{Calls}
 use Rattle.lt_live_serve.proofs.Lasting.{all_submitted, calls_join, less_left, next_submitted, one_called}
 use Rattle.lt_live_serve.proofs.rounds.submit_one.Goals as goal
 

@@ -1,6 +1,6 @@
 -- The callers before have submitted all.
 use Rattle.std.proofs.Common.{◌≤◌}
-use Rattle.lt_live_serve.specs.Calls.{Calls, EachCaller, all_left}
+use Rattle.lt_live_serve.specs.Completing.{Calls, EachCaller, all_left}
 use Rattle.lt_live_serve.proofs.Lasting.{SubmittedTo}
 use Rattle.lt_live_serve.proofs.rounds.submit_one.Given as goal
 

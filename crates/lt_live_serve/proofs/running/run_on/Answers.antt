@@ -1,7 +1,7 @@
 -- The stations are those of before, but that their runners made moves.
 use Rattle.std.proofs.Common.{List, subst}
 use Rattle.lt_runner.specs.declared.parts.Parts.{Parts}
-use Rattle.lt_threads.specs.Together.{IsCrew}
+use Rattle.lt_threads.specs.Meeting.{IsCrew}
 use Rattle.lt_live.specs.Stations.{StationData}
 use Rattle.lt_live_serve.specs.Completing.{AreStationsKept}
 use Rattle.lt_live_serve.proofs.Parted.{crew_of, go_together, serving_moved}

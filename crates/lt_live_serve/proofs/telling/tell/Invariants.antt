@@ -1,8 +1,8 @@
 -- The caller polled further replies.
 use Rattle.std.proofs.Common.{◌-◌, length}
 use Rattle.lt_spec.specs.Holdings.{lines_of}
-use Rattle.lt_live.specs.Replies.{replies_in}
-use Rattle.lt_live_serve.specs.Telling.{Hears}
+use Rattle.lt_live.specs.Seats.{replies_in}
+use Rattle.lt_live_serve.specs.Completing.{Hears}
 use Rattle.lt_live_serve.proofs.telling.tell.Given as goal
 
 abbrev pub invariant-loop : goal.invariant-loop

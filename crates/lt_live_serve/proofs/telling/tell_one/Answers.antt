@@ -1,7 +1,7 @@
 -- The session and its seat looked at their rings before and after the poll.
 use Rattle.std.proofs.Common.{sym, ◌∙◌}
 use Rattle.std.proofs.lemmas.Result.{IfOk-weaker}
-use Rattle.lt_live.proofs.Linked.{session_stays}
+use Rattle.lt_live.proofs.Telling.{session_stays}
 use Rattle.lt_live.proofs.Settling.{same_sessions}
 use Rattle.lt_live_serve.proofs.Told.{heard_all}
 use Rattle.lt_live_serve.proofs.telling.tell_one.Goals as goal

@@ -1,5 +1,5 @@
 -- What the two ends did, in words of the mails.
-use Rattle.lt_mail.proofs.WordLemmas.{gives_given, sees_known}
+use Rattle.lt_mail.proofs.LookLemmas.{gives_given, sees_known}
 use Rattle.lt_mail.proofs.both_ends.beside.Goals as goal
 
 pub returns-clause-given : goal.returns-clause-given

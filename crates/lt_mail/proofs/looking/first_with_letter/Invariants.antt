@@ -1,5 +1,5 @@
 -- The loop over the rings.
-use Rattle.lt_mail.specs.Looks.{LooksAtSome, SawNone}
+use Rattle.lt_mail.specs.Passing.{LooksAtSome, SawNone}
 use Rattle.lt_mail.proofs.looking.first_with_letter.Given as goal
 
 abbrev pub invariant-loop-from : goal.invariant-loop-from

@@ -1,6 +1,6 @@
 -- All rings.
 use Rattle.std.proofs.Common.{arith}
-use Rattle.lt_mail.proofs.OpenedLemmas.{rows_end}
+use Rattle.lt_mail.proofs.FlushLemmas.{rows_end}
 use Rattle.lt_mail.proofs.opening.open.Goals as goal
 
 pub returns : goal.returns

@@ -1,5 +1,4 @@
-use Rattle.std.proofs.Common.{◌≡◌, ◌∷◌, ◌+◌, List, drop, ap, sym, subst, arith, ◌∙◌}
-use Rattle.std.specs.Prelude.{slice_set, remove}
+use Rattle.std.proofs.Common.{◌≡◌, ◌∷◌, ◌+◌, List, drop, ap, sym, subst, arith, ◌∙◌, slice_set, remove}
 use Rattle.lt_merge.specs.declared.heads.Head.{Head}
 use Rattle.lt_merge.specs.Heads.{AreHeads, Advances, IsHeadAt, placed, settled_heads}
 use Rattle.lt_merge.proofs.Taking.{first_inside, log_inside, all_longer, advanced, ended}

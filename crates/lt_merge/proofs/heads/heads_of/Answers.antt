@@ -1,6 +1,6 @@
 use Rattle.std.proofs.Common.{◌≡◌, ◌+◌, ◌-◌, ap, sym, subst, arith, ◌∙◌, ℕ}
 use Rattle.lt_merge.specs.Heads.{Begins, IsHeadAt, placed, settled_heads}
-use Rattle.lt_merge.proofs.Beginning.{head_found, none_found}
+use Rattle.lt_merge.proofs.Placing.{head_found, none_found}
 use Rattle.lt_merge.proofs.heads.heads_of.Goals as goal
 
 pub loop-log-preserved-in-Some : goal.loop-log-preserved-in-Some

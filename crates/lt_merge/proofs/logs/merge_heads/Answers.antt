@@ -1,12 +1,8 @@
-use Rattle.std.proofs.Common.{◌++◌, List, take, length, ap, sym, subst, arith, ◌∙◌}
-use Rattle.std.specs.Prelude.{slice_get}
-use Rattle.std.proofs.lemmas.Bool.{eqb-true}
-use Rattle.std.proofs.lemmas.List.{append_assoc, length-append}
-use Rattle.lt_spec.specs.Log.{Logged}
+use Rattle.std.proofs.Common.{◌++◌, List, take, length, ap, sym, subst, arith, ◌∙◌, slice_get, eqb-true, append_assoc, length-append}
+use Rattle.lt_spec.specs.World.{Logged}
 use Rattle.lt_merge.specs.Merging.{Merges}
 use Rattle.lt_merge.specs.Heads.{entries_in, rest_of}
-use Rattle.lt_merge.proofs.Copying.{length_copied}
-use Rattle.lt_merge.proofs.Taking.{all_taken, head_inside, log_inside, not_empty}
+use Rattle.lt_merge.proofs.Taking.{length_copied, all_taken, head_inside, log_inside, not_empty}
 use Rattle.lt_merge.proofs.logs.merge_heads.Goals as goal
 
 pub take_move-requires-clause-place : goal.take_move-requires-clause-place

@@ -1,5 +1,5 @@
 use Rattle.std.proofs.Common.{◌≡◌, ◌+◌, ◌++◌, List, length}
-use Rattle.lt_spec.specs.Log.{Logged}
+use Rattle.lt_spec.specs.World.{Logged}
 use Rattle.lt_merge.specs.Merging.{all_entries, Merges}
 use Rattle.lt_merge.specs.Heads.{AreHeads, rests_of}
 use Rattle.lt_merge.proofs.logs.merge_heads.Given as goal

@@ -1,5 +1,5 @@
 use Rattle.lt_model.proofs.laws.law_served.Goals as goal
-use Rattle.lt_model.proofs.ServedMove.{served_kept, served_in_runs}
+use Rattle.lt_model.proofs.ClocksGrow.{served_kept, served_in_runs}
 
 pub returns : goal.returns
 returns c = record { step = served_kept; run = served_in_runs }

@@ -1,6 +1,6 @@
 use Rattle.lt_model.proofs.rule_laws.law_account_rules.Goals as goal
 use Rattle.lt_model.proofs.AccountRules.{serves_by_rule, services_are_steps, copies_are_delivered, tells_are_applied, tells_are_made, handing_over_settles, tokens_arrive, freezes_are_steps, others_change_nothing, rules_count}
-use Rattle.lt_model.proofs.CommandRules.{grants_by_rule, frozen_is_not_granted, commands_are_steps}
+use Rattle.lt_model.proofs.NewsRules.{grants_by_rule, frozen_is_not_granted, commands_are_steps}
 
 pub returns : goal.returns
 returns c = record {

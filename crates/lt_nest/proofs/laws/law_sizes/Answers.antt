@@ -1,4 +1,4 @@
-use Rattle.lt_nest.proofs.NestSizes.{asked_sets, commit_sizes, abort_sizes}
+use Rattle.lt_nest.proofs.NestStays.{asked_sets, commit_sizes, abort_sizes}
 use Rattle.lt_nest.proofs.laws.law_sizes.Goals as goal
 
 pub returns : goal.returns

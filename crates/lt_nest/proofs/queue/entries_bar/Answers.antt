@@ -1,9 +1,8 @@
 use Rattle.std.proofs.Common.{sym, ◌∙◌}
 use Rattle.lt_nest.specs.declared.locks.Entry.{Entry}
-use Rattle.lt_nest.specs.Forest.{is_own}
+use Rattle.lt_nest.specs.Forest.{is_own, entry_conflicts}
 use Rattle.lt_nest.specs.Locks.{missing_entry}
-use Rattle.lt_nest.specs.Marks.{entry_conflicts}
-use Rattle.lt_nest.proofs.FirstConflict.{first_bars, none_bars}
+use Rattle.lt_nest.proofs.OpenChildren.{first_bars, none_bars}
 use Rattle.lt_nest.proofs.queue.entries_bar.Goals as goal
 
 pub returns-then-not-is_own : goal.returns-then-not-is_own

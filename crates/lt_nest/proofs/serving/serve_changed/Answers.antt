@@ -1,14 +1,10 @@
-use Rattle.std.proofs.Common.{rules, ◌≢◌, ◌<◌, ◌++◌, List, ℕ, length, map, arith, ap, refl, sym, subst, ◌∙◌, slice_index_or, append_assoc}
-use Rattle.std.proofs.lemmas.List.{length-append, length-map, length-set, get_or_default, get_or-set_other}
+use Rattle.std.proofs.Common.{rules, ◌≢◌, ◌<◌, ◌++◌, List, ℕ, length, map, arith, ap, refl, sym, subst, ◌∙◌, slice_index_or, append_assoc, length-append, length-set, get_or-set_other}
+use Rattle.std.proofs.lemmas.List.{length-map, get_or_default}
 use Rattle.std.proofs.lemmas.List.Sums.{sum_by-set}
 use Rattle.lt_nest.specs.declared.locks.Ask.{Ask}
-use Rattle.lt_nest.specs.Locks.{LockSet, no_set}
-use Rattle.lt_nest.specs.Serving.{Grant, serve_set, grant_in}
-use Rattle.lt_nest.specs.Kept.{NoneFree}
-use Rattle.lt_nest.specs.Counts.{load}
-use Rattle.lt_nest.specs.Tallies.{tallies_granted}
-use Rattle.lt_nest.specs.Changes.{after_change}
-use Rattle.lt_nest.proofs.ServedCounts.{load_served, asks_served}
+use Rattle.lt_nest.specs.Locks.{LockSet, no_set, Grant, serve_set, grant_in}
+use Rattle.lt_nest.specs.Kept.{NoneFree, load, tallies_granted, after_change}
+use Rattle.lt_nest.proofs.ServedSets.{load_served, asks_served}
 use Rattle.lt_nest.proofs.ChangedSets.{load_changed, asks_changed, next_changed, next_grants}
 use Rattle.lt_nest.proofs.GrantedWishes.{granted_append}
 use Rattle.lt_nest.proofs.serving.serve_changed.Goals as goal

@@ -1,11 +1,6 @@
-use Rattle.std.proofs.Common.{◌≡◌, ◌≤◌, ◌<◌, ◌+◌, ◌++◌, ℕ, length, take, drop, map, slice_index_or}
-use Rattle.std.specs.VecDeque.{deque_capacity}
-use Rattle.lt_nest.specs.Locks.{no_set}
-use Rattle.lt_nest.specs.Serving.{serve_from}
-use Rattle.lt_nest.specs.Kept.{NoneFree}
-use Rattle.lt_nest.specs.Counts.{total_load, waiting_asks}
-use Rattle.lt_nest.specs.Tallies.{tallies_granted}
-use Rattle.lt_nest.specs.Changes.{after_change}
+use Rattle.std.proofs.Common.{◌≡◌, ◌≤◌, ◌<◌, ◌+◌, ◌++◌, ℕ, length, take, drop, map, slice_index_or, deque_capacity}
+use Rattle.lt_nest.specs.Locks.{no_set, serve_from}
+use Rattle.lt_nest.specs.Kept.{NoneFree, total_load, waiting_asks, tallies_granted, after_change}
 use Rattle.lt_nest.proofs.serving.serve_changed.Given as goal
 
 abbrev pub invariant-loop-k : goal.invariant-loop-k

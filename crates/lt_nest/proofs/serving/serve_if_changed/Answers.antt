@@ -1,6 +1,6 @@
 use Rattle.std.proofs.Common.{◌≡◌, ◌++◌, map, arith, ap, sym, ◌∙◌, append-nil}
-use Rattle.lt_nest.specs.Serving.{Served, grant_in}
-use Rattle.lt_nest.specs.Tallies.{tallies_granted}
+use Rattle.lt_nest.specs.Locks.{Served, grant_in}
+use Rattle.lt_nest.specs.Kept.{tallies_granted}
 use Rattle.lt_nest.proofs.ChangedSets.{load_changed, asks_changed, unchanged_serves}
 use Rattle.lt_nest.proofs.serving.serve_if_changed.Goals as goal
 

@@ -1,5 +1,4 @@
-use Rattle.std.proofs.Common.{◌≡◌, ◌++◌, take}
-use Rattle.std.specs.List.{flat_map}
+use Rattle.std.proofs.Common.{◌≡◌, ◌++◌, take, flat_map}
 use Rattle.lt_nest_lines.specs.Written.{held_text_in_mode}
 use Rattle.lt_modes.specs.declared.mode.TheConstants.{MODES}
 use Rattle.lt_nest_lines.proofs.closing.push_held_in_set.Given as goal

@@ -3,8 +3,7 @@ use Rattle.std.specs.Fmt.{digits}
 use Rattle.lt_modes.specs.Modes.{conflicts}
 use Rattle.lt_text.specs.Text.{cut_at, lines, words}
 use Rattle.lt_nest.specs.Forest.{is_ancestor}
-use Rattle.lt_nest.specs.Locks.{pass}
-use Rattle.lt_nest.specs.Serving.{first_free, serve_set}
+use Rattle.lt_nest.specs.Locks.{pass, first_free, serve_set}
 use Rattle.lt_nest_lines.specs.Input.{input_after_line, read_lines_from}
 use Rattle.lt_nest_lines.specs.Written.{after_orders, orders_text}
 use Rattle.lt_nest_lines.proofs.laws.law_rows.Goals as goal

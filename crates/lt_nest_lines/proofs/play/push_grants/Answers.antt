@@ -1,5 +1,4 @@
-use Rattle.std.proofs.Common.{rules, ◌≡◌, ◌∙◌, ◌++◌, Some, ap}
-use Rattle.std.specs.Prelude.{slice_get}
+use Rattle.std.proofs.Common.{rules, ◌≡◌, ◌∙◌, ◌++◌, Some, ap, slice_get}
 use Rattle.lt_nest.specs.Calls.{NestState}
 use Rattle.lt_nest_lines.specs.Play.{grants_text}
 use Rattle.lt_nest_lines.proofs.Pieces.{grant_told}

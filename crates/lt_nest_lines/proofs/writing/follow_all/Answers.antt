@@ -1,12 +1,11 @@
-use Rattle.std.proofs.Common.{◌≡◌, ◌++◌, ℕ, List, [], length, arith, sym, ◌∙◌, drop}
-use Rattle.std.specs.Prelude.{slice_index_or}
+use Rattle.std.proofs.Common.{◌≡◌, ◌++◌, ℕ, List, [], length, arith, sym, ◌∙◌, drop, slice_index_or}
 use Rattle.std.proofs.lemmas.List.{drop_all}
 use Rattle.lt_nest_lines.specs.declared.order.Order.{Order}
 use Rattle.lt_nest_lines.specs.declared.order.Order.TheVariants.{Begin}
 use Rattle.lt_nest_lines.specs.Play.{PlayState, after_order}
 use Rattle.lt_nest_lines.specs.Written.{after_orders, orders_text}
 use Rattle.lt_nest_lines.proofs.Sizes.{Grows, order_grows}
-use Rattle.lt_nest_lines.proofs.FollowedOrders.{state_more, text_more, all_followed, nothing_left, asks_within}
+use Rattle.lt_nest_lines.proofs.SetsAsked.{state_more, text_more, all_followed, nothing_left, asks_within}
 use Rattle.lt_nest_lines.proofs.writing.follow_all.Goals as goal
 
 pub follow-requires-clause-within : goal.follow-requires-clause-within

@@ -1,6 +1,5 @@
 use Rattle.std.proofs.Common.{◌∙◌, sym}
-use Rattle.lt_node.proofs.StartLemmas.{homes_count}
-use Rattle.lt_node.proofs.RequestLemmas.{home_of_request, one_more}
+use Rattle.lt_node.proofs.RequestLemmas.{homes_count, home_of_request, one_more}
 use Rattle.lt_node.proofs.client.add_requests.Goals as goal
 
 pub add_request-requires-clause-client : goal.add_request-requires-clause-client

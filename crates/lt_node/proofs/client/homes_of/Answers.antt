@@ -1,5 +1,5 @@
 use Rattle.std.proofs.Common.{◌∙◌, arith}
-use Rattle.lt_node.proofs.StartLemmas.{home_more}
+use Rattle.lt_node.proofs.RequestLemmas.{home_more}
 use Rattle.lt_node.proofs.client.homes_of.Goals as goal
 
 pub loop-client-preserved : goal.loop-client-preserved

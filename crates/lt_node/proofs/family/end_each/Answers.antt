@@ -1,11 +1,9 @@
-use Rattle.std.proofs.Common.{◌≡◌, ◌<◌, ◌+◌, ◌∙◌, ℕ, List, sym, ap, arith, subst, length, slice_index_or}
-use Rattle.std.proofs.lemmas.Bool.{eq-eqb, ne_eqb}
-use Rattle.lt_desk.specs.OutData.{OutData}
+use Rattle.std.proofs.Common.{◌≡◌, ◌<◌, ◌+◌, ◌∙◌, ℕ, List, sym, ap, arith, subst, length, slice_index_or, eq-eqb, ne_eqb}
+use Rattle.lt_desk.specs.DeskData.{OutData}
 use Rattle.lt_modes.specs.Script.{family_at}
 use Rattle.lt_core.specs.CoreData.{CoreData, HasRoom}
-use Rattle.lt_spec.specs.Families.{family}
-use Rattle.lt_node.specs.NodeData.{first_core}
-use Rattle.lt_node.specs.Marks.{TellsWaiting}
+use Rattle.lt_spec.specs.NodeMove.{family}
+use Rattle.lt_node.specs.NodeData.{first_core, TellsWaiting}
 use Rattle.lt_node.proofs.MarkLemmas.{waiting_noted}
 use Rattle.std.proofs.lemmas.List.{get_or_default}
 use Rattle.lt_node.proofs.FamilyLemmas.{IsAt, at_skipped, at_ended, still_there}

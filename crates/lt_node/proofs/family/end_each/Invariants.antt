@@ -1,4 +1,4 @@
-use Rattle.lt_node.specs.Marks.{TellsWaiting}
+use Rattle.lt_node.specs.NodeData.{TellsWaiting}
 use Rattle.lt_node.proofs.FamilyLemmas.{IsAt}
 use Rattle.lt_node.proofs.family.end_each.Given as goal
 

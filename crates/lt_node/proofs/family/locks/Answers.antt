@@ -1,8 +1,7 @@
-use Rattle.std.proofs.Common.{◌<◌, ◌+◌, ◌∙◌, ℕ, length, arith, sym, ap, subst}
-use Rattle.std.proofs.lemmas.Bool.{eq-eqb, ne_eqb}
+use Rattle.std.proofs.Common.{◌<◌, ◌+◌, ◌∙◌, ℕ, length, arith, sym, ap, subst, eq-eqb, ne_eqb}
 use Rattle.lt_modes.specs.Script.{family_at}
-use Rattle.lt_spec.specs.Families.{family}
-use Rattle.lt_node.proofs.CountLemmas.{IsCounted, few_of, counted_in, counted_out, counted_all}
+use Rattle.lt_spec.specs.NodeMove.{family}
+use Rattle.lt_node.proofs.FamilyLemmas.{IsCounted, few_of, counted_in, counted_out, counted_all}
 use Rattle.lt_node.proofs.family.locks.Goals as goal
 use Rattle.lt_node.proofs.family.locks.Goals.{then-family, else-family}
 

@@ -1,4 +1,4 @@
-use Rattle.lt_node.proofs.CountLemmas.{IsCounted}
+use Rattle.lt_node.proofs.FamilyLemmas.{IsCounted}
 use Rattle.lt_node.proofs.family.locks.Given as goal
 
 abbrev pub invariant-loop-k : goal.invariant-loop-k

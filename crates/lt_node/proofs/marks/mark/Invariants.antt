@@ -1,5 +1,5 @@
 use Rattle.std.proofs.Common.{take}
-use Rattle.lt_node.specs.Marks.{Marked}
+use Rattle.lt_node.specs.NodeData.{Marked}
 use Rattle.lt_node.proofs.marks.mark.Given as goal
 
 abbrev pub invariant-loop-k : goal.invariant-loop-k

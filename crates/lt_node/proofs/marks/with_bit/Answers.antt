@@ -1,6 +1,6 @@
 use Rattle.std.proofs.Common.{◌∙◌, ◌==◌, Bool, if◌then◌else◌, ap, sym}
 use Rattle.std.specs.Int.{bit_at}
-use Rattle.lt_modes.specs.Masks.{bit_if}
+use Rattle.lt_modes.specs.FiveModes.{bit_if}
 use Rattle.lt_node.proofs.MarkLemmas.{bit_set, bit_cleared}
 use Rattle.lt_node.proofs.marks.with_bit.Goals as goal
 

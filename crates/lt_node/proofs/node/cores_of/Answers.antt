@@ -1,7 +1,7 @@
 use Rattle.std.proofs.Common.{ℕ, List, ap, subst, sym, ◌+◌, ◌∙◌}
 use Rattle.lt_modes.specs.State.{first_state}
 use Rattle.lt_core.specs.CoreData.{CoreData}
-use Rattle.lt_node.proofs.StartLemmas.{AreFirst, core_more}
+use Rattle.lt_node.proofs.RequestLemmas.{AreFirst, core_more}
 use Rattle.lt_node.proofs.node.cores_of.Goals as goal
 
 pub loop-set-preserved : goal.loop-set-preserved

@@ -1,4 +1,4 @@
-use Rattle.lt_node.proofs.StartLemmas.{AreFirst}
+use Rattle.lt_node.proofs.RequestLemmas.{AreFirst}
 use Rattle.lt_node.proofs.node.cores_of.Given as goal
 
 abbrev pub invariant-loop-set : goal.invariant-loop-set

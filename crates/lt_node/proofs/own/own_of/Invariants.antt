@@ -1,4 +1,4 @@
-use Rattle.lt_node.specs.Running.{AreOwn}
+use Rattle.lt_node.specs.Clients.{AreOwn}
 use Rattle.lt_node.proofs.own.own_of.Given as goal
 
 abbrev pub invariant-loop-client : goal.invariant-loop-client

@@ -1,12 +1,10 @@
-use Rattle.std.proofs.Common.{◌≡◌, ◌∙◌, ◌+◌, ◌<◌, ℕ, List, Some, refl, sym, subst, arith, length, map}
+use Rattle.std.proofs.Common.{◌≡◌, ◌∙◌, ◌+◌, ◌<◌, ℕ, List, Some, refl, sym, subst, arith, length, map, drop-set-lt, IsOk}
 use Rattle.std.proofs.lemmas.Bool.{false≢true}
 use Rattle.std.proofs.lemmas.Grind.{drop_more_same}
-use Rattle.std.proofs.lemmas.List.{drop-set-lt}
-use Rattle.std.specs.Prelude.{IsOk}
 use Rattle.lt_core.specs.CoreData.{CoreData, HasMemory}
 use Rattle.lt_node.proofs.FamilyLemmas.{still_there}
-use Rattle.lt_node.specs.Room.{kept_of, HasFewAsks}
-use Rattle.lt_node.proofs.KeptLemmas.{kept_set, kept_length, memory_more, few_kept}
+use Rattle.lt_node.specs.NodeData.{kept_of, HasFewAsks}
+use Rattle.lt_node.proofs.NodeLemmas.{kept_set, kept_length, memory_more, few_kept}
 use Rattle.lt_node.proofs.ReadyLemmas.{known_at, known_set, known_failed, told, sum_more, sum_all}
 use Rattle.lt_node.proofs.ready.reserve_each.Goals as goal
 

@@ -1,8 +1,6 @@
-use Rattle.std.proofs.Common.{◌≡◌, ◌<◌, ◌+◌, ◌*◌, ◌≤◌, ℕ, drop, map, slice_index_or}
-use Rattle.std.specs.Prelude.{sum_by}
+use Rattle.std.proofs.Common.{◌≡◌, ◌<◌, ◌+◌, ◌*◌, ◌≤◌, ℕ, drop, map, slice_index_or, sum_by}
 use Rattle.lt_core.specs.CoreData.{CoreData, HasMemory}
-use Rattle.lt_node.specs.Ready.{KnowsReady}
-use Rattle.lt_node.specs.Room.{kept_of, most_sent}
+use Rattle.lt_node.specs.NodeData.{KnowsReady, kept_of, most_sent}
 use Rattle.lt_node.proofs.ready.reserve_each.Given as goal
 
 abbrev pub invariant-loop-set : goal.invariant-loop-set

@@ -1,6 +1,6 @@
 use Rattle.std.proofs.Common.{rules, ◌<◌, ◌+◌, map, take, length, Some, sym, ap, ◌∙◌, subst, arith}
 use Rattle.std.specs.Mem.Slots.{slots_filled}
-use Rattle.lt_pool.specs.Items.{AllSome}
+use Rattle.lt_pool.specs.Rule.{AllSome}
 use Rattle.lt_pool.proofs.ClosingLemmas.{one_more, still_full, now_empty}
 use Rattle.lt_pool.proofs.closing.taken_out.Goals as goal
 

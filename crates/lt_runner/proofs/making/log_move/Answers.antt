@@ -1,7 +1,7 @@
 -- The move with its event lines.
 use Rattle.std.proofs.Common.{◌∙◌, ap}
-use Rattle.lt_merge.specs.Run.{with_events}
-use Rattle.lt_merge.proofs.Recorded.{pushed}
+use Rattle.lt_merge.specs.Merging.{with_events}
+use Rattle.lt_merge.proofs.Taking.{pushed}
 use Rattle.lt_runner.proofs.making.log_move.Goals as goal
 
 pub returns-clause-log : goal.returns-clause-log

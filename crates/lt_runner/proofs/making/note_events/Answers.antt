@@ -1,9 +1,9 @@
 -- One event line more is noted.
 use Rattle.std.proofs.Common.{◌≡◌, ◌∙◌, length, List, arith, subst, ap}
 use Rattle.lt_modes.specs.declared.event.Event.{Event}
-use Rattle.lt_desk.specs.OutData.{OutData}
-use Rattle.lt_merge.specs.Run.{with_events}
-use Rattle.lt_merge.proofs.Recorded.{length-with_event}
+use Rattle.lt_desk.specs.DeskData.{OutData}
+use Rattle.lt_merge.specs.Merging.{with_events}
+use Rattle.lt_merge.proofs.Taking.{length-with_event}
 use Rattle.lt_runner.proofs.making.note_events.Goals as goal
 
 pub loop-event-preserved : goal.loop-event-preserved

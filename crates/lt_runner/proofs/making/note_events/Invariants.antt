@@ -1,6 +1,6 @@
 -- The loop over the event lines.
 use Rattle.std.proofs.Common.{◌≡◌, ◌<◌, ◌≤◌, length}
-use Rattle.lt_merge.specs.Run.{with_events}
+use Rattle.lt_merge.specs.Merging.{with_events}
 use Rattle.lt_runner.proofs.making.note_events.Given as goal
 
 abbrev pub invariant-loop-event : goal.invariant-loop-event

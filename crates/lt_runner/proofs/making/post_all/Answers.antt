@@ -1,6 +1,6 @@
 -- The next letter is put into its outbox.
 use Rattle.lt_desk.specs.LetterSeen.{post_seen}
-use Rattle.lt_runner.proofs.PostLemmas.{next_post, one_posted}
+use Rattle.lt_runner.proofs.MoveLemmas.{next_post, one_posted}
 use Rattle.lt_runner.proofs.making.post_all.Goals as goal
 
 pub put-requires-clause-peer : goal.put-requires-clause-peer

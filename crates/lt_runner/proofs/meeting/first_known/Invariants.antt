@@ -1,5 +1,5 @@
 -- The loop over the rings.
-use Rattle.lt_runner.specs.Looking.{NoneKnown}
+use Rattle.lt_runner.specs.Kept.{NoneKnown}
 use Rattle.lt_runner.proofs.meeting.first_known.Given as goal
 
 abbrev pub invariant-loop-from : goal.invariant-loop-from

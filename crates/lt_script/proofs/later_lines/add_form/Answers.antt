@@ -1,11 +1,10 @@
-use Rattle.std.proofs.Common.{◌≡◌, Option, Some, Err, sym, subst}
-use Rattle.std.specs.Prelude.{IfOk}
+use Rattle.std.proofs.Common.{◌≡◌, Option, Some, Err, sym, subst, IfOk}
 use Rattle.lt_script.specs.declared.fault.Fault.{Fault}
 use Rattle.lt_script.specs.declared.form.Form.{Form}
 use Rattle.lt_script.specs.Forms.{form_seen, NodesForm}
 use Rattle.lt_script.specs.Reading.{ReadsLine}
 use Rattle.lt_script.specs.Steps.{form_step}
-use Rattle.lt_script.proofs.StepLemmas.{told_step}
+use Rattle.lt_script.proofs.FaultOrder.{told_step}
 use Rattle.lt_script.proofs.later_lines.add_form.Goals as goal
 
 pub returns-in-Nodes : goal.returns-in-Nodes

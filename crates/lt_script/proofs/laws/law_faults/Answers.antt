@@ -1,5 +1,4 @@
-use Rattle.lt_script.proofs.FaultOrder.{least_is_told}
-use Rattle.lt_script.proofs.FirstFault.{first_is_told}
+use Rattle.lt_script.proofs.FaultOrder.{least_is_told, first_is_told}
 use Rattle.lt_script.proofs.laws.law_faults.Goals as goal
 
 pub returns-clause-line : goal.returns-clause-line

@@ -1,7 +1,7 @@
 use Rattle.std.proofs.Common.{◌≡◌, sym, ap, ◌∙◌}
 use Rattle.lt_script.specs.Printing.{print_of}
 use Rattle.lt_script.specs.Reading.{read_of}
-use Rattle.lt_script.proofs.PrintLemmas.{print_parts}
+use Rattle.lt_script.proofs.RoundTrips.{print_parts}
 use Rattle.lt_script.proofs.RoundTrip.{read_printed}
 use Rattle.lt_script.proofs.printing.print.Goals as goal
 

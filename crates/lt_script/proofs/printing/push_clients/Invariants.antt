@@ -1,5 +1,4 @@
-use Rattle.std.proofs.Common.{◌≡◌, ◌++◌, take}
-use Rattle.std.specs.List.{flat_map}
+use Rattle.std.proofs.Common.{◌≡◌, ◌++◌, take, flat_map}
 use Rattle.lt_script.specs.Printing.{ended_line, client_words}
 use Rattle.lt_script.proofs.printing.push_clients.Given as goal
 

@@ -1,6 +1,6 @@
 use Rattle.std.proofs.Common.{sym, ◌∙◌, arith}
 use Rattle.lt_text.specs.Text.{lines}
-use Rattle.lt_script.proofs.ReadLemmas.{body_skipped, body_second, body_first, body_end}
+use Rattle.lt_script.proofs.RoundTrips.{body_skipped, body_second, body_first, body_end}
 use Rattle.lt_script.proofs.reading.body_of.Goals as goal
 
 pub returns-then-says_version-clause-body : goal.returns-then-says_version-clause-body

@@ -2,8 +2,8 @@ use Rattle.std.proofs.Common.{sym, ap, subst, ◌∙◌, arith}
 use Rattle.lt_text.specs.Text.{lines}
 use Rattle.lt_script.specs.Reading.{at_end, read_body}
 use Rattle.lt_script.specs.Steps.{ArePlain}
-use Rattle.lt_script.proofs.PlainLemmas.{plain_lines}
-use Rattle.lt_script.proofs.ReadLemmas.{read_fault, read_more, read_end}
+use Rattle.lt_script.proofs.PrintedLines.{plain_lines}
+use Rattle.lt_script.proofs.RoundTrips.{read_fault, read_more, read_end}
 use Rattle.lt_script.proofs.reading.read.Goals as goal
 
 pub returns-in-Some-fault : goal.returns-in-Some-fault

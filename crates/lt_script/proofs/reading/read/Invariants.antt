@@ -1,5 +1,4 @@
-use Rattle.std.proofs.Common.{◌≡◌, ◌≤◌, ◌+◌, length}
-use Rattle.std.specs.Prelude.{IsTrue}
+use Rattle.std.proofs.Common.{◌≡◌, ◌≤◌, ◌+◌, length, IsTrue}
 use Rattle.lt_text.specs.Text.{lines}
 use Rattle.lt_script.specs.Reading.{read_from, read_of}
 use Rattle.lt_script.specs.Steps.{ArePlain}

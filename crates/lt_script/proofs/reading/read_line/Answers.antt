@@ -1,7 +1,7 @@
 use Rattle.std.proofs.Common.{◌≡◌, true, sym, arith}
 use Rattle.lt_text.specs.Text.{words}
 use Rattle.lt_script.specs.Steps.{is_plain_line}
-use Rattle.lt_script.proofs.StepLemmas.{no_word_step, comment_step, bytes_step, length_step, line_words_step, later_line_step}
+use Rattle.lt_script.proofs.FaultOrder.{no_word_step, comment_step, bytes_step, length_step, line_words_step, later_line_step}
 use Rattle.lt_script.proofs.reading.read_line.Goals.{else-not-is_plain-via-then-not-is_plain+else-not-is_plain_line, else-not-is_plain-via-else-not-is_plain}
 use Rattle.lt_script.proofs.reading.read_line.Goals as goal
 

@@ -1,4 +1,4 @@
-use Rattle.lt_law_invariant.proofs.Within.{whole}
+use Rattle.lt_law_invariant.proofs.FewAsks.{whole}
 use Rattle.lt_serve.proofs.Checked.{counted}
 use Rattle.lt_serve.proofs.checking.checked.Goals as goal
 

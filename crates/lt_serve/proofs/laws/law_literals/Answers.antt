@@ -1,6 +1,4 @@
-use Rattle.std.proofs.Common.{◌≡◌, ◌∙◌, [], ◌∷◌, ◌++◌, refl, arith, ap, ap₂}
-use Rattle.std.specs.Prelude.{List, ℕ, codes, ◌+◌, ◌/◌, ◌%◌, ◌^◌, ◌≤◌, ◌<◌}
-use Rattle.std.specs.Fmt.{decimal}
+use Rattle.std.proofs.Common.{◌≡◌, ◌∙◌, [], ◌∷◌, ◌++◌, refl, arith, ap, ap₂, List, ℕ, codes, ◌+◌, ◌/◌, ◌%◌, ◌^◌, ◌≤◌, ◌<◌, decimal}
 use Rattle.std.proofs.lemmas.Fmt.{decimal_digit, decimal_step}
 use Rattle.lt_serve.proofs.laws.law_literals.Goals as goal
 

@@ -1,8 +1,6 @@
-use Rattle.std.proofs.Common.{◌≡◌, ◌∙◌, Some, map, sym, subst}
-use Rattle.std.specs.String.{string_bytes}
-use Rattle.lt_words.specs.Words.{command_of}
-use Rattle.lt_serve.proofs.Causing.{MayBeMade, may_be_made}
-use Rattle.lt_serve.proofs.Answering.{refusal_serves, written_serves}
+use Rattle.std.proofs.Common.{◌≡◌, ◌∙◌, Some, map, sym, subst, string_bytes}
+use Rattle.lt_words.specs.Grammar.{command_of}
+use Rattle.lt_serve.proofs.Answering.{MayBeMade, may_be_made, refusal_serves, written_serves}
 use Rattle.lt_serve.proofs.serving.answered.Goals as goal
 
 pub make-requires-clause-possible : goal.make-requires-clause-possible

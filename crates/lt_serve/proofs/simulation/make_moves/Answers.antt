@@ -1,10 +1,8 @@
-use Rattle.std.proofs.Common.{◌≡◌, ◌∙◌, ◌++◌, ◌∷◌, [], ◌<◌, ℕ, None, ap, subst, sym, rules}
-use Rattle.std.specs.Prelude.{IsTrue}
+use Rattle.std.proofs.Common.{◌≡◌, ◌∙◌, ◌++◌, ◌∷◌, [], ◌<◌, ℕ, None, ap, subst, sym, rules, IsTrue}
 use Rattle.lt_spec.specs.Script.{IsScript}
-use Rattle.lt_spec.specs.World.{start, logged, is_enabled}
+use Rattle.lt_spec.specs.World.{start, logged, is_enabled, full_node}
 use Rattle.lt_spec.specs.FixedOrder.{count_turns}
 use Rattle.lt_world.specs.Fields.{WorldData, world_of}
-use Rattle.lt_spec.specs.Cut.{full_node}
 use Rattle.lt_serve.specs.declared.schedule.Schedule.{Schedule}
 use Rattle.lt_threads.specs.Threads.{StaysWithin}
 use Rattle.lt_serve.specs.Endings.{StopsInTime}

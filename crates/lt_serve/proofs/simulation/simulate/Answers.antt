@@ -1,10 +1,10 @@
 use Rattle.std.proofs.Common.{◌≡◌, ◌∙◌, ℕ, List, sym, ap, subst}
 use Rattle.lt_modes.specs.Script.{ScriptData}
 use Rattle.lt_spec.specs.Script.{IsScript}
-use Rattle.lt_spec.specs.Log.{Logged}
+use Rattle.lt_spec.specs.World.{Logged}
 use Rattle.lt_world.specs.Fields.{WorldData}
 use Rattle.lt_serve.specs.Endings.{RanTo, status_of_end}
-use Rattle.lt_serve.proofs.Ended.{ran_to}
+use Rattle.lt_serve.proofs.Answering.{ran_to}
 use Rattle.lt_serve.proofs.simulation.simulate.Goals as goal
 
 pub returns-clause-ran : goal.returns-clause-ran

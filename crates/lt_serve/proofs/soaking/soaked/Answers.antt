@@ -1,7 +1,6 @@
-use Rattle.std.proofs.Common.{rules, subst, sym}
+use Rattle.std.proofs.Common.{rules, subst}
 use Rattle.lt_modes.specs.Script.{ScriptData}
 use Rattle.lt_threads.specs.Threads.{GoesFar}
-use Rattle.lt_serve.specs.Endings.{RanTo}
 use Rattle.lt_serve.proofs.soaking.soaked.Goals as goal
 
 pub returns : goal.returns

@@ -1,5 +1,5 @@
 use Rattle.std.proofs.lemmas.Result.{IfOk-weaker}
-use Rattle.lt_serve.proofs.Ended.{ran_to}
+use Rattle.lt_serve.proofs.Answering.{ran_to}
 use Rattle.lt_serve.proofs.threaded.run_nodes.Goals as goal
 
 pub returns-clause-ran : goal.returns-clause-ran

@@ -1,5 +1,4 @@
-use Rattle.std.proofs.Common.{◌≡◌, take}
-use Rattle.std.specs.Prelude.{fold}
+use Rattle.std.proofs.Common.{◌≡◌, take, fold}
 use Rattle.lt_spec.specs.Holdings.{after_line}
 use Rattle.lt_tally.proofs.locks.apply_all.Given as goal
 

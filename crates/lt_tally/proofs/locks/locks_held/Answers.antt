@@ -1,5 +1,4 @@
-use Rattle.std.proofs.Common.{◌∙◌, ap, List, []}
-use Rattle.std.specs.Prelude.{fold}
+use Rattle.std.proofs.Common.{◌∙◌, ap, List, [], fold}
 use Rattle.lt_spec.specs.Holdings.{Holding, after_line}
 use Rattle.lt_tally.proofs.Lines.{fold_lines-more}
 use Rattle.lt_tally.proofs.locks.locks_held.Goals as goal

@@ -1,9 +1,7 @@
-use Rattle.std.proofs.Common.{◌++◌, take, subst, arith, List, length-append}
-use Rattle.std.proofs.lemmas.List.{take_all, length-take}
+use Rattle.std.proofs.Common.{◌++◌, take, subst, arith, List, length-append, take_all, length-take}
 use Rattle.lt_modes.specs.declared.event.Event.{Event}
 use Rattle.lt_tally.specs.LockTable.{IsTallied}
-use Rattle.lt_tally.proofs.Few.{few_held, on_err}
-use Rattle.lt_tally.proofs.Steps.{one_more}
+use Rattle.lt_tally.proofs.Telling.{few_held, on_err, one_more}
 use Rattle.lt_tally.proofs.tally.apply_all.Goals as goal
 
 pub returns-clause-applied : goal.returns-clause-applied

@@ -2,8 +2,7 @@ use Rattle.std.proofs.Common.{take, subst, arith, List}
 use Rattle.lt_modes.specs.declared.event.Event.{Event}
 use Rattle.lt_spec.specs.Holdings.{lines_of}
 use Rattle.lt_tally.specs.LockTable.{IsTallied}
-use Rattle.lt_tally.proofs.Steps.{lines_of-more}
-use Rattle.lt_tally.proofs.Few.{events_up_to, on_err}
+use Rattle.lt_tally.proofs.Telling.{lines_of-more, events_up_to, on_err}
 use Rattle.lt_tally.proofs.tally.apply_run.Goals as goal
 
 pub loop-k-preserved : goal.loop-k-preserved

@@ -1,6 +1,6 @@
 use Rattle.std.proofs.Common.{◌≡◌, ◌≤◌, List}
 use Rattle.lt_lists.specs.Below.{count_below}
-use Rattle.lt_spec.specs.Log.{Logged}
+use Rattle.lt_spec.specs.World.{Logged}
 use Rattle.lt_spec.specs.Holdings.{lines_of}
 use Rattle.lt_tally.specs.LockTable.{IsTallied}
 use Rattle.lt_tally.specs.Summary.{waits_after}

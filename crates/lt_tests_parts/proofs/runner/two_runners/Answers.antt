@@ -1,7 +1,7 @@
 use Rattle.std.proofs.Common.{◌<◌, ℕ, subst, arith}
 use Rattle.lt_mail.specs.Opening.{IsFresh}
-use Rattle.lt_mail.proofs.FirstMails.{first_fresh, second_fresh}
-use Rattle.lt_runner.proofs.FirstRunners.{two_beside}
+use Rattle.lt_mail.proofs.FlushLemmas.{first_fresh, second_fresh}
+use Rattle.lt_runner.proofs.Fetched.{two_beside}
 use Rattle.lt_tests_parts.proofs.runner.two_runners.Goals as goal
 
 pub new-requires-2-clause-mail : goal.new-requires-2-clause-mail

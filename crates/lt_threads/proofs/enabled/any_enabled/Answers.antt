@@ -2,12 +2,10 @@
 use Rattle.std.proofs.Common.{List, length, ap, subst, arith}
 use Rattle.lt_runner.specs.declared.parts.Parts.{Parts}
 use Rattle.lt_runner.specs.Kept.{AsSeen}
-use Rattle.lt_threads.specs.Together.{AreKept}
-use Rattle.lt_threads.specs.Enabled.{IsFirstMove}
+use Rattle.lt_threads.specs.Meeting.{AreKept, IsFirstMove}
 use Rattle.lt_runner.proofs.KeptLemmas.{seen_join}
-use Rattle.lt_threads.proofs.Each.{each_join}
-use Rattle.lt_threads.proofs.Each.{each_len}
-use Rattle.lt_threads.proofs.Enabling.{crew_linked, crew_seen, all_show, least_is}
+use Rattle.lt_threads.proofs.Each.{each_join, each_len}
+use Rattle.lt_threads.proofs.Logs.{crew_linked, crew_seen, all_show, least_is}
 use Rattle.lt_threads.proofs.enabled.any_enabled.Goals as goal
 
 pub meet_all-requires : goal.meet_all-requires

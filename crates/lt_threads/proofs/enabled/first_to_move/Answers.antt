@@ -2,9 +2,9 @@
 use Rattle.std.proofs.Common.{ℕ, Some, ap, subst, sym, arith, ◌∙◌}
 use Rattle.lt_runner.specs.declared.parts.Parts.{Parts}
 use Rattle.lt_runner.specs.Choices.{next_choice}
-use Rattle.lt_runner.specs.Looking.{is_move}
-use Rattle.lt_threads.specs.Enabled.{IsFirstMove, NoneShows}
-use Rattle.lt_threads.proofs.Enabling.{first_shows, none_shows}
+use Rattle.lt_runner.specs.Kept.{is_move}
+use Rattle.lt_threads.specs.Meeting.{IsFirstMove, NoneShows}
+use Rattle.lt_threads.proofs.Logs.{first_shows, none_shows}
 use Rattle.lt_threads.proofs.enabled.first_to_move.Goals as goal
 
 pub returns-then-has_move : goal.returns-then-has_move

@@ -1,12 +1,9 @@
 -- One runner more has looked.
-use Rattle.std.proofs.Common.{ℕ, ◌≡◌, length, subst, arith}
-use Rattle.std.specs.Prelude.{vec_len}
+use Rattle.std.proofs.Common.{ℕ, ◌≡◌, length, subst, arith, vec_len}
 use Rattle.lt_runner.specs.declared.parts.Parts.{Parts}
-use Rattle.lt_runner.specs.Kept.{AsSeen}
-use Rattle.lt_runner.specs.Looking.{Fetches}
+use Rattle.lt_runner.specs.Kept.{AsSeen, Fetches}
 use Rattle.lt_threads.specs.Meeting.{Fetching}
-use Rattle.lt_threads.proofs.Each.{each_len}
-use Rattle.lt_threads.proofs.Fetches.{next_fetched, fetching_starts}
+use Rattle.lt_threads.proofs.Each.{each_len, next_fetched, fetching_starts}
 use Rattle.lt_threads.proofs.fetching.fetch_all.Goals as goal
 
 pub loop-k-init : goal.loop-k-init

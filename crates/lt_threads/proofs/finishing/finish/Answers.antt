@@ -1,7 +1,7 @@
 -- The logs that were taken are those of a crew that has met.
 use Rattle.std.proofs.Common.{List, subst}
 use Rattle.lt_runner.specs.declared.parts.Parts.{Parts}
-use Rattle.lt_threads.specs.Together.{AreKept}
+use Rattle.lt_threads.specs.Meeting.{AreKept}
 use Rattle.lt_threads.proofs.Logs.{crew_logs}
 use Rattle.lt_threads.proofs.finishing.finish.Goals as goal
 

@@ -1,7 +1,6 @@
 -- The logs that were taken, and then those of the runners that are left.
-use Rattle.std.proofs.Common.{◌≡◌, ◌≤◌, ◌+◌, ◌++◌, length, map}
-use Rattle.std.specs.Prelude.{vec_len, vec_capacity}
-use Rattle.lt_threads.specs.Finished.{run_entries, log_of}
+use Rattle.std.proofs.Common.{◌≡◌, ◌≤◌, ◌+◌, ◌++◌, length, map, vec_len, vec_capacity}
+use Rattle.lt_threads.specs.Meeting.{run_entries, log_of}
 use Rattle.lt_threads.proofs.finishing.take_logs.Given as goal
 
 abbrev pub invariant-loop-runners : goal.invariant-loop-runners

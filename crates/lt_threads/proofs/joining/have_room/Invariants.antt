@@ -1,7 +1,7 @@
 -- The commands of the first runners are counted.
 use Rattle.std.proofs.Common.{◌≡◌, ◌≤◌, length, take}
 use Rattle.lt_spec.specs.declared.limits.TheConstants.{MAX_COMMANDS}
-use Rattle.lt_threads.specs.Shares.{commands_in}
+use Rattle.lt_threads.specs.Meeting.{commands_in}
 use Rattle.lt_threads.proofs.joining.have_room.Given as goal
 
 abbrev pub invariant-loop-place : goal.invariant-loop-place

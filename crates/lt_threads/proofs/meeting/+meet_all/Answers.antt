@@ -2,7 +2,7 @@
 use Rattle.std.proofs.Common.{[], ◌∷◌, ◌++◌, List, sym, subst, arith}
 use Rattle.lt_runner.specs.declared.parts.Parts.{Parts}
 use Rattle.lt_threads.specs.Meeting.{AreMet, AnyTwo, RunnersLinked}
-use Rattle.lt_threads.proofs.Linked.{linked_rest, linked_after}
+use Rattle.lt_threads.proofs.Each.{linked_rest, linked_after}
 use Rattle.lt_threads.proofs.Pairs.{met_vec}
 use Rattle.lt_threads.proofs.meeting.+meet_all.Goals as goal
 

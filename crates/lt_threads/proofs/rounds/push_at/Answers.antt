@@ -2,7 +2,7 @@ use Rattle.std.proofs.Common.{subst}
 use Rattle.lt_runner.specs.declared.parts.Parts.{Parts}
 use Rattle.lt_threads.proofs.rounds.push_at.Goals as goal
 use Rattle.lt_threads.specs.Pushes.{OnePushed}
-use Rattle.lt_threads.proofs.Turns.{pushed_at}
+use Rattle.lt_threads.proofs.Pushing.{pushed_at}
 
 pub returns : goal.returns
 returns g c = pushed_at c.push.result c.args.place c.args.runners.now.items c.index_mut.result.now c.push.new.runner c.requires

@@ -1,7 +1,7 @@
 -- The loop over runners.
 use Rattle.std.proofs.Common.{◌≡◌, length}
 use Rattle.lt_runner.specs.Kept.{AsSeen}
-use Rattle.lt_threads.specs.Together.{EachIs}
+use Rattle.lt_threads.specs.Meeting.{EachIs}
 use Rattle.lt_threads.proofs.Pushing.{FullBetween}
 use Rattle.lt_threads.proofs.rounds.push_from.Given as goal
 

@@ -1,7 +1,6 @@
 -- The loop of rounds.
 use Rattle.lt_runner.specs.Kept.{Grew}
-use Rattle.lt_threads.specs.Together.{EachIs, IsCrew}
-use Rattle.lt_threads.specs.Rounds.{room_of}
+use Rattle.lt_threads.specs.Meeting.{EachIs, IsCrew, room_of}
 use Rattle.lt_threads.proofs.rounds.run_rounds.Given as goal
 
 abbrev pub invariant-loop-back : goal.invariant-loop-back

@@ -2,7 +2,7 @@
 use Rattle.std.proofs.Common.{arith}
 use Rattle.lt_runner.specs.Kept.{Grew}
 use Rattle.lt_threads.proofs.Each.{each_join, each_len}
-use Rattle.lt_threads.proofs.Turns.{grew_join}
+use Rattle.lt_threads.proofs.Pushing.{grew_join}
 use Rattle.lt_threads.proofs.SharedRunners.{next_settled, all_settled}
 use Rattle.lt_threads.proofs.settling.settle_all.Goals as goal
 

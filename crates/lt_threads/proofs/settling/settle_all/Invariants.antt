@@ -1,7 +1,7 @@
 -- The loop over runners.
 use Rattle.std.proofs.Common.{◌≡◌, length}
 use Rattle.lt_runner.specs.Kept.{Grew}
-use Rattle.lt_threads.specs.Together.{EachIs}
+use Rattle.lt_threads.specs.Meeting.{EachIs}
 use Rattle.lt_threads.proofs.SharedRunners.{SettledTo}
 use Rattle.lt_threads.proofs.settling.settle_all.Given as goal
 

@@ -1,6 +1,6 @@
 -- All runners stand.
 use Rattle.std.proofs.Common.{◌≡◌, ℕ, subst, arith}
-use Rattle.lt_threads.specs.Starting.{Starting}
+use Rattle.lt_threads.specs.Pushes.{Starting}
 use Rattle.lt_threads.proofs.Starts.{first_crew}
 use Rattle.lt_threads.proofs.starting.start_crew.Goals as goal
 

@@ -1,5 +1,5 @@
 -- The loop over nodes.
-use Rattle.lt_threads.specs.Starting.{Starting}
+use Rattle.lt_threads.specs.Pushes.{Starting}
 use Rattle.lt_threads.proofs.starting.start_crew.Given as goal
 
 abbrev pub invariant-loop-node : goal.invariant-loop-node

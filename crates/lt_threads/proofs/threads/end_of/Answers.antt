@@ -1,6 +1,6 @@
 use Rattle.std.proofs.Common.{sym, subst, ◌∙◌}
 use Rattle.lt_threads.specs.declared.rounds.Ended.{Ended}
-use Rattle.lt_threads.specs.Rounds.{RoundsEnd}
+use Rattle.lt_threads.specs.Meeting.{RoundsEnd}
 use Rattle.lt_threads.proofs.Ends.{rest_lasts}
 use Rattle.lt_threads.proofs.threads.end_of.Goals as goal
 

@@ -1,10 +1,9 @@
 use Rattle.std.proofs.Common.{List, subst, sym}
 use Rattle.lt_runner.specs.declared.parts.Parts.{Parts}
 use Rattle.lt_runner.specs.Kept.{SameRunner, AsSeen}
-use Rattle.lt_threads.specs.Together.{IsCrew}
-use Rattle.lt_threads.specs.Meeting.{AreMet, AnyTwo}
+use Rattle.lt_threads.specs.Meeting.{IsCrew, AreMet, AnyTwo}
 use Rattle.lt_threads.proofs.Each.{each_weaker}
-use Rattle.lt_threads.proofs.Enabling.{crew_last}
+use Rattle.lt_threads.proofs.Logs.{crew_last}
 use Rattle.lt_threads.proofs.waiting.anyone_waits.Goals as goal
 
 pub returns-clause-crew : goal.returns-clause-crew

@@ -1,13 +1,11 @@
-use Rattle.std.proofs.Common.{◌≡◌, ◌<◌, ℕ, length, ap, arith, subst, sym, ◌∙◌}
-use Rattle.std.specs.Prelude.{slice_index_or}
+use Rattle.std.proofs.Common.{◌≡◌, ◌<◌, ℕ, length, ap, arith, subst, sym, ◌∙◌, slice_index_or}
 use Rattle.lt_runner.specs.declared.parts.Parts.{Parts}
-use Rattle.lt_spec.specs.Families.{home}
-use Rattle.lt_spec.specs.NodeMove.{node_waits}
+use Rattle.lt_spec.specs.NodeMove.{home, node_waits}
 use Rattle.lt_spec.specs.World.{is_waiting}
 use Rattle.lt_node.specs.NodeData.{state_of}
-use Rattle.lt_threads.specs.Together.{crew_world}
-use Rattle.lt_threads.proofs.Waiters.{waits_here}
-use Rattle.lt_threads.proofs.Turns.{get_is}
+use Rattle.lt_threads.specs.Meeting.{crew_world}
+use Rattle.lt_threads.proofs.Shown.{waits_here}
+use Rattle.lt_threads.proofs.Pushing.{get_is}
 use Rattle.lt_threads.proofs.waiting.client_waits.Goals as goal
 
 pub returns : goal.returns

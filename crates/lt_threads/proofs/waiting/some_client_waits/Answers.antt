@@ -1,7 +1,7 @@
 use Rattle.std.proofs.Common.{◌≡◌, ◌<◌, ◌∙◌, true, length, arith, sym}
 use Rattle.lt_lists.proofs.Searches.{any_below_at}
 use Rattle.lt_spec.specs.World.{is_waiting}
-use Rattle.lt_threads.specs.Together.{crew_world}
+use Rattle.lt_threads.specs.Meeting.{crew_world}
 use Rattle.lt_threads.proofs.waiting.some_client_waits.Goals as goal
 
 pub returns-then-client_waits : goal.returns-then-client_waits

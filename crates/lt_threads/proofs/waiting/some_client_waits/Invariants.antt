@@ -2,7 +2,7 @@
 use Rattle.std.proofs.Common.{◌≡◌, false}
 use Rattle.lt_lists.specs.Below.{any_below}
 use Rattle.lt_spec.specs.World.{is_waiting}
-use Rattle.lt_threads.specs.Together.{crew_world}
+use Rattle.lt_threads.specs.Meeting.{crew_world}
 use Rattle.lt_threads.proofs.waiting.some_client_waits.Given as goal
 
 abbrev pub invariant-loop-client : goal.invariant-loop-client

@@ -1,8 +1,8 @@
 use Rattle.std.proofs.Common.{rules, ◌≡◌, ◌∙◌, ◌<◌, ◌++◌, ◌∷◌, [], Bool, ap, sym, subst, length, arith}
 use Rattle.lt_modes.specs.Script.{ScriptData}
-use Rattle.lt_spec.specs.Waiting.{waits_for}
+use Rattle.lt_spec.specs.Holdings.{waits_for}
 use Rattle.lt_world.specs.Fields.{world_of}
-use Rattle.lt_waits.proofs.Rows.{row_push}
+use Rattle.lt_waits.proofs.SoFar.{row_push}
 use Rattle.lt_waits.proofs.asking.push_row.Goals as goal
 
 pub waits_for-requires-clause-client : goal.waits_for-requires-clause-client

@@ -1,6 +1,6 @@
 use Rattle.std.proofs.Common.{◌≡◌, ◌++◌, map}
 use Rattle.lt_spec.specs.Rings.{numbers_below}
-use Rattle.lt_spec.specs.Waiting.{waits_for}
+use Rattle.lt_spec.specs.Holdings.{waits_for}
 use Rattle.lt_world.specs.Fields.{world_of}
 use Rattle.lt_waits.proofs.asking.push_row.Given as goal
 

@@ -1,9 +1,8 @@
 use Rattle.std.proofs.Common.{◌≡◌, ◌∙◌, ◌++◌, List, Bool, ap, sym, map, length, arith}
 use Rattle.lt_spec.specs.Rings.{numbers_below}
-use Rattle.lt_spec.specs.Waiting.{waits_for}
+use Rattle.lt_spec.specs.Holdings.{waits_for}
 use Rattle.lt_world.specs.Fields.{world_of}
-use Rattle.lt_waits.proofs.Marks.{marks_push}
-use Rattle.lt_waits.proofs.Rows.{square, all_marks}
+use Rattle.lt_waits.proofs.SoFar.{marks_push, square, all_marks}
 use Rattle.lt_waits.proofs.asking.wait_graph.Goals as goal
 
 pub loop-client-preserved : goal.loop-client-preserved

@@ -1,7 +1,6 @@
-use Rattle.std.proofs.Common.{◌≡◌, ◌∙◌, ◌++◌, suc, List, ap, ap₂, sym, append-nil, arith}
-use Rattle.lt_waits.specs.declared.edge.Edge.{Edge}
+use Rattle.std.proofs.Common.{◌∙◌, ◌++◌, suc, ap₂, sym, append-nil, arith}
 use Rattle.lt_waits.specs.Behind.{behind, edges_to}
-use Rattle.lt_waits.specs.Graph.{graph_of}
+use Rattle.lt_waits.specs.Serves.{graph_of}
 use Rattle.lt_waits.specs.Shortest.{waiting_for, not_waiting_for}
 use Rattle.lt_waits.proofs.Rounding.{round_more}
 use Rattle.lt_waits.proofs.behind.behind.Goals as goal

@@ -1,7 +1,7 @@
 use Rattle.std.proofs.Common.{◌≡◌, ◌<◌, ◌+◌, ◌++◌, ℕ, All}
 use Rattle.lt_waits.specs.Behind.{behind, behind_from}
 use Rattle.lt_waits.specs.Edges.{IsEdgeOf}
-use Rattle.lt_waits.specs.Graph.{graph_of}
+use Rattle.lt_waits.specs.Serves.{graph_of}
 use Rattle.lt_waits.proofs.behind.behind.Given as goal
 
 -- with those of the rounds that are left these are all

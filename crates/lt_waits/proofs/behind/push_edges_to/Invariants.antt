@@ -1,7 +1,7 @@
 use Rattle.std.proofs.Common.{◌≡◌, ◌++◌, All, take}
 use Rattle.lt_waits.specs.Behind.{edges_to}
 use Rattle.lt_waits.specs.Edges.{IsEdgeOf}
-use Rattle.lt_waits.specs.Graph.{graph_of}
+use Rattle.lt_waits.specs.Serves.{graph_of}
 use Rattle.lt_waits.proofs.behind.push_edges_to.Given as goal
 
 abbrev pub invariant-loop-client : goal.invariant-loop-client

@@ -1,7 +1,6 @@
-use Rattle.std.proofs.Common.{rules, ◌≡◌, ◌++◌, ◌∷◌, [], ℕ, List, All, get_or, refl, subst, sym, arith}
+use Rattle.std.proofs.Common.{rules, ◌≡◌, ◌++◌, ◌∷◌, [], All, get_or, refl, subst, sym, arith}
 use Rattle.std.proofs.lemmas.List.Elements.{All-push}
 use Rattle.lt_spec.specs.Rings.{first_or}
-use Rattle.lt_waits.specs.declared.edge.Edge.{Edge}
 use Rattle.lt_waits.specs.Edges.{IsEdgeOf, edge, ring_edges}
 use Rattle.lt_waits.proofs.RingEdges.{edge_more}
 use Rattle.lt_waits.proofs.edge.ring_edges.Goals as goal

@@ -1,5 +1,4 @@
-use Rattle.std.proofs.Common.{◌≡◌, ◌++◌, take}
-use Rattle.std.specs.Prelude.{codes, flat_map}
+use Rattle.std.proofs.Common.{◌≡◌, ◌++◌, take, codes, flat_map}
 use Rattle.lt_modes.specs.Modes.{word_of}
 use Rattle.lt_waits.proofs.edge_lines.push_further_modes.Given as goal
 

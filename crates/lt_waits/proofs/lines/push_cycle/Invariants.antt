@@ -1,5 +1,4 @@
-use Rattle.std.proofs.Common.{◌≡◌, ◌++◌, take}
-use Rattle.std.specs.Prelude.{map, codes}
+use Rattle.std.proofs.Common.{◌≡◌, ◌++◌, take, map, codes}
 use Rattle.lt_modes.specs.Script.{client_name}
 use Rattle.lt_text.specs.Text.{each_after_space}
 use Rattle.lt_waits.proofs.lines.push_cycle.Given as goal

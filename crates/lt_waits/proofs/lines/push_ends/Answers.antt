@@ -1,4 +1,4 @@
-use Rattle.lt_waits.specs.Graph.{graph_of}
+use Rattle.lt_waits.specs.Serves.{graph_of}
 use Rattle.lt_waits.proofs.SoFar.{piece_more, ends_so_far-push}
 use Rattle.lt_waits.proofs.lines.push_ends.Goals as goal
 

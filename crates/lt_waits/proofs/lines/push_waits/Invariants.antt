@@ -1,6 +1,5 @@
 use Rattle.std.proofs.Common.{◌≡◌, ◌++◌}
-use Rattle.lt_waits.specs.Graph.{graph_of}
-use Rattle.lt_waits.specs.Report.{waits_text}
+use Rattle.lt_waits.specs.Serves.{graph_of, waits_text}
 use Rattle.lt_waits.proofs.SoFar.{waits_so_far}
 use Rattle.lt_waits.proofs.lines.push_waits.Given as goal
 

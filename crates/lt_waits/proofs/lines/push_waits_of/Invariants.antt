@@ -1,6 +1,5 @@
 use Rattle.std.proofs.Common.{◌≡◌, ◌++◌}
-use Rattle.lt_waits.specs.Graph.{graph_of}
-use Rattle.lt_waits.specs.Report.{waits_text, waits_lines_of}
+use Rattle.lt_waits.specs.Serves.{graph_of, waits_text, waits_lines_of}
 use Rattle.lt_waits.proofs.lines.push_waits_of.Given as goal
 
 abbrev pub invariant-loop-other : goal.invariant-loop-other

@@ -1,5 +1,5 @@
 use Rattle.std.proofs.Common.{rules, ◌≡◌, []}
-use Rattle.lt_waits.specs.Graph.{graph_of}
+use Rattle.lt_waits.specs.Serves.{graph_of}
 use Rattle.lt_waits.proofs.SoFar.{all_written}
 use Rattle.lt_waits.proofs.lines.report_of.Goals as goal
 

@@ -1,9 +1,8 @@
 use Rattle.std.proofs.Common.{◌≡◌, ◌∙◌, ◌++◌, List, Bool, ap, sym, map, arith}
 use Rattle.lt_spec.specs.Rings.{numbers_below}
-use Rattle.lt_waits.specs.Graph.{graph_of}
+use Rattle.lt_waits.specs.Serves.{graph_of}
 use Rattle.lt_waits.specs.Reasons.{by_lock}
-use Rattle.lt_waits.proofs.Marks.{marks_push}
-use Rattle.lt_waits.proofs.Rows.{square, all_marks}
+use Rattle.lt_waits.proofs.SoFar.{marks_push, square, all_marks}
 use Rattle.lt_waits.proofs.locking.lock_graph.Goals as goal
 
 pub loop-client-preserved : goal.loop-client-preserved

@@ -1,5 +1,5 @@
 use Rattle.std.proofs.Common.{◌≡◌}
-use Rattle.lt_waits.specs.Graph.{graph_of, marks}
+use Rattle.lt_waits.specs.Serves.{graph_of, marks}
 use Rattle.lt_waits.specs.Reasons.{by_lock}
 use Rattle.lt_waits.proofs.locking.lock_graph.Given as goal
 

@@ -1,7 +1,7 @@
 use Rattle.std.proofs.Common.{rules, ◌≡◌, ◌∙◌, ◌++◌, ◌∷◌, [], Bool, ap}
-use Rattle.lt_waits.specs.Graph.{graph_of}
+use Rattle.lt_waits.specs.Serves.{graph_of}
 use Rattle.lt_waits.specs.Reasons.{by_lock}
-use Rattle.lt_waits.proofs.Rows.{row_push}
+use Rattle.lt_waits.proofs.SoFar.{row_push}
 use Rattle.lt_waits.proofs.locking.push_row.Goals as goal
 
 pub loop-other-preserved : goal.loop-other-preserved

@@ -1,6 +1,6 @@
 use Rattle.std.proofs.Common.{◌≡◌, ◌++◌, map}
 use Rattle.lt_spec.specs.Rings.{numbers_below}
-use Rattle.lt_waits.specs.Graph.{graph_of}
+use Rattle.lt_waits.specs.Serves.{graph_of}
 use Rattle.lt_waits.specs.Reasons.{by_lock}
 use Rattle.lt_waits.proofs.locking.push_row.Given as goal
 

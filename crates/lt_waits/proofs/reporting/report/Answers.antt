@@ -1,5 +1,5 @@
 use Rattle.std.proofs.lemmas.Result.{IfOk-weaker}
-use Rattle.lt_spec.specs.Waiting.{waits_for}
+use Rattle.lt_spec.specs.Holdings.{waits_for}
 use Rattle.lt_world.specs.Fields.{world_of}
 use Rattle.lt_waits.proofs.reporting.report.Goals as goal
 

@@ -1,5 +1,5 @@
 use Rattle.std.proofs.Common.{◌+◌, ◌-◌, length}
-use Rattle.lt_waits.specs.Graph.{graph_of}
+use Rattle.lt_waits.specs.Serves.{graph_of}
 use Rattle.lt_waits.proofs.Walks.{IsOnWalk}
 use Rattle.lt_waits.proofs.rings.ring_of.Given as goal
 

@@ -2,8 +2,8 @@ use Rattle.std.proofs.Common.{◌≡◌, ◌<◌, ℕ, List, All, Ok, sym, ap, s
 use Rattle.std.proofs.lemmas.Grind.{common_steps}
 use Rattle.std.proofs.lemmas.Iterator.{items_from_collect, YieldsList-from_range}
 use Rattle.lt_spec.specs.Rings.{numbers_below, still_waiting}
-use Rattle.lt_waits.specs.Graph.{graph_of}
-use Rattle.lt_waits.proofs.Rounds.{round_is_last, all_below}
+use Rattle.lt_waits.specs.Serves.{graph_of}
+use Rattle.lt_waits.proofs.SoFar.{round_is_last, all_below}
 use Rattle.lt_waits.proofs.rings.ring_set.Goals as goal
 
 pub loop-round-init : goal.loop-round-init

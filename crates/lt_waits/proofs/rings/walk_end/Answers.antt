@@ -1,5 +1,5 @@
 use Rattle.std.proofs.Common.{suc, ◌-◌, sym, arith, ◌∙◌}
-use Rattle.lt_waits.specs.Graph.{graph_of}
+use Rattle.lt_waits.specs.Serves.{graph_of}
 use Rattle.lt_waits.proofs.Walks.{walk_stops, walk_steps}
 use Rattle.lt_waits.proofs.rings.walk_end.Goals as goal
 

@@ -1,6 +1,5 @@
-use Rattle.std.proofs.Common.{◌∙◌, ℕ, is_some, sym, subst, IfSome, IsTrue}
-use Rattle.std.specs.Prelude.{◌↔◌}
-use Rattle.lt_waits.specs.Graph.{graph_of}
+use Rattle.std.proofs.Common.{◌∙◌, ℕ, is_some, sym, subst, IfSome, IsTrue, ◌↔◌}
+use Rattle.lt_waits.specs.Serves.{graph_of}
 use Rattle.lt_waits.specs.Shortest.{HasRing, IsRingOf, IsShortest}
 use Rattle.lt_waits.proofs.Naming.{some_by_locks, named_by_locks, named_by_any}
 use Rattle.lt_waits.proofs.saying.named_ring.Goals as goal

@@ -1,13 +1,10 @@
-use Rattle.std.proofs.Common.{◌≡◌, ◌∙◌, ◌<◌, ◌+◌, ℕ, List, Option, length, ap, sym, subst, arith, IfSome}
-use Rattle.std.proofs.lemmas.Bool.{and_parts}
+use Rattle.std.proofs.Common.{◌≡◌, ◌∙◌, ◌<◌, ℕ, List, length, ap, sym, subst, arith}
 use Rattle.std.proofs.lemmas.Result.{IfOk-weaker}
 use Rattle.lt_modes.specs.Script.{ScriptData}
-use Rattle.lt_spec.specs.Holdings.{lines_of}
-use Rattle.lt_spec.specs.Log.{Logged}
-use Rattle.lt_spec.specs.Waiting.{waits_for}
-use Rattle.lt_spec.specs.World.{world_after}
-use Rattle.lt_waits.specs.Graph.{graph_of, Tells}
-use Rattle.lt_waits.specs.Reasons.{by_lock, is_barred, want_of}
+use Rattle.lt_spec.specs.Holdings.{lines_of, waits_for}
+use Rattle.lt_spec.specs.World.{Logged, world_after}
+use Rattle.lt_waits.specs.Serves.{graph_of, Tells}
+use Rattle.lt_waits.specs.Reasons.{by_lock}
 use Rattle.lt_waits.specs.Tallied.{TalliedData}
 use Rattle.lt_waits.specs.Why.{items_of, why_of}
 use Rattle.lt_waits.proofs.Naming.{named_below, part_of, why_said}

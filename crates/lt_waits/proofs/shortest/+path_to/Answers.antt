@@ -4,8 +4,8 @@ use Rattle.std.proofs.lemmas.Bool.{false≢true}
 use Rattle.std.proofs.lemmas.Grind.{common_steps}
 use Rattle.lt_lists.proofs.Members.{none_in}
 use Rattle.lt_waits.specs.declared.shortest.Path.{Path}
-use Rattle.lt_waits.specs.Graph.{graph_of}
-use Rattle.lt_waits.specs.Shortest.{waiting_for, not_waiting_for, IsLayer, IsPathTo, LeadsOut}
+use Rattle.lt_waits.specs.Serves.{graph_of}
+use Rattle.lt_waits.specs.Shortest.{waiting_for, not_waiting_for, IsLayer, IsPathTo}
 use Rattle.lt_waits.proofs.Layers.{next_layer, start_stays, parts}
 use Rattle.lt_waits.proofs.FoundPaths.{IsLeast, longer_path, longer_least, none_least, missed_least}
 use Rattle.lt_waits.proofs.shortest.+path_to.Goals as goal

@@ -1,7 +1,7 @@
 use Rattle.std.proofs.Common.{◌≡◌, ◌<◌, ℕ, List, All, Ok, sym, subst, refl, arith}
 use Rattle.std.proofs.lemmas.Iterator.{items_from_collect, YieldsList-from_range}
 use Rattle.lt_spec.specs.Rings.{numbers_below}
-use Rattle.lt_waits.proofs.Rounds.{all_below}
+use Rattle.lt_waits.proofs.SoFar.{all_below}
 use Rattle.lt_waits.proofs.shortest.everyone.Goals as goal
 
 pub returns-clause-clients : goal.returns-clause-clients

@@ -1,6 +1,5 @@
-use Rattle.std.proofs.Common.{◌∙◌, Some, is_some, ap, sym}
-use Rattle.lt_spec.specs.Rings.{next_among}
-use Rattle.lt_waits.specs.Graph.{graph_of}
+use Rattle.std.proofs.Common.{◌∙◌, is_some, ap, sym}
+use Rattle.lt_waits.specs.Serves.{graph_of}
 use Rattle.lt_waits.proofs.Layers.{found_in, find_tells}
 use Rattle.lt_waits.proofs.shortest.further.Goals as goal
 

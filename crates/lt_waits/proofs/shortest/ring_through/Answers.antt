@@ -1,9 +1,7 @@
-use Rattle.std.proofs.Common.{rules, ◌≡◌, ◌∙◌, ◌+◌, ◌≤◌, ◌⊎◌, ◌++◌, ◌∷◌, [], ℕ, List, Option, Some, None, Contains, IfSome, IsTrue, sym, ap, subst, refl, arith, length}
-use Rattle.std.proofs.lemmas.Bool.{false≢true}
+use Rattle.std.proofs.Common.{rules, ◌≡◌, ◌∙◌, ◌⊎◌, ◌++◌, ◌∷◌, [], ℕ, List, Option, Some, None, Contains, IfSome, sym, ap, subst, refl, arith, length}
 use Rattle.std.proofs.lemmas.List.{length_push}
-use Rattle.lt_spec.specs.Rings.{numbers_below}
 use Rattle.lt_waits.specs.declared.shortest.Path.{Path}
-use Rattle.lt_waits.specs.Graph.{graph_of}
+use Rattle.lt_waits.specs.Serves.{graph_of}
 use Rattle.lt_waits.specs.Shortest.{waiting_for, not_waiting_for, IsLayer, IsPathTo, IsRingOf}
 use Rattle.lt_waits.proofs.FoundPaths.{IsLeast}
 use Rattle.lt_waits.proofs.Closing.{first, others, first_layer, first_start, closes, opens}

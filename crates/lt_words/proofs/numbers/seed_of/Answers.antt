@@ -1,5 +1,5 @@
 use Rattle.std.proofs.Common.{sym, ◌∙◌}
-use Rattle.lt_words.proofs.Seeds.{seed_parsed}
+use Rattle.lt_words.proofs.NoForm.{seed_parsed}
 use Rattle.lt_words.proofs.numbers.seed_of.Goals as goal
 
 pub returns : goal.returns

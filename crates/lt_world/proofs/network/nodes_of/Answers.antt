@@ -3,7 +3,7 @@ use Rattle.std.proofs.lemmas.List.{length_push}
 use Rattle.lt_spec.specs.World.{start}
 use Rattle.lt_node.specs.NodeData.{NodeData}
 use Rattle.lt_world.specs.Fields.{IsNodeOf, node_at}
-use Rattle.lt_world.proofs.StartNodes.{one_more}
+use Rattle.lt_world.proofs.Taking.{one_more}
 use Rattle.lt_world.proofs.network.nodes_of.Goals as goal
 
 pub loop-node-preserved : goal.loop-node-preserved

@@ -1,6 +1,6 @@
 use Rattle.std.proofs.Common.{◌∙◌, ap}
-use Rattle.lt_merge.specs.Run.{with_events}
-use Rattle.lt_merge.proofs.Recorded.{pushed}
+use Rattle.lt_merge.specs.Merging.{with_events}
+use Rattle.lt_merge.proofs.Taking.{pushed}
 use Rattle.lt_world.proofs.network.record_move.Goals as goal
 
 pub returns-clause-entries : goal.returns-clause-entries

@@ -1,5 +1,5 @@
 use Rattle.std.proofs.Common.{◌≡◌, ◌<◌, ◌≤◌, [], length}
-use Rattle.lt_merge.specs.Run.{with_events}
+use Rattle.lt_merge.specs.Merging.{with_events}
 use Rattle.lt_world.proofs.recording.note_events.Given as goal
 
 abbrev pub invariant-loop-event : goal.invariant-loop-event

@@ -1,9 +1,9 @@
 use Rattle.std.proofs.Common.{rules, List, ℕ, Result, subst}
-use Rattle.lt_spec.specs.Log.{Logged}
+use Rattle.lt_spec.specs.World.{Logged}
 use Rattle.lt_spec.specs.Script.{IsScript}
-use Rattle.lt_law_journals.specs.Feeding.{new_feed, fed_piece, ended}
+use Rattle.lt_law_journals.specs.Checking.{new_feed, fed_piece, ended}
 use Rattle.lt_law_journals.proofs.Feeds.{fed_all}
-use Rattle.lt_checker.specs.Endings.{IsWorldAnswer}
+use Rattle.lt_checker.specs.Checker.{IsWorldAnswer}
 use Rattle.lt_checker.proofs.checker.Checker.end_world.Goals as goal
 
 pub returns-clause-answers : goal.returns-clause-answers

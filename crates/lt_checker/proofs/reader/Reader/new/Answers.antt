@@ -1,11 +1,10 @@
 use Rattle.std.proofs.Common.{◌≡◌, ◌++◌, ◌∙◌, [], List, ap, ap₂, arith, subst, sym}
-use Rattle.lt_spec.specs.Log.{Logged}
+use Rattle.lt_spec.specs.World.{Logged}
 use Rattle.lt_journal.specs.declared.line.Line.{Line}
 use Rattle.lt_journal.specs.RunLines.{first_lines}
 use Rattle.lt_spec.specs.declared.moves.TheConstants.{MAX_MOVES}
 use Rattle.lt_world.specs.Fields.{WorldData}
-use Rattle.lt_law_journals.specs.Checking.{Place, first_place, closing_at_rest}
-use Rattle.lt_law_journals.specs.Journals.{HasCome}
+use Rattle.lt_law_journals.specs.Checking.{Place, first_place, closing_at_rest, HasCome}
 use Rattle.lt_law_journals.proofs.Places.{first_begins}
 use Rattle.lt_checker.proofs.reader.Reader.new.Goals as goal
 

@@ -1,11 +1,10 @@
 use Rattle.std.proofs.Common.{sym, subst}
-use Rattle.lt_modes.specs.Made.{Made}
-use Rattle.lt_modes.specs.Telling.{finish}
-use Rattle.lt_desk.specs.OutData.{FitsOut}
-use Rattle.lt_core.specs.CoreData.{Does}
-use Rattle.lt_core.specs.SetCommands.{commanded}
-use Rattle.lt_core.proofs.CommandLemmas.{move_is}
-use Rattle.lt_core.proofs.ServingLemmas.{does_then, fits_first, fits_after}
+use Rattle.lt_modes.specs.State.{Made}
+use Rattle.lt_modes.specs.SetMove.{finish}
+use Rattle.lt_desk.specs.DeskData.{FitsOut}
+use Rattle.lt_core.specs.CoreData.{Does, commanded}
+use Rattle.lt_core.proofs.BoundLemmas.{move_is}
+use Rattle.lt_core.proofs.NoticeLemmas.{does_then, fits_first, fits_after}
 use Rattle.lt_core.proofs.one_set.Core.act.Goals as goal
 
 pub obey-answer-requires-clause-fits : goal.obey-answer-requires-clause-fits

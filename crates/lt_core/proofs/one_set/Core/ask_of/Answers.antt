@@ -1,7 +1,6 @@
-use Rattle.std.proofs.Common.{◌==◌, ◌∙◌, ap}
-use Rattle.std.specs.Prelude.{is_some}
+use Rattle.std.proofs.Common.{◌==◌, ◌∙◌, ap, is_some}
 use Rattle.lt_modes.specs.declared.ask.Ask.{Ask}
-use Rattle.lt_core.proofs.BehindLemmas.{find_some}
+use Rattle.lt_core.proofs.BoundLemmas.{find_some}
 use Rattle.lt_core.proofs.one_set.Core.ask_of.Goals as goal
 
 pub returns-clause-some : goal.returns-clause-some

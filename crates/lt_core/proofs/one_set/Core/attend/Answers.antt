@@ -1,8 +1,7 @@
-use Rattle.lt_modes.specs.Made.{then_do}
-use Rattle.lt_modes.specs.Serving.{serve}
+use Rattle.lt_modes.specs.State.{then_do}
+use Rattle.lt_modes.specs.Serving.{serve, hand_over}
 use Rattle.lt_modes.specs.Freezing.{freeze}
-use Rattle.lt_modes.specs.HandingOver.{hand_over}
-use Rattle.lt_core.proofs.ServingLemmas.{does_then, fits_first, fits_after}
+use Rattle.lt_core.proofs.NoticeLemmas.{does_then, fits_first, fits_after}
 use Rattle.lt_core.proofs.one_set.Core.attend.Goals as goal
 
 pub serve-draw-requires-clause-fits : goal.serve-draw-requires-clause-fits

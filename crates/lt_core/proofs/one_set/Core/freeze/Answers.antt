@@ -1,13 +1,8 @@
-use Rattle.std.proofs.Common.{◌≡◌, ◌∙◌, ◌-◌, Some, map, ap, sym, subst, refl, rules}
-use Rattle.std.specs.VecDeque.{deque_len, deque_capacity}
-use Rattle.lt_modes.specs.State.{SetState, Desk}
-use Rattle.lt_modes.specs.Places.{map_from}
-use Rattle.lt_modes.specs.Freezing.{freeze, frozen_by, frozen_entry, number_after}
-use Rattle.lt_modes.specs.Made.{Made}
-use Rattle.lt_desk.specs.DeskData.{DeskData}
-use Rattle.lt_desk.specs.Freezes.{told_nodes, bits_from}
+use Rattle.std.proofs.Common.{◌≡◌, ◌∙◌, ◌-◌, Some, map, ap, sym, subst, refl, rules, deque_len, deque_capacity}
+use Rattle.lt_modes.specs.State.{SetState, Desk, Made}
+use Rattle.lt_modes.specs.Freezing.{map_from, freeze, frozen_by, frozen_entry, number_after}
+use Rattle.lt_desk.specs.DeskData.{DeskData, told_nodes, bits_from, FitsOut}
 use Rattle.lt_desk.specs.LetterSeen.{parked_seen}
-use Rattle.lt_desk.specs.OutData.{FitsOut}
 use Rattle.lt_core.specs.CoreData.{CoreData, Does, desk_seen, room_by, tells_by}
 use Rattle.lt_core.proofs.NoticeLemmas.{freeze_fits, freeze_sent, freeze_draws}
 use Rattle.lt_core.proofs.one_set.Core.freeze.Goals as goal

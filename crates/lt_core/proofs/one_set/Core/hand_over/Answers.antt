@@ -1,7 +1,6 @@
-use Rattle.std.proofs.Common.{◌≡◌, ◌∙◌, Some, ap, sym, arith, rules}
-use Rattle.std.specs.Prelude.{length}
+use Rattle.std.proofs.Common.{◌≡◌, ◌∙◌, Some, ap, sym, arith, rules, length}
 use Rattle.lt_modes.specs.Serving.{queue_of_desk}
-use Rattle.lt_desk.proofs.DrawLemmas.{draw_in_queue}
+use Rattle.lt_desk.proofs.SeenLemmas.{draw_in_queue}
 use Rattle.lt_core.specs.CoreData.{CoreData, desk_seen}
 use Rattle.lt_core.proofs.one_set.Core.hand_over.Goals as goal
 

@@ -1,5 +1,4 @@
-use Rattle.std.proofs.Common.{map, ◌-◌}
-use Rattle.std.specs.VecDeque.{deque_len, deque_capacity}
+use Rattle.std.proofs.Common.{map, ◌-◌, deque_len, deque_capacity}
 use Rattle.lt_modes.specs.State.{SetState}
 use Rattle.lt_desk.specs.LetterSeen.{parked_seen}
 use Rattle.lt_core.specs.CoreData.{desk_seen, room_by, tells_by}

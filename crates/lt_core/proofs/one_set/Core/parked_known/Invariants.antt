@@ -1,5 +1,4 @@
-use Rattle.std.proofs.Common.{◌≡◌, drop}
-use Rattle.std.specs.Prelude.{filter_map}
+use Rattle.std.proofs.Common.{◌≡◌, drop, filter_map}
 use Rattle.std.specs.List.{list_all}
 use Rattle.lt_modes.specs.Fits.{is_known, ask_if, parked_asks}
 use Rattle.lt_core.proofs.one_set.Core.parked_known.Given as goal

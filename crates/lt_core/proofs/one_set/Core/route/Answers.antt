@@ -3,7 +3,7 @@ use Rattle.std.proofs.lemmas.List.{map-append}
 use Rattle.lt_modes.specs.State.{SetState}
 use Rattle.lt_desk.specs.LetterSeen.{parked_seen}
 use Rattle.lt_core.specs.CoreData.{desk_seen}
-use Rattle.lt_core.proofs.RoomLemmas.{room_less, room_parked}
+use Rattle.lt_core.proofs.NoticeLemmas.{room_less, room_parked}
 use Rattle.lt_core.proofs.one_set.Core.route.Goals as goal
 
 pub returns-in-Park-clause-room : goal.returns-in-Park-clause-room

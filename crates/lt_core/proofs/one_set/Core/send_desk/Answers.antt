@@ -1,11 +1,9 @@
 use Rattle.std.proofs.Common.{◌≡◌, ◌∙◌, ◌+◌, [], ◌∷◌, ◌++◌, Some, None, slice_index_or, map, ap, refl}
 use Rattle.lt_modes.specs.declared.event.Event.TheVariants.{Token}
-use Rattle.lt_modes.specs.State.{SetState, Desk, TokenBody}
-use Rattle.lt_modes.specs.Made.{post_of}
-use Rattle.lt_modes.specs.Queue.{no_ask}
-use Rattle.lt_modes.specs.HandingOver.{leaving, without_desk}
+use Rattle.lt_modes.specs.State.{SetState, Desk, TokenBody, post_of, no_ask}
+use Rattle.lt_modes.specs.Serving.{leaving, without_desk}
 use Rattle.lt_link.specs.LinksData.{LinksData}
-use Rattle.lt_desk.specs.OutData.{OutData}
+use Rattle.lt_desk.specs.DeskData.{OutData}
 use Rattle.lt_desk.specs.LetterSeen.{parked_seen}
 use Rattle.lt_core.specs.CoreData.{CoreData, desk_seen}
 use Rattle.lt_core.proofs.one_set.Core.send_desk.Goals as goal

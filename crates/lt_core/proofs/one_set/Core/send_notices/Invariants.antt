@@ -1,7 +1,6 @@
 use Rattle.std.proofs.Common.{◌≡◌, ◌-◌}
-use Rattle.lt_desk.specs.OutData.{out_after}
-use Rattle.lt_desk.specs.Freezes.{bits_from}
-use Rattle.lt_core.specs.Notices.{notices}
+use Rattle.lt_desk.specs.DeskData.{out_after, bits_from}
+use Rattle.lt_core.specs.Bound.{notices}
 use Rattle.lt_core.proofs.one_set.Core.send_notices.Given as goal
 
 abbrev pub invariant-loop-x : goal.invariant-loop-x

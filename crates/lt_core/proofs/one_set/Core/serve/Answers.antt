@@ -1,10 +1,10 @@
 use Rattle.std.proofs.Common.{◌≡◌, ◌∙◌, length, Some, None, ap, sym, rules}
-use Rattle.lt_modes.specs.Made.{Made}
+use Rattle.lt_modes.specs.State.{Made}
 use Rattle.lt_modes.specs.Serving.{queue_of, next_service, serve, serve_one}
-use Rattle.lt_desk.specs.OutData.{out_after}
+use Rattle.lt_desk.specs.DeskData.{out_after}
 use Rattle.lt_desk.specs.Picks.{service_of}
-use Rattle.lt_desk.proofs.DrawLemmas.{service_is, service_in_queue}
-use Rattle.lt_core.proofs.ServingLemmas.{serve_more, serve_none, out_silent, rest_kept}
+use Rattle.lt_desk.proofs.SeenLemmas.{service_is, service_in_queue}
+use Rattle.lt_core.proofs.NoticeLemmas.{serve_more, serve_none, out_silent, rest_kept}
 use Rattle.lt_core.proofs.one_set.Core.serve.Goals as goal
 
 pub serve_one-requires-clause-within : goal.serve_one-requires-clause-within

@@ -1,6 +1,6 @@
 use Rattle.std.proofs.Common.{◌≡◌, length}
 use Rattle.lt_modes.specs.Serving.{queue_of, serve}
-use Rattle.lt_desk.specs.OutData.{out_after}
+use Rattle.lt_desk.specs.DeskData.{out_after}
 use Rattle.lt_desk.specs.Picks.{picked, IsInQueue}
 use Rattle.lt_core.specs.CoreData.{HasRoom}
 use Rattle.lt_core.proofs.one_set.Core.serve.Given as goal

@@ -1,11 +1,10 @@
 use Rattle.std.proofs.Common.{sym, subst, ℕ}
-use Rattle.lt_modes.specs.Made.{then_do}
-use Rattle.lt_modes.specs.Taking.{arrive}
-use Rattle.lt_modes.specs.Telling.{finish}
+use Rattle.lt_modes.specs.State.{then_do}
+use Rattle.lt_modes.specs.SetMove.{arrive, finish}
 use Rattle.lt_desk.specs.LetterSeen.{letter_seen}
-use Rattle.lt_desk.specs.OutData.{FitsOut}
+use Rattle.lt_desk.specs.DeskData.{FitsOut}
 use Rattle.lt_core.specs.CoreData.{Does}
-use Rattle.lt_core.proofs.ServingLemmas.{does_then, fits_first, fits_after}
+use Rattle.lt_core.proofs.NoticeLemmas.{does_then, fits_first, fits_after}
 use Rattle.lt_core.proofs.one_set.Core.take.Goals as goal
 
 pub arrive-requires-clause-fits : goal.arrive-requires-clause-fits

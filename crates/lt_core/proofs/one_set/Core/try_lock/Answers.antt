@@ -1,11 +1,10 @@
-use Rattle.std.proofs.Common.{ℕ, ◌<◌, length, Bool, true, false, None, arith, length-append, [], ◌∷◌}
-use Rattle.std.specs.Prelude.{if◌then◌else◌}
+use Rattle.std.proofs.Common.{ℕ, ◌<◌, length, Bool, true, false, None, arith, length-append, [], ◌∷◌, if◌then◌else◌}
 use Rattle.lt_modes.specs.declared.mode.Mode.{Mode}
 use Rattle.lt_modes.specs.declared.event.Event.TheVariants as event
 use Rattle.lt_modes.specs.State.{SetState}
 use Rattle.lt_modes.specs.SetMove.{answers, given}
-use Rattle.lt_modes.specs.Granting.{can_grant}
-use Rattle.lt_desk.specs.OutData.{OutData, FitsOut}
+use Rattle.lt_modes.specs.Freezing.{can_grant}
+use Rattle.lt_desk.specs.DeskData.{OutData, FitsOut}
 use Rattle.lt_core.proofs.one_set.Core.try_lock.Goals as goal
 
 -- there is room for the line, whether the client gets the lock or not

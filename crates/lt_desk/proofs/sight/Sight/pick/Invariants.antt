@@ -1,5 +1,4 @@
-use Rattle.std.proofs.Common.{◌≡◌, ◌<◌, drop, length}
-use Rattle.std.specs.Prelude.{IfSome}
+use Rattle.std.proofs.Common.{◌≡◌, ◌<◌, drop, length, IfSome}
 use Rattle.lt_modes.specs.Serving.{next_from, draw_from, next_service, next_draw}
 use Rattle.lt_desk.specs.Sights.{sight_state, desk_of}
 use Rattle.lt_desk.specs.Picks.{first_of}

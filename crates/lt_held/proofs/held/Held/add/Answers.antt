@@ -1,7 +1,7 @@
 use Rattle.std.proofs.Common.{rules, ◌≡◌, ◌+◌, ◌<◌, List, Some, slice_index_or, ap, arith, length}
 use Rattle.std.proofs.lemmas.List.{get_or_default}
 use Rattle.lt_modes.specs.declared.parts.Row.{Row}
-use Rattle.lt_modes.specs.Held.{row_place, count_at, no_row}
+use Rattle.lt_modes.specs.Modes.{row_place, count_at, no_row}
 use Rattle.lt_held.specs.HeldData.{most_locks}
 use Rattle.lt_held.proofs.RowLemmas.{rows_set}
 use Rattle.lt_held.proofs.held.Held.add.Goals as goal

@@ -1,6 +1,6 @@
 use Rattle.std.proofs.Common.{rules, ◌≡◌, not}
 use Rattle.std.proofs.lemmas.Fn.{filter_same}
-use Rattle.lt_modes.specs.Held.{is_of, without_client}
+use Rattle.lt_modes.specs.Modes.{is_of, without_client}
 use Rattle.lt_held.proofs.RowLemmas.{rows_dropped, locks_dropped}
 use Rattle.lt_held.proofs.held.Held.drop_all.Goals as goal
 

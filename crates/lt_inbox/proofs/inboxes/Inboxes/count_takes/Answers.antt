@@ -1,5 +1,4 @@
-use Rattle.std.proofs.Common.{◌∙◌, ◌-◌, Bool, List, length, ap}
-use Rattle.std.specs.VecDeque.{deque_capacity}
+use Rattle.std.proofs.Common.{◌∙◌, ◌-◌, Bool, List, length, ap, deque_capacity}
 use Rattle.lt_inbox.specs.Mail.{MailData, takes_by, takes_in}
 use Rattle.lt_inbox.proofs.TakeOrder.{takes_marked}
 use Rattle.lt_inbox.proofs.inboxes.Inboxes.count_takes.Goals as goal

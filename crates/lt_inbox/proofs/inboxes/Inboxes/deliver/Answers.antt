@@ -1,9 +1,9 @@
 use Rattle.std.proofs.Common.{◌≡◌, ◌∙◌, ℕ, List, [], ◌∷◌, arith, sym, ap, subst}
-use Rattle.lt_modes.specs.Made.{Post}
-use Rattle.lt_desk.specs.OutData.{OutData}
+use Rattle.lt_modes.specs.State.{Post}
+use Rattle.lt_desk.specs.DeskData.{OutData}
 use Rattle.lt_desk.specs.LetterSeen.{post_seen}
 use Rattle.lt_inbox.specs.Mail.{MailData}
-use Rattle.lt_inbox.proofs.Delivered.{LeftToDeliver, delivered_one}
+use Rattle.lt_inbox.proofs.Marks.{LeftToDeliver, delivered_one}
 use Rattle.lt_inbox.proofs.inboxes.Inboxes.deliver.Goals as goal
 
 -- the letter in hand is the next one

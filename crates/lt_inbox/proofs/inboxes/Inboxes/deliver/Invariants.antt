@@ -1,5 +1,5 @@
 use Rattle.std.proofs.Common.{◌≡◌, [], length}
-use Rattle.lt_inbox.proofs.Delivered.{LeftToDeliver}
+use Rattle.lt_inbox.proofs.Marks.{LeftToDeliver}
 use Rattle.lt_inbox.proofs.inboxes.Inboxes.deliver.Given as goal
 
 abbrev pub invariant-loop-post : goal.invariant-loop-post

@@ -1,5 +1,4 @@
-use Rattle.std.proofs.Common.{◌≡◌, ◌<◌, ◌∙◌, Bool, true, ℕ, List, [], ◌∷◌, ◌++◌, length, arith, sym, ap, subst}
-use Rattle.std.specs.Prelude.{slice_set}
+use Rattle.std.proofs.Common.{◌≡◌, ◌<◌, ◌∙◌, Bool, true, ℕ, List, [], ◌∷◌, ◌++◌, length, arith, sym, ap, subst, slice_set}
 use Rattle.std.proofs.lemmas.List.{get_or_default}
 use Rattle.lt_desk.specs.LetterSeen.{letter_seen}
 use Rattle.lt_inbox.specs.Mail.{SentData, MailData, AreMarked, senders_to, put_mark, sent_of}

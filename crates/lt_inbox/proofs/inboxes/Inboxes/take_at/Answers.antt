@@ -1,6 +1,4 @@
-use Rattle.std.proofs.Common.{◌∙◌, ◌-◌, Bool, List, length, ap}
-use Rattle.std.specs.VecDeque.{deque_capacity}
-use Rattle.std.specs.Prelude.{slice_get}
+use Rattle.std.proofs.Common.{◌∙◌, ◌-◌, Bool, List, length, ap, deque_capacity, slice_get}
 use Rattle.lt_spec.specs.FixedOrder.{Turn}
 use Rattle.lt_inbox.specs.Mail.{MailData, takes_by, takes_in}
 use Rattle.lt_inbox.proofs.TakeOrder.{takes_marked}

@@ -1,4 +1,4 @@
-use Rattle.std.proofs.Common.{rules, arith, inl, inr}
+use Rattle.std.proofs.Common.{rules, inl, inr}
 use Rattle.lt_io.proofs.memory.MemorySinkSink.write.Goals.{then-is_stopped-via-then-is_stopped, then-is_stopped-via-else-is_stopped+then-is_err}
 use Rattle.lt_io.proofs.memory.MemorySinkSink.write.Goals as goal
 

@@ -1,5 +1,5 @@
 use Rattle.std.proofs.Common.{arith, inr, ◌<◌, length, ap, ◌∙◌}
-use Rattle.lt_merge.specs.Run.{events_at}
+use Rattle.lt_merge.specs.Merging.{events_at}
 use Rattle.lt_live.proofs.Telling.{tells_move, tells_next}
 use Rattle.lt_live.proofs.ends.Seat.tell.Goals as goal
 

@@ -1,8 +1,7 @@
 use Rattle.std.proofs.Common.{length, take, ◌-◌, ◌≡◌, ◌≤◌, ◌++◌, List}
 use Rattle.lt_live.specs.declared.reply.Reply.{Reply}
-use Rattle.lt_live.specs.Replies.{replies_in}
+use Rattle.lt_live.specs.Seats.{replies_in, OnlyTells}
 use Rattle.lt_live.specs.Words.{told_to}
-use Rattle.lt_live.specs.Seats.{OnlyTells}
 use Rattle.lt_live.proofs.ends.Seat.tell_move.Given as goal
 
 abbrev pub invariant-loop-self : goal.invariant-loop-self

@@ -2,7 +2,7 @@
 use Rattle.std.proofs.Common.{List, subst, sym}
 use Rattle.lt_live.specs.declared.ends.Seat.{Seat}
 use Rattle.lt_live.specs.Stations.{StationData, IsSeatOf, IsStation, AreOthers}
-use Rattle.lt_live.proofs.FirstSeats.{station_more}
+use Rattle.lt_live.proofs.KeptStations.{station_more}
 use Rattle.lt_live.proofs.station.Station.add_seat.Goals as goal
 
 pub invariant_of-self-2 : goal.invariant_of-self-2

@@ -1,8 +1,8 @@
 -- All sessions keep their other ends, and this one is served.
 use Rattle.std.proofs.Common.{subst, sym}
 use Rattle.lt_live.specs.Stations.{StationData, IsSeated, StaySeated}
-use Rattle.lt_live.specs.Finished.{ServedBy}
-use Rattle.lt_live.proofs.Linked.{looked_stays}
+use Rattle.lt_live.specs.Live.{ServedBy}
+use Rattle.lt_live.proofs.Telling.{looked_stays}
 use Rattle.lt_live.proofs.Settling.{look_stays, look_serves}
 use Rattle.lt_live.proofs.station.Station.beside.Goals as goal
 

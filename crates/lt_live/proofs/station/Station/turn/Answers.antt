@@ -2,8 +2,8 @@
 use Rattle.std.proofs.Common.{subst, sym}
 use Rattle.lt_live.specs.Stations.{StationData, IsSeated}
 use Rattle.lt_live.specs.Live.{GoesOn}
-use Rattle.lt_live.proofs.Linked.{seats_stay}
-use Rattle.lt_live.proofs.Live.{turn_goes_on}
+use Rattle.lt_live.proofs.Telling.{seats_stay}
+use Rattle.lt_live.proofs.Settling.{turn_goes_on}
 use Rattle.lt_live.proofs.station.Station.turn.Goals as goal
 
 pub returns-clause-goes_on : goal.returns-clause-goes_on

@@ -1,5 +1,5 @@
 -- Where a flush stops.
-use Rattle.lt_mail.proofs.WordLemmas.{flushes_stop}
+use Rattle.lt_mail.proofs.LookLemmas.{flushes_stop}
 use Rattle.lt_mail.proofs.mail.Mail.flush.Goals as goal
 
 pub returns-clause-stops : goal.returns-clause-stops

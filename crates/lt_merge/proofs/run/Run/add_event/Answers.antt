@@ -1,6 +1,6 @@
 use Rattle.std.proofs.Common.{ap, ◌∙◌, arith, List, ◌≡◌, length, vec_len}
 use Rattle.lt_modes.specs.declared.event.Event.{Event}
-use Rattle.lt_merge.specs.Run.{RunData, with_event}
+use Rattle.lt_merge.specs.Merging.{RunData, with_event}
 use Rattle.lt_merge.specs.Marks.{entries_of}
 use Rattle.lt_merge.proofs.Laid.{laid_grow, entries_of-event, length-entries_of}
 use Rattle.lt_merge.proofs.run.Run.add_event.Goals as goal

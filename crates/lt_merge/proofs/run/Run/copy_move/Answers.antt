@@ -1,13 +1,12 @@
-use Rattle.std.proofs.Common.{ap, sym, subst, ◌∙◌, arith, length, ◌++◌, ◌∷◌, [], List, ◌≡◌}
-use Rattle.std.specs.Prelude.{vec_len}
+use Rattle.std.proofs.Common.{ap, sym, subst, ◌∙◌, arith, length, ◌++◌, ◌∷◌, [], List, ◌≡◌, vec_len}
 use Rattle.lt_modes.specs.declared.event.Event.{Event}
 use Rattle.lt_modes.specs.declared.moves.Move.{Move}
-use Rattle.lt_spec.specs.Log.{Logged}
+use Rattle.lt_spec.specs.World.{Logged}
 use Rattle.lt_merge.specs.declared.run.Mark.{Mark}
-use Rattle.lt_merge.specs.Run.{RunData}
+use Rattle.lt_merge.specs.Merging.{RunData}
 use Rattle.lt_merge.specs.Marks.{entries_of, IsLaid}
 use Rattle.lt_merge.proofs.Laid.{laid_add, entries_of-add, length-entries_of}
-use Rattle.lt_merge.proofs.Copying.{copied}
+use Rattle.lt_merge.proofs.Taking.{copied}
 use Rattle.lt_merge.proofs.run.Run.copy_move.Goals as goal
 
 pub invariant_of-self-2 : goal.invariant_of-self-2

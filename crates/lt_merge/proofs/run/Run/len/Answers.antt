@@ -1,5 +1,5 @@
 use Rattle.std.proofs.Common.{ap, arith, length}
-use Rattle.lt_merge.specs.Run.{RunData}
+use Rattle.lt_merge.specs.Merging.{RunData}
 use Rattle.lt_merge.proofs.Laid.{length-entries_of}
 use Rattle.lt_merge.proofs.run.Run.len.Goals as goal
 

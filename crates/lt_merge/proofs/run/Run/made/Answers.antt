@@ -1,8 +1,7 @@
-use Rattle.std.proofs.Common.{ap, arith, length, ◌∙◌, sym, Option, ◌<◌, Some, refl}
-use Rattle.std.specs.Option.{option_map}
+use Rattle.std.proofs.Common.{ap, arith, length, ◌∙◌, sym, Option, ◌<◌, Some, refl, option_map}
 use Rattle.std.proofs.lemmas.Option.{slice_get_read}
 use Rattle.lt_merge.specs.declared.run.Mark.{Mark}
-use Rattle.lt_merge.specs.Run.{RunData, made_at}
+use Rattle.lt_merge.specs.Merging.{RunData, made_at}
 use Rattle.lt_merge.specs.Marks.{move_by}
 use Rattle.lt_merge.proofs.Laid.{length-entries_of, made_at-entries_of}
 use Rattle.lt_merge.proofs.run.Run.made.Goals as goal

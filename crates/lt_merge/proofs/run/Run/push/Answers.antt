@@ -1,7 +1,7 @@
 use Rattle.std.proofs.Common.{◌≡◌, ◌++◌, ◌∷◌, [], ap, subst, ◌∙◌, arith, List, length, vec_len}
 use Rattle.lt_modes.specs.declared.moves.Move.{Move}
 use Rattle.lt_merge.specs.declared.run.Mark.{Mark}
-use Rattle.lt_merge.specs.Run.{just_made, RunData}
+use Rattle.lt_merge.specs.Merging.{just_made, RunData}
 use Rattle.lt_merge.specs.Marks.{entries_of, IsLaid}
 use Rattle.lt_merge.proofs.Laid.{laid_add, entries_of-push, length-entries_of}
 use Rattle.lt_merge.proofs.run.Run.push.Goals as goal

@@ -1,11 +1,10 @@
-use Rattle.std.proofs.Common.{◌≡◌, ◌∙◌, ap, sym, ℕ, arith, get_or, take}
-use Rattle.std.specs.Prelude.{fold}
+use Rattle.std.proofs.Common.{◌≡◌, ◌∙◌, ap, sym, ℕ, arith, get_or, take, fold}
 use Rattle.std.proofs.lemmas.List.Sums.{fold_more}
 use Rattle.lt_modes.specs.declared.mode.Mode.{Mode}
 use Rattle.lt_modes.specs.declared.mode.Mode.TheVariants.{IntentionRead}
 use Rattle.lt_modes.specs.declared.mode.TheConstants.{MODES}
 use Rattle.lt_modes.specs.Modes.{Modes, no_modes}
-use Rattle.lt_modes.specs.Counts.{with_beyond}
+use Rattle.lt_modes.specs.FiveModes.{with_beyond}
 use Rattle.lt_modes.proofs.PlaceLemmas.{all_beyond}
 use Rattle.lt_modes.proofs.counts.ModeCounts.beyond.Goals as goal
 

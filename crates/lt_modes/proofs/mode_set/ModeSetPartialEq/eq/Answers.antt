@@ -1,4 +1,4 @@
-use Rattle.lt_modes.specs.Masks.{mask_of_modes_of}
+use Rattle.lt_modes.specs.FiveModes.{mask_of_modes_of}
 use Rattle.lt_modes.proofs.mode_set.ModeSetPartialEq.eq.Goals as goal
 
 pub returns : goal.returns

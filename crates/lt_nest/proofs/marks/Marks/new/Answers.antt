@@ -1,5 +1,5 @@
 use Rattle.std.proofs.Common.{refl, sym, ◌∙◌, arith}
-use Rattle.lt_nest.proofs.MarkedWalks.{walk_begins, walk_goes_on, walk_ends, walk_leaves}
+use Rattle.lt_nest.proofs.Orphans.{walk_begins, walk_goes_on, walk_ends, walk_leaves}
 use Rattle.lt_nest.proofs.marks.Marks.new.Goals as goal
 
 pub loop-at-init : goal.loop-at-init

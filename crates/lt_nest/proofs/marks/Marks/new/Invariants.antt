@@ -1,4 +1,4 @@
-use Rattle.lt_nest.proofs.MarkedWalks.{MarksOwnTo}
+use Rattle.lt_nest.proofs.Orphans.{MarksOwnTo}
 use Rattle.lt_nest.proofs.marks.Marks.new.Given as goal
 
 abbrev pub invariant-loop-at : goal.invariant-loop-at

@@ -1,6 +1,4 @@
-use Rattle.std.proofs.Common.{rules, ◌≡◌, ap, sym, ◌∙◌, Bool, true, false, List}
-use Rattle.std.specs.Prelude.{if◌then◌else◌, is_some}
-use Rattle.std.specs.VecDeque.{deque_capacity}
+use Rattle.std.proofs.Common.{rules, ◌≡◌, ap, sym, ◌∙◌, Bool, true, false, List, if◌then◌else◌, is_some, deque_capacity}
 use Rattle.lt_nest.specs.declared.forest.Transaction.{Transaction}
 use Rattle.lt_nest.specs.declared.answers.Ended.TheVariants.{Done, HasChildren}
 use Rattle.lt_nest.specs.Forest.{is_open_transaction}

@@ -1,5 +1,4 @@
-use Rattle.std.proofs.Common.{rules, ◌≡◌, ap, sym, ◌∙◌, List, None}
-use Rattle.std.specs.Prelude.{position}
+use Rattle.std.proofs.Common.{rules, ◌≡◌, ap, sym, ◌∙◌, List, None, position}
 use Rattle.lt_nest.specs.declared.locks.Entry.{Entry}
 use Rattle.lt_nest.specs.Locks.{LockSet, is_held_by}
 use Rattle.lt_nest.proofs.ChangedSets.{inherit_nothing}

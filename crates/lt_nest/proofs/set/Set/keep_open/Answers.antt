@@ -1,5 +1,4 @@
-use Rattle.std.proofs.Common.{◌≡◌, ◌≤◌, sym, ◌∙◌, true, false, length, arith}
-use Rattle.std.proofs.lemmas.Bool.{lt-ltb, ltb-false}
+use Rattle.std.proofs.Common.{◌≡◌, ◌≤◌, sym, ◌∙◌, true, false, length, arith, lt-ltb, ltb-false}
 use Rattle.lt_nest.specs.Locks.{LockSet}
 use Rattle.lt_nest.proofs.ChangedSets.{kept_same}
 use Rattle.lt_nest.proofs.set.Set.keep_open.Goals as goal

@@ -1,6 +1,6 @@
 use Rattle.std.proofs.Common.{sym, subst, List, ℕ}
 use Rattle.std.proofs.lemmas.Result.{IfOk-weaker, IfErr-weaker}
-use Rattle.lt_io.specs.Whole.{Left}
+use Rattle.lt_io.specs.Streams.{Left}
 use Rattle.lt_nest_lines.proofs.Judged.{text_written, fault_refusal, fault_reading}
 use Rattle.lt_nest_lines.proofs.nested.NestedWork.make.Goals as goal
 

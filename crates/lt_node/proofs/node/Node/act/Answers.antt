@@ -3,11 +3,10 @@ use Rattle.lt_modes.specs.declared.stamp.Stamp.{Stamp}
 use Rattle.lt_modes.specs.Script.{ScriptData}
 use Rattle.lt_core.specs.CoreData.{CoreData}
 use Rattle.lt_spec.specs.NodeMove.{NodeState}
-use Rattle.lt_node.specs.NodeData.{state_of}
-use Rattle.lt_node.specs.Answers.{answer_to, answer_if}
-use Rattle.lt_node.specs.Room.{IsReady}
+use Rattle.lt_node.specs.NodeData.{state_of, IsReady}
+use Rattle.lt_node.specs.Clients.{answer_to, answer_if}
 use Rattle.lt_node.proofs.DropLemmas.{answer_after}
-use Rattle.lt_node.proofs.WithinLemmas.{ready_to_act}
+use Rattle.lt_node.proofs.NodeLemmas.{ready_to_act}
 use Rattle.lt_node.proofs.node.Node.act.Goals as goal
 
 pub obey-requires-clause-ready : goal.obey-requires-clause-ready

@@ -6,7 +6,7 @@ use Rattle.lt_node.specs.NodeData.{NodeData}
 use Rattle.lt_node.specs.Clients.{progress_made}
 use Rattle.lt_node.proofs.NodeLemmas.{node_is}
 use Rattle.lt_node.proofs.AdvanceLemmas.{HasNext, next_at, next_is, next_targets, advanced_at, node_advanced, clients_advanced}
-use Rattle.lt_node.proofs.StillWithin.{known_later}
+use Rattle.lt_node.proofs.MarkLemmas.{known_later}
 use Rattle.lt_node.proofs.node.Node.advance.Goals as goal
 
 pub next-requires-clause-few : goal.next-requires-clause-few

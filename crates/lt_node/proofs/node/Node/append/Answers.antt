@@ -1,9 +1,9 @@
 use Rattle.std.proofs.Common.{length, refl, subst, sym}
 use Rattle.lt_modes.specs.Script.{ScriptData}
-use Rattle.lt_node.specs.Marks.{TellsWaiting}
-use Rattle.lt_node.specs.Running.{AreOwn}
+use Rattle.lt_node.specs.NodeData.{TellsWaiting}
+use Rattle.lt_node.specs.Clients.{AreOwn}
 use Rattle.lt_node.proofs.MarkLemmas.{waiting_appended}
-use Rattle.lt_node.proofs.AppendLemmas.{appended_at}
+use Rattle.lt_node.proofs.AdvanceLemmas.{appended_at}
 use Rattle.lt_node.proofs.node.Node.append.Goals as goal
 
 pub invariant_of-self-2 : goal.invariant_of-self-2

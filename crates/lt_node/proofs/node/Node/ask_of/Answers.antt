@@ -1,7 +1,6 @@
-use Rattle.std.proofs.Common.{length, ◌∙◌, ap}
-use Rattle.std.specs.Prelude.{is_some}
+use Rattle.std.proofs.Common.{length, ◌∙◌, ap, is_some}
 use Rattle.lt_node.specs.NodeData.{state_of}
-use Rattle.lt_node.proofs.AskSearch.{ask_found}
+use Rattle.lt_node.proofs.MarkLemmas.{ask_found}
 use Rattle.lt_node.proofs.node.Node.ask_of.Goals as goal
 
 pub returns-clause-some : goal.returns-clause-some

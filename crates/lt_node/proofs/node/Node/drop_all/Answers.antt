@@ -1,8 +1,7 @@
 use Rattle.std.proofs.Common.{◌∙◌, sym, ap, Some, None}
 use Rattle.lt_modes.specs.declared.event.Event.TheVariants as events
 use Rattle.lt_core.specs.declared.set_command.Answer.TheVariants.{Dropped}
-use Rattle.lt_spec.specs.Families.{related}
-use Rattle.lt_spec.specs.NodeMove.{node_waits}
+use Rattle.lt_spec.specs.NodeMove.{related, node_waits}
 use Rattle.lt_node.specs.NodeData.{state_of}
 use Rattle.lt_node.proofs.DropLemmas.{drop_done, busy_is, dropped_is, locks_are}
 use Rattle.lt_node.proofs.node.Node.drop_all.Goals as goal

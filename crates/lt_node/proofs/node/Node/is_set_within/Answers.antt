@@ -1,5 +1,5 @@
 use Rattle.std.proofs.Common.{◌∙◌, sym}
-use Rattle.lt_node.proofs.StillWithin.{within_at, within_known}
+use Rattle.lt_node.proofs.MarkLemmas.{within_at, within_known}
 use Rattle.lt_node.proofs.node.Node.is_set_within.Goals as goal
 
 pub returns-then-is_some : goal.returns-then-is_some

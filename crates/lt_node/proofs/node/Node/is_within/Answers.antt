@@ -1,7 +1,6 @@
-use Rattle.std.proofs.Common.{◌∙◌, length, sym, ap, arith}
-use Rattle.std.specs.Prelude.{not}
+use Rattle.std.proofs.Common.{◌∙◌, length, sym, ap, arith, not}
 use Rattle.lt_lists.proofs.Searches.{any_below_at}
-use Rattle.lt_spec.specs.Limits.{set_within}
+use Rattle.lt_spec.specs.NodeMove.{set_within}
 use Rattle.lt_node.specs.NodeData.{NodeData, state_of}
 use Rattle.lt_node.proofs.node.Node.is_within.Goals as goal
 

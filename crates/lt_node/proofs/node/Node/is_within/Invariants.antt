@@ -1,7 +1,6 @@
-use Rattle.std.proofs.Common.{◌≡◌, false}
-use Rattle.std.specs.Prelude.{not}
+use Rattle.std.proofs.Common.{◌≡◌, false, not}
 use Rattle.lt_lists.specs.Below.{any_below}
-use Rattle.lt_spec.specs.Limits.{set_within}
+use Rattle.lt_spec.specs.NodeMove.{set_within}
 use Rattle.lt_node.specs.NodeData.{state_of}
 use Rattle.lt_node.proofs.node.Node.is_within.Given as goal
 

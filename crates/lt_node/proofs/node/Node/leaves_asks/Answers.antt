@@ -1,6 +1,5 @@
-use Rattle.std.proofs.Common.{◌∙◌, sym, ap, arith}
-use Rattle.std.specs.Prelude.{not}
-use Rattle.lt_spec.specs.Limits.{leaves_ask}
+use Rattle.std.proofs.Common.{◌∙◌, sym, ap, arith, not}
+use Rattle.lt_spec.specs.NodeMove.{leaves_ask}
 use Rattle.lt_node.proofs.NodeLemmas.{found_in}
 use Rattle.lt_node.proofs.node.Node.leaves_asks.Goals as goal
 

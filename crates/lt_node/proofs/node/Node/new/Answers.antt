@@ -1,9 +1,8 @@
 use Rattle.std.proofs.Common.{ℕ, subst, sym}
-use Rattle.lt_node.specs.Ready.{KnowsNone}
+use Rattle.lt_node.specs.NodeData.{KnowsNone}
 use Rattle.lt_node.proofs.ReadyLemmas.{none_known}
-use Rattle.lt_node.proofs.StillWithin.{within_none}
-use Rattle.lt_node.proofs.StartLemmas.{clients_known, node_at_start, state_at_start}
-use Rattle.lt_node.proofs.MarkLemmas.{waiting_first}
+use Rattle.lt_node.proofs.MarkLemmas.{within_none, waiting_first}
+use Rattle.lt_node.proofs.RequestLemmas.{clients_known, node_at_start, state_at_start}
 use Rattle.lt_node.proofs.node.Node.new.Goals as goal
 
 pub invariant_of-result : goal.invariant_of-result

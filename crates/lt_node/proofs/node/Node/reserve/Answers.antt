@@ -1,9 +1,7 @@
 use Rattle.std.proofs.Common.{ap, arith, sum_by, ◌∙◌}
-use Rattle.lt_node.specs.NodeData.{NodeData}
-use Rattle.lt_node.specs.Room.{most_sent}
-use Rattle.lt_node.proofs.KeptLemmas.{few_asks, node_same, same_node, sent_kept}
-use Rattle.lt_node.proofs.MarkLemmas.{waiting_kept}
-use Rattle.lt_node.proofs.StillWithin.{within_reserved}
+use Rattle.lt_node.specs.NodeData.{NodeData, most_sent}
+use Rattle.lt_node.proofs.NodeLemmas.{few_asks, node_same, same_node, sent_kept}
+use Rattle.lt_node.proofs.MarkLemmas.{waiting_kept, within_reserved}
 use Rattle.lt_node.proofs.node.Node.reserve.Goals as goal
 
 pub reserve_each-requires-clause-few : goal.reserve_each-requires-clause-few

@@ -1,10 +1,9 @@
 use Rattle.std.proofs.Common.{ap, arith, length, slice_set}
 use Rattle.lt_node.specs.NodeData.{NodeData}
-use Rattle.lt_node.proofs.KeptLemmas.{kept_set, node_same, same_node}
-use Rattle.lt_node.proofs.MarkLemmas.{waiting_kept}
+use Rattle.lt_node.proofs.NodeLemmas.{kept_set, node_same, same_node}
+use Rattle.lt_node.proofs.MarkLemmas.{waiting_kept, within_forgotten}
 use Rattle.lt_node.proofs.ReadyLemmas.{known_forgotten}
-use Rattle.lt_node.proofs.StillWithin.{within_forgotten}
-use Rattle.lt_node.proofs.TakeLemmas.{taken_by}
+use Rattle.lt_node.proofs.TokenLemmas.{taken_by}
 use Rattle.lt_node.proofs.node.Node.reserve_for.Goals as goal
 
 pub reserve_for-requires-clause-few : goal.reserve_for-requires-clause-few

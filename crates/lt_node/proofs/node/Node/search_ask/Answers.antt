@@ -1,11 +1,9 @@
-use Rattle.std.proofs.Common.{◌≡◌, ◌∙◌, ℕ, suc, Option, Some, length, sym, ap, ap₂, arith}
-use Rattle.std.specs.Prelude.{option_map}
+use Rattle.std.proofs.Common.{◌≡◌, ◌∙◌, ℕ, suc, Option, Some, length, sym, ap, ap₂, arith, option_map}
 use Rattle.std.specs.Option.{option_or}
 use Rattle.lt_modes.specs.declared.ask.Ask.{Ask}
 use Rattle.lt_modes.specs.Waiting.{pending_ask}
-use Rattle.lt_node.specs.NodeData.{NodeData, state_of}
-use Rattle.lt_node.specs.Asks.{ask_below}
-use Rattle.lt_node.proofs.AskSearch.{ask_stays}
+use Rattle.lt_node.specs.NodeData.{NodeData, state_of, ask_below}
+use Rattle.lt_node.proofs.MarkLemmas.{ask_stays}
 use Rattle.lt_node.proofs.node.Node.search_ask.Goals as goal
 
 pub returns-in-Some : goal.returns-in-Some

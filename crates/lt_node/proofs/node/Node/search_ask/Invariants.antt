@@ -1,6 +1,5 @@
 use Rattle.std.proofs.Common.{◌≡◌, None}
-use Rattle.lt_node.specs.NodeData.{state_of}
-use Rattle.lt_node.specs.Asks.{ask_below}
+use Rattle.lt_node.specs.NodeData.{state_of, ask_below}
 use Rattle.lt_node.proofs.node.Node.search_ask.Given as goal
 
 abbrev pub invariant-loop-set : goal.invariant-loop-set

@@ -2,10 +2,9 @@ use Rattle.std.proofs.Common.{ap, arith, length}
 use Rattle.lt_modes.specs.declared.stamp.Stamp.{Stamp}
 use Rattle.lt_node.proofs.NodeLemmas.{node_is, node_kept}
 use Rattle.lt_node.specs.NodeData.{NodeData}
-use Rattle.lt_node.proofs.MarkLemmas.{remarked, waiting_noted}
+use Rattle.lt_node.proofs.MarkLemmas.{remarked, waiting_noted, known_later, within_forgotten}
 use Rattle.lt_node.proofs.ReadyLemmas.{known_forgotten}
-use Rattle.lt_node.proofs.StillWithin.{known_later, within_forgotten}
-use Rattle.lt_node.proofs.TakeLemmas.{IsTakenBy, CanTake, taken_by, can_take, take_does, place_stays}
+use Rattle.lt_node.proofs.TokenLemmas.{IsTakenBy, CanTake, taken_by, can_take, take_does, place_stays}
 use Rattle.lt_node.proofs.node.Node.take.Goals as goal
 
 taken : (c : goal.After-take-arg-2-1) → IsTakenBy c.args.self.now c.args.letter c.index_mut-core.result.now

@@ -1,12 +1,10 @@
 use Rattle.std.proofs.Common.{◌∙◌, sym, ap, arith, subst, length}
-use Rattle.lt_core.specs.SetCommands.{move_of}
-use Rattle.lt_node.specs.NodeData.{NodeData, IsCoreOf}
-use Rattle.lt_node.specs.Room.{IsReady}
+use Rattle.lt_core.specs.CoreData.{move_of}
+use Rattle.lt_node.specs.NodeData.{NodeData, IsCoreOf, IsReady}
 use Rattle.lt_node.proofs.NodeLemmas.{touched_by, touch_done, node_kept}
-use Rattle.lt_node.proofs.MarkLemmas.{remarked, waiting_noted}
+use Rattle.lt_node.proofs.MarkLemmas.{remarked, waiting_noted, within_forgotten}
 use Rattle.lt_node.proofs.ReadyLemmas.{known_forgotten}
-use Rattle.lt_node.proofs.StillWithin.{within_forgotten}
-use Rattle.lt_node.proofs.ActLemmas.{command_fits}
+use Rattle.lt_node.proofs.FamilyLemmas.{command_fits}
 use Rattle.lt_node.proofs.node.Node.touch.Goals as goal
 
 pub act-answer-requires-clause-node : goal.act-answer-requires-clause-node

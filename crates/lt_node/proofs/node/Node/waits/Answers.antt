@@ -1,5 +1,4 @@
-use Rattle.std.proofs.Common.{◌≡◌, ◌∙◌, ◌==◌, ◌<◌, ℕ, ap, arith, length, slice_index_or}
-use Rattle.std.specs.Prelude.{not}
+use Rattle.std.proofs.Common.{◌≡◌, ◌∙◌, ◌==◌, ◌<◌, ℕ, ap, arith, length, slice_index_or, not}
 use Rattle.std.proofs.lemmas.List.{get_or_default}
 use Rattle.lt_spec.specs.NodeMove.{node_waits}
 use Rattle.lt_node.specs.NodeData.{NodeData, state_of}

@@ -1,8 +1,7 @@
-use Rattle.std.proofs.Common.{ℕ, ap, arith, ◌∙◌, List, Option, ◌++◌, ◌∷◌, [], Some}
-use Rattle.std.specs.Prelude.{slice_set}
+use Rattle.std.proofs.Common.{ℕ, ap, arith, ◌∙◌, List, Option, ◌++◌, ◌∷◌, [], Some, slice_set}
 use Rattle.lt_modes.specs.declared.mode.Mode.{Mode}
 use Rattle.lt_spec.specs.Holdings.{holding}
-use Rattle.lt_spec.specs.Ordered.{are_below}
+use Rattle.lt_spec.specs.Script.{are_below}
 use Rattle.lt_order.specs.Locks.{locks_for}
 use Rattle.lt_order.proofs.locks.Locks.add.Goals as goal
 use Rattle.lt_order.proofs.LockLists.{added_last}

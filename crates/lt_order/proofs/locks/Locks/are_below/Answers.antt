@@ -1,6 +1,6 @@
 use Rattle.std.proofs.Common.{ℕ, ap, arith, ◌∙◌, List, Option}
 use Rattle.lt_modes.specs.declared.mode.Mode.{Mode}
-use Rattle.lt_spec.specs.Ordered.{are_below}
+use Rattle.lt_spec.specs.Script.{are_below}
 use Rattle.lt_order.specs.Locks.{locks_for}
 use Rattle.lt_order.proofs.locks.Locks.are_below.Goals as goal
 use Rattle.lt_order.proofs.LockLists.{below_by_part}

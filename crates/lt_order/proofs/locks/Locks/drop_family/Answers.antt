@@ -1,10 +1,9 @@
-use Rattle.std.proofs.Common.{ℕ, ap, arith, ◌∙◌, List, Option, None}
-use Rattle.std.specs.Prelude.{slice_index_or, filter, not, if◌then◌else◌}
+use Rattle.std.proofs.Common.{ℕ, ap, arith, ◌∙◌, List, Option, None, slice_index_or, filter, not, if◌then◌else◌}
 use Rattle.lt_modes.specs.declared.mode.Mode.{Mode}
 use Rattle.lt_spec.specs.Holdings.{Holding, is_dropped}
 use Rattle.lt_order.specs.Locks.{locks_for}
 use Rattle.lt_order.proofs.locks.Locks.drop_family.Goals as goal
-use Rattle.lt_spec.specs.Families.{is_related}
+use Rattle.lt_spec.specs.NodeMove.{is_related}
 use Rattle.lt_order.proofs.LockLists.{family_dropped}
 
 pub returns : goal.returns

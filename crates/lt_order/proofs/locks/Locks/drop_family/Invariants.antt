@@ -1,6 +1,5 @@
-use Rattle.std.proofs.Common.{◌≡◌, ◌<◌, ◌≤◌, ℕ, length, None, slice_index_or}
-use Rattle.std.specs.Prelude.{if◌then◌else◌}
-use Rattle.lt_spec.specs.Families.{is_related}
+use Rattle.std.proofs.Common.{◌≡◌, ◌<◌, ◌≤◌, ℕ, length, None, slice_index_or, if◌then◌else◌}
+use Rattle.lt_spec.specs.NodeMove.{is_related}
 use Rattle.lt_order.proofs.locks.Locks.drop_family.Given as goal
 
 -- the sets before this one are as they come out, and the others as they were

@@ -1,6 +1,6 @@
 use Rattle.std.proofs.Common.{sym, ap, ◌∙◌, List, Option}
 use Rattle.lt_modes.specs.declared.mode.Mode.{Mode}
-use Rattle.lt_spec.specs.Ordered.{holds_none}
+use Rattle.lt_spec.specs.Script.{holds_none}
 use Rattle.lt_order.specs.Locks.{locks_for}
 use Rattle.lt_order.proofs.locks.Locks.is_empty.Goals as goal
 use Rattle.lt_order.proofs.LockLists.{none_by_modes}

@@ -1,5 +1,4 @@
-use Rattle.std.proofs.Common.{ℕ, sym, ap, arith, ◌∙◌, List, Option, None}
-use Rattle.std.specs.Prelude.{slice_set, slice_index_or}
+use Rattle.std.proofs.Common.{ℕ, sym, ap, arith, ◌∙◌, List, Option, None, slice_set, slice_index_or}
 use Rattle.lt_modes.specs.declared.mode.Mode.{Mode}
 use Rattle.lt_spec.specs.Holdings.{holding, without_one}
 use Rattle.lt_order.specs.Locks.{locks_for, is_mode}

@@ -1,5 +1,5 @@
 use Rattle.std.proofs.Common.{rules, subst, ap, List}
-use Rattle.lt_pool.specs.Items.{EachContinues}
+use Rattle.lt_pool.specs.Rule.{EachContinues}
 use Rattle.lt_pool.specs.PoolData.{PoolData}
 use Rattle.lt_pool.proofs.ClosingLemmas.{leaves, left_continue}
 use Rattle.lt_pool.proofs.pool.Pool.close.Goals as goal

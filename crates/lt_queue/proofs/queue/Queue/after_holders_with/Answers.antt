@@ -1,5 +1,5 @@
 use Rattle.std.proofs.Common.{◌≡◌, ◌+◌, ◌<◌, ◌^◌, length, ap, arith, refl, rules, subst}
-use Rattle.lt_modes.specs.Queue.{after_holders_from, entered}
+use Rattle.lt_modes.specs.State.{after_holders_from, entered}
 use Rattle.lt_queue.proofs.HolderLemmas.{kept_holder, kept_plain, kept_within}
 use Rattle.lt_queue.proofs.queue.Queue.after_holders_with.Goals as goal
 

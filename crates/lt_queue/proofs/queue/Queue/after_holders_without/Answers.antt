@@ -1,5 +1,5 @@
 use Rattle.std.proofs.Common.{◌≡◌, ◌<◌, ◌≤◌, ◌+◌, ◌-◌, length, take, remove, ap, arith, rules, subst}
-use Rattle.lt_modes.specs.Queue.{after_holders_from}
+use Rattle.lt_modes.specs.State.{after_holders_from}
 use Rattle.lt_queue.proofs.HolderLemmas.{kept_after, kept_before, kept_last}
 use Rattle.lt_queue.proofs.queue.Queue.after_holders_without.Goals as goal
 

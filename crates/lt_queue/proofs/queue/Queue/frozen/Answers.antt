@@ -1,6 +1,6 @@
 use Rattle.std.proofs.Common.{◌∙◌, ap}
 use Rattle.lt_modes.specs.Modes.{bars}
-use Rattle.lt_modes.specs.Queue.{modes_of_asks}
+use Rattle.lt_modes.specs.State.{modes_of_asks}
 use Rattle.lt_queue.proofs.AskedLemmas.{modes_are}
 use Rattle.lt_queue.proofs.queue.Queue.frozen.Goals as goal
 

@@ -1,5 +1,5 @@
 use Rattle.std.proofs.Common.{rules, subst, sym, arith}
-use Rattle.lt_queue.specs.AskCounts.{AreAskCounts}
+use Rattle.lt_queue.specs.QueueData.{AreAskCounts}
 use Rattle.lt_queue.proofs.AskedLemmas.{one_went}
 use Rattle.lt_queue.proofs.queue.Queue.remove.Goals as goal
 

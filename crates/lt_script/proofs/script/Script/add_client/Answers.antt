@@ -1,5 +1,4 @@
-use Rattle.std.proofs.Common.{◌≡◌, ◌<◌, false, length, sym, subst}
-use Rattle.std.specs.Prelude.{IsOk}
+use Rattle.std.proofs.Common.{◌≡◌, ◌<◌, false, length, sym, subst, IsOk}
 use Rattle.lt_modes.specs.Script.{ScriptData, ClientData}
 use Rattle.lt_spec.specs.declared.limits.TheConstants.{MAX_CLIENTS_OF_NODE}
 use Rattle.lt_spec.specs.Script.{most_clients, load_of, is_declared}

@@ -1,5 +1,4 @@
-use Rattle.std.proofs.Common.{◌≡◌, ◌<◌, false, length, sym, subst}
-use Rattle.std.specs.Prelude.{IsOk}
+use Rattle.std.proofs.Common.{◌≡◌, ◌<◌, false, length, sym, subst, IsOk}
 use Rattle.lt_modes.specs.Script.{ScriptData, SetData}
 use Rattle.lt_spec.specs.declared.limits.TheConstants.{MAX_SETS}
 use Rattle.lt_spec.specs.Script.{IsFamilyOfNext, is_declared}

@@ -1,6 +1,6 @@
 use Rattle.std.proofs.Common.{◌≡◌, Some, map, ap, rules}
 use Rattle.lt_table.specs.Seen.{entry_seen}
-use Rattle.lt_table.proofs.ToldLemmas.{all_were_told}
+use Rattle.lt_table.proofs.RecountLemmas.{all_were_told}
 use Rattle.lt_table.proofs.table.Table.all_told.Goals as goal
 
 pub returns-in-Some : goal.returns-in-Some

@@ -1,5 +1,5 @@
 use Rattle.std.proofs.Common.{subst, sym, ap}
-use Rattle.lt_table.specs.Told.{AreTold}
+use Rattle.lt_table.specs.TableData.{AreTold}
 use Rattle.lt_table.proofs.table.Table.note_told.Goals as goal
 
 pub invariant_of-self : goal.invariant_of-self

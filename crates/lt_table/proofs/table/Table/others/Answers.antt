@@ -1,6 +1,6 @@
 use Rattle.std.proofs.Common.{subst, ap, ◌∙◌}
 use Rattle.lt_modes.specs.Modes.{union}
-use Rattle.lt_table.specs.NodeCounts.{AreNodeCounts}
+use Rattle.lt_table.specs.TableData.{AreNodeCounts}
 use Rattle.lt_table.proofs.RecountLemmas.{others_are_apart, others_are_plain}
 use Rattle.lt_table.proofs.table.Table.others.Goals as goal
 

@@ -2,9 +2,7 @@ use Rattle.std.proofs.Common.{◌<◌, length, ap, arith, refl, rules}
 use Rattle.lt_modes.specs.Serving.{owing}
 use Rattle.lt_table.specs.Seen.{spare_of}
 use Rattle.lt_table.specs.TableData.{ask_with}
-use Rattle.lt_table.proofs.EntryLemmas.{spare_at, spare_set, entries_put}
-use Rattle.lt_table.proofs.RecountLemmas.{can_recount, recounted}
-use Rattle.lt_table.proofs.ToldLemmas.{still_kept}
+use Rattle.lt_table.proofs.RecountLemmas.{spare_at, spare_set, entries_put, can_recount, recounted, still_kept}
 use Rattle.lt_table.proofs.table.Table.owe.Goals as goal
 
 pub owe-requires : goal.owe-requires

@@ -1,10 +1,8 @@
 use Rattle.std.proofs.Common.{◌<◌, length, ap, arith, refl, rules}
 use Rattle.lt_modes.specs.State.{Tell}
-use Rattle.lt_modes.specs.Tells.{told}
+use Rattle.lt_modes.specs.Serving.{told}
 use Rattle.lt_table.specs.Seen.{spare_of}
-use Rattle.lt_table.proofs.EntryLemmas.{spare_set, entries_put}
-use Rattle.lt_table.proofs.RecountLemmas.{can_recount, recounted}
-use Rattle.lt_table.proofs.ToldLemmas.{still_kept}
+use Rattle.lt_table.proofs.RecountLemmas.{spare_set, entries_put, can_recount, recounted, still_kept}
 use Rattle.lt_table.proofs.table.Table.tell.Goals as goal
 
 pub returns-then-x-len-clause-entries : goal.returns-then-x-len-clause-entries

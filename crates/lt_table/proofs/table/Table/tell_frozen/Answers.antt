@@ -1,11 +1,8 @@
 use Rattle.std.proofs.Common.{◌≡◌, ◌<◌, length, map, ap, arith, rules, slice_set, refl, sym}
-use Rattle.lt_modes.specs.State.{Entry}
-use Rattle.lt_modes.specs.Records.{record_of}
+use Rattle.lt_modes.specs.State.{Entry, record_of}
 use Rattle.lt_table.specs.Seen.{entry_seen, spare_of}
 use Rattle.lt_table.specs.TableData.{put_by, told_frozen}
-use Rattle.lt_table.proofs.EntryLemmas.{spare_set, entries_put}
-use Rattle.lt_table.proofs.RecountLemmas.{recounted}
-use Rattle.lt_table.proofs.ToldLemmas.{still_kept}
+use Rattle.lt_table.proofs.RecountLemmas.{spare_set, entries_put, recounted, still_kept}
 use Rattle.lt_table.proofs.table.Table.tell_frozen.Goals as goal
 
 pub returns-then-x-len : goal.returns-then-x-len

@@ -1,6 +1,6 @@
 use Rattle.std.proofs.Common.{◌≡◌, ◌∙◌, ◌+◌, ◌*◌, ◌/◌, ◌<◌, true, false, ℕ, List, length, set, refl, sym, subst, arith}
-use Rattle.lt_spec.specs.Families.{is_related}
-use Rattle.lt_tally.proofs.Dropping.{Cleared, none_cleared, one_more_cleared, one_more_left, all_cleared, none_to_clear}
+use Rattle.lt_spec.specs.NodeMove.{is_related}
+use Rattle.lt_tally.proofs.Counting.{Cleared, none_cleared, one_more_cleared, one_more_left, all_cleared, none_to_clear}
 use Rattle.lt_tally.proofs.table.Table.drop_all.Goals as goal
 use Rattle.lt_tally.proofs.table.Table.drop_all.Goals.{then-is_related, else-is_related}
 

@@ -1,5 +1,4 @@
-use Rattle.std.proofs.Common.{◌≡◌, ◌∙◌, ℕ, List, Option, sym, ap, ap₂, subst, arith}
-use Rattle.std.specs.Prelude.{option_map, vec_len}
+use Rattle.std.proofs.Common.{◌≡◌, ◌∙◌, ℕ, List, Option, sym, ap, ap₂, subst, arith, option_map, vec_len}
 use Rattle.std.proofs.lemmas.Bool.{eqb-false}
 use Rattle.lt_turns.specs.declared.tree.Turn.{Turn}
 use Rattle.lt_turns.specs.Turns.{IsFirst, winner_at}

@@ -1,6 +1,5 @@
-use Rattle.std.proofs.Common.{◌≡◌, ◌<◌, ◌∙◌, ℕ, ◌-◌, ◌+◌, List, Option, None, length, drop, sym, ap, subst, arith, length-set}
-use Rattle.std.specs.Prelude.{if◌then◌else◌, is_some, slice_set}
-use Rattle.std.proofs.lemmas.List.{take_at, get_or_default}
+use Rattle.std.proofs.Common.{◌≡◌, ◌<◌, ◌∙◌, ℕ, ◌-◌, ◌+◌, List, Option, None, length, drop, sym, ap, subst, arith, length-set, if◌then◌else◌, is_some, slice_set, take_at}
+use Rattle.std.proofs.lemmas.List.{get_or_default}
 use Rattle.lt_turns.specs.declared.tree.Turn.{Turn}
 use Rattle.lt_turns.specs.Turns.{IsTree, AreWon, number_at}
 use Rattle.lt_turns.proofs.TreeLemmas.{counted_changed}

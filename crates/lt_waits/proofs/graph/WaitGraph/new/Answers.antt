@@ -1,4 +1,4 @@
-use Rattle.lt_waits.proofs.Marks.{marks_tell}
+use Rattle.lt_waits.proofs.SoFar.{marks_tell}
 use Rattle.lt_waits.proofs.graph.WaitGraph.new.Goals as goal
 
 pub returns-clause-told : goal.returns-clause-told

@@ -1,7 +1,7 @@
-use Rattle.std.proofs.Common.{◌≡◌, ◌∙◌, ℕ, ◌+◌, ◌<◌, inl, inr, List, ◌∷◌, length, Vec, Global, sym, subst, arith}
+use Rattle.std.proofs.Common.{◌≡◌, ℕ, ◌+◌, inl, inr, ◌∷◌, length, Vec, Global, subst, arith}
 use Rattle.std.proofs.lemmas.Bool.{cases_lt}
 use Rattle.lt_spec.specs.Rings.{AreBelow, IsRing}
-use Rattle.lt_waits.specs.Graph.{graph_of}
+use Rattle.lt_waits.specs.Serves.{graph_of}
 use Rattle.lt_waits.proofs.Least.{IsLeastOf, some_ring, ring_some, is_shortest}
 use Rattle.lt_waits.proofs.graph.WaitGraph.shortest_ring.Goals as goal
 

@@ -1,5 +1,5 @@
 use Rattle.std.proofs.Common.{IfSome}
-use Rattle.lt_waits.specs.Graph.{graph_of}
+use Rattle.lt_waits.specs.Serves.{graph_of}
 use Rattle.lt_waits.specs.Shortest.{IsRingOf}
 use Rattle.lt_waits.proofs.Least.{IsLeastOf}
 use Rattle.lt_waits.proofs.graph.WaitGraph.shortest_ring.Given as goal

@@ -1,4 +1,4 @@
-use Rattle.std.proofs.Common.{◌∙◌, ◌<◌, ap, length, nat_lt, subst, sym}
+use Rattle.std.proofs.Common.{◌∙◌, ap, nat_lt, subst, sym}
 use Rattle.lt_spec.specs.Holdings.{holdings, lines_of, times_held}
 use Rattle.lt_tally.specs.LockTable.{HasCell}
 use Rattle.lt_waits.specs.Tallied.{TalliedData}

@@ -1,8 +1,5 @@
-use Rattle.std.proofs.Common.{◌∙◌, sym, ap}
-use Rattle.std.specs.String.{string_bytes}
-use Rattle.std.specs.Prelude.{map}
-use Rattle.lt_words.specs.Words.{command_of}
-use Rattle.lt_words.specs.Grammar.{command_in}
+use Rattle.std.proofs.Common.{◌∙◌, sym, ap, string_bytes, map}
+use Rattle.lt_words.specs.Grammar.{command_of, command_in}
 use Rattle.lt_words.proofs.Forms.{form_found}
 use Rattle.lt_words.proofs.NoForm.{no_form, none_found}
 use Rattle.lt_words.proofs.command.Command.from_words.Goals as goal

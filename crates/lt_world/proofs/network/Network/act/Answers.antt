@@ -1,7 +1,7 @@
 use Rattle.lt_modes.specs.declared.moves.Step.TheVariants.{Act}
 use Rattle.lt_world.specs.Fields.{node_at}
-use Rattle.lt_world.proofs.Acting.{acts_now, acted, act_stamped}
-use Rattle.lt_world.proofs.Moves.{targets, sender, run_moved, holds_moved}
+use Rattle.lt_world.proofs.Premises.{acts_now, acted, act_stamped}
+use Rattle.lt_world.proofs.Taking.{targets, sender, run_moved, holds_moved}
 use Rattle.lt_world.proofs.network.Network.act.Goals as goal
 
 pub act_at-stamp-requires-clause-acts : goal.act_at-stamp-requires-clause-acts

@@ -1,7 +1,7 @@
 use Rattle.std.proofs.Common.{subst}
 use Rattle.lt_desk.specs.LetterSeen.{letter_seen}
 use Rattle.lt_world.specs.declared.reserved.Reserved.TheVariants.{Taking}
-use Rattle.lt_world.specs.Reserved.{IsReserved}
+use Rattle.lt_world.specs.Fields.{IsReserved}
 use Rattle.lt_world.proofs.Taking.{take_left}
 use Rattle.lt_world.proofs.network.Network.leave.Goals as goal
 

@@ -1,8 +1,7 @@
 use Rattle.std.proofs.Common.{arith}
 use Rattle.lt_modes.specs.declared.moves.Step.TheVariants.{Take}
 use Rattle.lt_desk.specs.LetterSeen.{letter_seen}
-use Rattle.lt_world.proofs.Moves.{opened_same}
-use Rattle.lt_world.proofs.Taking.{InHand, take_opened, mail_is, takes_now, front_same}
+use Rattle.lt_world.proofs.Taking.{opened_same, InHand, take_opened, mail_is, takes_now, front_same}
 use Rattle.lt_world.proofs.network.Network.open_take.Goals as goal
 
 pub reserve_letter-requires-clause-takes : goal.reserve_letter-requires-clause-takes

@@ -1,4 +1,4 @@
-use Rattle.lt_world.proofs.Acting.{within_before}
+use Rattle.lt_world.proofs.Premises.{within_before}
 use Rattle.lt_world.proofs.network.Network.reserve_act.Goals as goal
 
 pub reserve_command-requires-clause-within : goal.reserve_command-requires-clause-within

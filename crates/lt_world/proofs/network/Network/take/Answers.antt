@@ -1,8 +1,7 @@
 use Rattle.lt_modes.specs.declared.moves.Step.TheVariants.{Take}
 use Rattle.lt_desk.specs.LetterSeen.{letter_seen}
 use Rattle.lt_world.specs.Fields.{node_at}
-use Rattle.lt_world.proofs.Taking.{takes_now, took, take_stamped}
-use Rattle.lt_world.proofs.Moves.{targets, sender, run_moved, holds_moved}
+use Rattle.lt_world.proofs.Taking.{takes_now, took, take_stamped, targets, sender, run_moved, holds_moved}
 use Rattle.lt_world.proofs.network.Network.take.Goals as goal
 
 pub take_at-stamp-requires-clause-takes : goal.take_at-stamp-requires-clause-takes

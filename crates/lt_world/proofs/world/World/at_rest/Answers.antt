@@ -1,7 +1,6 @@
-use Rattle.std.proofs.Common.{◌∙◌, sym, ap}
-use Rattle.std.specs.Prelude.{ℕ, ◌==◌}
+use Rattle.std.proofs.Common.{◌∙◌, sym, ap, ℕ, ◌==◌}
 use Rattle.lt_world.specs.Fields.{world_of}
-use Rattle.lt_world.proofs.Rest.{rest_counted}
+use Rattle.lt_world.proofs.Picks.{rest_counted}
 use Rattle.lt_world.proofs.world.World.at_rest.Goals as goal
 
 pub returns : goal.returns

@@ -1,5 +1,4 @@
-use Rattle.std.proofs.Common.{◌≡◌, None}
-use Rattle.std.specs.Prelude.{IfSome}
+use Rattle.std.proofs.Common.{◌≡◌, None, IfSome}
 use Rattle.lt_spec.specs.FixedOrder.{act_after}
 use Rattle.lt_world.specs.Fields.{world_of, IsRunnable}
 use Rattle.lt_world.proofs.world.World.client_at.Given as goal

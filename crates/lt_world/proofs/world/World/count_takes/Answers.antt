@@ -1,7 +1,7 @@
 use Rattle.std.proofs.Common.{◌≡◌, ◌∙◌, length, ap, subst}
 use Rattle.lt_spec.specs.FixedOrder.{takes}
 use Rattle.lt_world.specs.Fields.{WorldData, world_of}
-use Rattle.lt_world.proofs.WorldTakes.{takes_are}
+use Rattle.lt_world.proofs.Premises.{takes_are}
 use Rattle.lt_world.proofs.world.World.count_takes.Goals as goal
 
 pub returns-clause-count : goal.returns-clause-count

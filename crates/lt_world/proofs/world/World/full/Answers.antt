@@ -1,11 +1,9 @@
-use Rattle.std.proofs.Common.{◌≡◌, ◌<◌, ◌∙◌, ℕ, None, true, false, arith, sym, ap, subst}
+use Rattle.std.proofs.Common.{◌≡◌, ◌<◌, ◌∙◌, ℕ, None, true, false, arith, sym, ap, subst, IsTrue}
 use Rattle.lt_modes.specs.declared.moves.Step.{Step}
-use Rattle.std.specs.Prelude.{IsTrue}
-use Rattle.lt_spec.specs.World.{is_enabled}
-use Rattle.lt_spec.specs.Cut.{moves_of, is_full, full_node}
+use Rattle.lt_spec.specs.World.{is_enabled, moves_of, is_full, full_node}
 use Rattle.lt_world.specs.Fields.{WorldData, world_of}
 use Rattle.lt_spec.proofs.LeastFull.{least_full, none_full}
-use Rattle.lt_world.proofs.Counts.{none_at_limit, room_left}
+use Rattle.lt_world.proofs.TurnMoves.{none_at_limit, room_left}
 use Rattle.lt_world.proofs.world.World.full.Goals as goal
 
 pub returns-then-self-clause-full : goal.returns-then-self-clause-full

@@ -1,5 +1,5 @@
 use Rattle.std.proofs.Common.{◌≡◌, ◌<◌, ℕ, false}
-use Rattle.lt_spec.specs.Cut.{is_full}
+use Rattle.lt_spec.specs.World.{is_full}
 use Rattle.lt_world.proofs.world.World.full.Given as goal
 
 abbrev pub invariant-loop-node : goal.invariant-loop-node

@@ -1,10 +1,9 @@
-use Rattle.std.proofs.Common.{◌≡◌, ◌∙◌, ◌||◌, ◌+◌, ℕ, Bool, true, false, drop, arith, sym, ap}
-use Rattle.std.specs.Prelude.{slice_index_or}
+use Rattle.std.proofs.Common.{◌≡◌, ◌∙◌, ◌||◌, ◌+◌, ℕ, Bool, true, false, drop, arith, sym, ap, slice_index_or}
 use Rattle.std.specs.List.{list_any}
 use Rattle.lt_modes.specs.declared.mode.Mode.{Mode}
 use Rattle.lt_modes.specs.declared.mode.Mode.TheVariants.{IntentionRead}
 use Rattle.lt_modes.specs.declared.mode.TheConstants.{MODES}
-use Rattle.lt_world.specs.Against.{bars_by_lock}
+use Rattle.lt_world.specs.Fields.{bars_by_lock}
 use Rattle.lt_world.proofs.AgainstLemmas.{against_all, against_step}
 use Rattle.lt_world.proofs.world.World.holds_against.Goals as goal
 

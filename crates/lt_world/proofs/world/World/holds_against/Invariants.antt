@@ -1,9 +1,8 @@
 use Rattle.std.proofs.Common.{◌≡◌, drop}
 use Rattle.std.specs.List.{list_any}
 use Rattle.lt_modes.specs.declared.mode.TheConstants.{MODES}
-use Rattle.lt_spec.specs.Waiting.{holds_against}
-use Rattle.lt_world.specs.Fields.{world_of}
-use Rattle.lt_world.specs.Against.{bars_by_lock}
+use Rattle.lt_spec.specs.Holdings.{holds_against}
+use Rattle.lt_world.specs.Fields.{world_of, bars_by_lock}
 use Rattle.lt_world.proofs.world.World.holds_against.Given as goal
 
 abbrev pub invariant-loop-own : goal.invariant-loop-own

@@ -2,8 +2,8 @@ use Rattle.std.proofs.Common.{◌≡◌, ◌<◌, ◌∙◌, ℕ, Bool, true, le
 use Rattle.lt_lists.proofs.Searches.{any_below_at}
 use Rattle.lt_modes.specs.Waiting.{pending_ask}
 use Rattle.lt_spec.specs.Facts.{state_at}
-use Rattle.lt_spec.specs.Families.{home}
-use Rattle.lt_spec.specs.Waiting.{kept_if}
+use Rattle.lt_spec.specs.NodeMove.{home}
+use Rattle.lt_spec.specs.Holdings.{kept_if}
 use Rattle.lt_world.specs.Fields.{WorldData, world_of}
 use Rattle.lt_world.proofs.world.World.is_kept.Goals as goal
 

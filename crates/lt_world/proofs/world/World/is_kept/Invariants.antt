@@ -2,8 +2,8 @@ use Rattle.std.proofs.Common.{◌≡◌, false}
 use Rattle.lt_modes.specs.Waiting.{pending_ask}
 use Rattle.lt_lists.specs.Below.{any_below}
 use Rattle.lt_spec.specs.Facts.{state_at}
-use Rattle.lt_spec.specs.Families.{home}
-use Rattle.lt_spec.specs.Waiting.{kept_if}
+use Rattle.lt_spec.specs.NodeMove.{home}
+use Rattle.lt_spec.specs.Holdings.{kept_if}
 use Rattle.lt_world.specs.Fields.{world_of}
 use Rattle.lt_world.proofs.world.World.is_kept.Given as goal
 

@@ -1,6 +1,6 @@
 use Rattle.std.proofs.Common.{◌∙◌, sym, subst, arith}
 use Rattle.lt_world.specs.Fields.{AreCounted, AreAtMost}
-use Rattle.lt_world.proofs.Counts.{counted_at_start}
+use Rattle.lt_world.proofs.TurnMoves.{counted_at_start}
 use Rattle.lt_world.proofs.world.World.new.Goals as goal
 
 pub invariant_of-result : goal.invariant_of-result

@@ -1,5 +1,4 @@
-use Rattle.std.proofs.Common.{◌≡◌, ℕ, Option, sym, subst}
-use Rattle.std.specs.Prelude.{IfSome}
+use Rattle.std.proofs.Common.{◌≡◌, ℕ, Option, sym, subst, IfSome}
 use Rattle.lt_spec.specs.World.{world_after}
 use Rattle.lt_spec.specs.FixedOrder.{next_act}
 use Rattle.lt_world.specs.Fields.{WorldData, world_of, IsRunnable}

@@ -1,9 +1,7 @@
 use Rattle.std.proofs.Common.{◌<◌, List, sym, subst}
-use Rattle.lt_spec.specs.Log.{Logged}
-use Rattle.lt_spec.specs.World.{world_after}
-use Rattle.lt_spec.specs.Cut.{moves_of}
+use Rattle.lt_spec.specs.World.{Logged, world_after, moves_of}
 use Rattle.lt_world.specs.Fields.{WorldData, AreCounted, AreAtMost, AreTurns}
-use Rattle.lt_world.proofs.Counts.{few_moves}
+use Rattle.lt_world.proofs.TurnMoves.{few_moves}
 use Rattle.lt_world.proofs.world.World.reserve.Goals as goal
 
 pub reserve-requires-clause-few : goal.reserve-requires-clause-few

@@ -1,12 +1,8 @@
-use Rattle.std.proofs.Common.{◌<◌, List, sym, subst}
-use Rattle.std.specs.Prelude.{IsTrue}
-use Rattle.lt_spec.specs.Log.{Logged}
-use Rattle.lt_spec.specs.World.{is_enabled, world_after}
-use Rattle.lt_spec.specs.Cut.{moves_of}
+use Rattle.std.proofs.Common.{◌<◌, List, sym, subst, IsTrue}
+use Rattle.lt_spec.specs.World.{Logged, is_enabled, world_after, moves_of}
 use Rattle.lt_world.specs.Fields.{WorldData, world_of, AreCounted, AreAtMost, AreTurns}
-use Rattle.lt_world.proofs.Counts.{few_moves}
-use Rattle.lt_world.proofs.TurnMoves.{others_stand}
-use Rattle.lt_world.proofs.Standing.{Moved, stands_moved}
+use Rattle.lt_world.proofs.TurnMoves.{few_moves, others_stand}
+use Rattle.lt_world.proofs.Taking.{Moved, stands_moved}
 use Rattle.lt_world.proofs.world.World.step.Goals as goal
 
 pub step-requires-clause-few : goal.step-requires-clause-few

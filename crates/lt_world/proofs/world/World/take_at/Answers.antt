@@ -1,10 +1,9 @@
-use Rattle.std.proofs.Common.{◌≡◌, ◌∙◌, Option, Some, None, List, ap, subst}
-use Rattle.std.specs.Prelude.{slice_get, option_map}
+use Rattle.std.proofs.Common.{◌≡◌, ◌∙◌, Option, Some, None, List, ap, subst, slice_get, option_map}
 use Rattle.lt_spec.specs.FixedOrder.{Turn, takes}
 use Rattle.lt_inbox.specs.Takes.{turn_of_take}
 use Rattle.lt_world.specs.Choice.{choice_of}
 use Rattle.lt_world.specs.Fields.{WorldData, world_of}
-use Rattle.lt_world.proofs.WorldTakes.{takes_are}
+use Rattle.lt_world.proofs.Premises.{takes_are}
 use Rattle.lt_world.proofs.world.World.take_at.Goals as goal
 
 pub returns-in_err-take : goal.returns-in_err-take

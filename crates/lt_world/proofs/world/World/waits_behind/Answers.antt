@@ -1,5 +1,4 @@
-use Rattle.std.proofs.Common.{◌≡◌, ◌<◌, ◌∙◌, ℕ, Bool, true, arith, sym, ap}
-use Rattle.std.specs.Prelude.{◌||◌}
+use Rattle.std.proofs.Common.{◌≡◌, ◌<◌, ◌∙◌, ℕ, Bool, true, arith, sym, ap, ◌||◌}
 use Rattle.lt_lists.proofs.Searches.{any_below_at}
 use Rattle.lt_modes.specs.Waiting.{stands_before, parked_behind}
 use Rattle.lt_spec.specs.Facts.{state_at}

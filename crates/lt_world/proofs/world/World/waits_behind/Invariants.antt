@@ -1,5 +1,4 @@
-use Rattle.std.proofs.Common.{◌≡◌, false}
-use Rattle.std.specs.Prelude.{◌||◌}
+use Rattle.std.proofs.Common.{◌≡◌, false, ◌||◌}
 use Rattle.lt_modes.specs.Waiting.{stands_before, parked_behind}
 use Rattle.lt_lists.specs.Below.{any_below}
 use Rattle.lt_spec.specs.Facts.{state_at}

@@ -1,9 +1,7 @@
 use Rattle.std.proofs.Common.{◌∙◌, ◌+◌, ℕ, List, Option, length, sym, ap, subst, arith}
-use Rattle.lt_spec.specs.World.{World}
-use Rattle.lt_spec.specs.OwnLines.{line_client}
-use Rattle.lt_world.specs.Network.{world_in}
-use Rattle.lt_world.specs.Turns.{OthersStand}
-use Rattle.lt_world.proofs.Noting.{with_turn_count, line_noted}
+use Rattle.lt_spec.specs.World.{World, line_client}
+use Rattle.lt_world.specs.Fields.{world_in, OthersStand}
+use Rattle.lt_world.proofs.TurnOrder.{with_turn_count, line_noted}
 use Rattle.lt_world.proofs.world.turns.note_named.Goals as goal
 
 pub loop-line-preserved : goal.loop-line-preserved

@@ -1,6 +1,5 @@
 use Rattle.std.proofs.Common.{◌≡◌, length}
-use Rattle.lt_world.specs.Network.{world_in}
-use Rattle.lt_world.specs.Turns.{OthersStand}
+use Rattle.lt_world.specs.Fields.{world_in, OthersStand}
 use Rattle.lt_world.proofs.world.turns.note_named.Given as goal
 
 abbrev pub invariant-loop-line : goal.invariant-loop-line

@@ -2,9 +2,8 @@ use Rattle.std.proofs.Common.{◌≡◌, ◌≢◌, ◌<◌, ℕ, List, Option, 
 use Rattle.lt_modes.specs.declared.moves.Step.{Step}
 use Rattle.lt_modes.specs.declared.moves.Step.TheVariants.{Act}
 use Rattle.lt_spec.specs.World.{World}
-use Rattle.lt_world.specs.Fields.{AreTurns, turn_of}
-use Rattle.lt_world.specs.Network.{world_in}
-use Rattle.lt_world.proofs.Noting.{actor_noted}
+use Rattle.lt_world.specs.Fields.{AreTurns, turn_of, world_in}
+use Rattle.lt_world.proofs.TurnOrder.{actor_noted}
 use Rattle.lt_world.proofs.world.turns.note_turns.Goals as goal
 
 pub returns-in-Act : goal.returns-in-Act

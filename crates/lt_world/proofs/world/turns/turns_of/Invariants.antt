@@ -1,6 +1,5 @@
 use Rattle.std.proofs.Common.{◌≡◌, ◌<◌, ℕ, None, length, slice_index_or}
-use Rattle.lt_world.specs.Fields.{turn_of}
-use Rattle.lt_world.specs.Network.{world_in}
+use Rattle.lt_world.specs.Fields.{turn_of, world_in}
 use Rattle.lt_world.proofs.world.turns.turns_of.Given as goal
 
 abbrev pub invariant-loop-client : goal.invariant-loop-client

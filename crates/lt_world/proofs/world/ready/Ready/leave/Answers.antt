@@ -1,6 +1,5 @@
 use Rattle.std.proofs.Common.{List, sym, subst}
-use Rattle.lt_spec.specs.Log.{Logged}
-use Rattle.lt_spec.specs.World.{world_after}
+use Rattle.lt_spec.specs.World.{Logged, world_after}
 use Rattle.lt_world.specs.Fields.{AreCounted, AreAtMost, AreTurns}
 use Rattle.lt_world.proofs.world.ready.Ready.leave.Goals as goal
 

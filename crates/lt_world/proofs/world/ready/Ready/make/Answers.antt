@@ -1,10 +1,9 @@
-use Rattle.std.proofs.Common.{◌≡◌, subst}
+use Rattle.std.proofs.Common.{◌≡◌, subst, IsTrue}
 use Rattle.lt_modes.specs.declared.moves.Step.{Step}
-use Rattle.std.specs.Prelude.{IsTrue}
 use Rattle.lt_spec.specs.World.{is_enabled, world_after}
-use Rattle.lt_world.specs.Network.{run_with}
+use Rattle.lt_world.specs.Fields.{run_with}
 use Rattle.lt_world.proofs.TurnMoves.{others_stand}
-use Rattle.lt_world.proofs.Standing.{Moved, stands_moved}
+use Rattle.lt_world.proofs.Taking.{Moved, stands_moved}
 use Rattle.lt_world.proofs.world.ready.Ready.make.Goals as goal
 
 pub note_turns-requires-clause-others : goal.note_turns-requires-clause-others
