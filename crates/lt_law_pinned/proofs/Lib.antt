@@ -15,3 +15,4 @@ pub mod PlainCallsOpened
 pub mod ReportInputs
 pub mod ReportsOpened
 pub mod NestsOpened
+pub mod ReportScripts

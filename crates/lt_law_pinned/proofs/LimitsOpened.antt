@@ -14,7 +14,6 @@ use Rattle.lt_script.specs.Printing as printing
 use Rattle.lt_script.specs.declared.fault.ScriptFault.{ScriptFault}
 use Rattle.lt_script.specs.Reading.{read_of}
 use Rattle.lt_script.specs.Reading as reading
-use Rattle.lt_gen.specs.Generator as draws
 use Rattle.lt_gen.specs.Generator.{script_of}
 use Rattle.lt_gen.specs.Generator as generator
 use Rattle.lt_words.specs.declared.command.Command.{Command}
@@ -37,7 +36,7 @@ use Rattle.lt_law_pinned.proofs.Numbers.{zero_text, one_text, two_text}
 use Rattle.lt_law_pinned.specs.Told.{WordsAre, OpensRun, RunsTold, TimesTold, two_writers, two_writers_script, both_moves, two_nodes, two_nodes_script, unlocks, four_moves, one_each, one_and_two, WithinTold, FarTold, EachTimeTold, IsNeverCut, EndsTold, SoakTold, CheckedRun, CheckTold, MakeTold, checked_writers, letter_first}
 
 made : script_of 2 3 20 233 ≡ made_from_233
-unfolding generator.clients_of generator.requests_in draws.draw_of draws.seeded seeds.pcg32_seed steps.word_bytes steps.u32_at
+unfolding generator.clients_of generator.requests_in generator.draw_of generator.seeded seeds.pcg32_seed steps.word_bytes steps.u32_at
 made = rw zero_text (rw one_text (rw two_text refl))
 
 printed : print_of made_from_233 ≡ made_text

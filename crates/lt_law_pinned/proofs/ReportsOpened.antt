@@ -4,14 +4,16 @@ use Rattle.std.specs.Io.KnownBytes.{Appends}
 use Rattle.lt_io.specs.Streams.{AppendsPart}
 use Rattle.lt_modes.specs.Script.{ScriptData}
 use Rattle.lt_spec.specs.World.{Logged, world_after}
+use Rattle.lt_spec.specs.Script.{IsScript}
 use Rattle.lt_spec.specs.Rings.{waits_report}
 use Rattle.lt_text.specs.Text.{lines}
 use Rattle.lt_call.specs.Outcomes.{IsRefused}
 use Rattle.lt_script.specs.declared.fault.ScriptFault.{ScriptFault}
 use Rattle.lt_script.specs.Reading.{read_of}
 use Rattle.lt_journal.specs.Split.{input_parts}
-use Rattle.lt_law_journals.specs.Checking.{checked_input}
-use Rattle.lt_checker.specs.Input.{DenotesBefore, IsBad}
+use Rattle.lt_law_journals.specs.Checking.{checked_input, IsFinished, IsFirstBadIn}
+use Rattle.lt_law_journals.proofs.Answers.{accepted_input, refused_input}
+use Rattle.lt_checker.specs.Input.{IsJournalOf, IsBad}
 use Rattle.lt_waits.specs.declared.answer.Answer.{Answer}
 use Rattle.lt_waits.specs.declared.answer.Answer.TheVariants.{Done, Usage, Refused, TooLong, ReadFault, WriteFault, NoMemory, BadJournal}
 use Rattle.lt_waits.specs.Answers.{outcome_of}
@@ -19,6 +21,7 @@ use Rattle.lt_waits.specs.Serves.{waits_text, IsReportOf, IsUnfit}
 use Rattle.lt_law_pinned.specs.PlainCalls.{PlainCall, ReadsPlain, PlainlyTold}
 use Rattle.lt_law_pinned.specs.Reports.{ReportCodesAre, ReportTextsAre, IsReportCall, Reports, ReportsTold, no_nodes_fault, writers_apart, writers_report, both_change, wrong_grant}
 use Rattle.lt_law_pinned.proofs.ReportInputs.{InputIs, apart_script, writer_moves, change_script, change_moves, nothing_read, apart_is, change_is, wrong_is, apart_text, change_text}
+use Rattle.lt_law_pinned.proofs.ReportScripts.{apart_is_script, change_is_script}
 use Rattle.lt_law_pinned.proofs.PlainCallsOpened.{plainly_told, part_so, appended, one_text, five_text, seven_text}
 
 pub report_codes_are : ReportCodesAre
@@ -66,21 +69,30 @@ same_line a b answer e f = cc
 run_or_line : (run : List Logged) (line : ℕ) (answer : Result (List Logged) ℕ) → answer ≡ Ok run → answer ≡ Err line → ⊥
 run_or_line run line answer e f = cc
 
--- the run that a report is of
-run_so : (bytes : List ℕ) (script other : ScriptData) (answer : Result (List Logged) ℕ) (run : List Logged) → InputIs bytes script answer
-    → DenotesBefore (Some bytes) other → checked_input other (lines bytes) ≡ Ok run → answer ≡ Ok run
-run_so bytes script other answer run is denoted accepted =
-    sym is.answered
-    ∙ ap (λ (s : ScriptData). checked_input s (lines bytes)) (same_script script other (read_of (take (input_parts bytes).script bytes)) is.denoted denoted)
-    ∙ accepted
+-- what is told of the journal in an input is what it is answered
+accepted_run : (bytes : List ℕ) (script : ScriptData) (run : List Logged) → IsScript script → IsFinished script run → IsJournalOf (Some bytes) script run
+    → checked_input script (lines bytes) ≡ Ok run
+accepted_run bytes script run is_script finished journal = (accepted_input script bytes run is_script).1 (finished, journal)
 
-text_so : (bytes : List ℕ) (script : ScriptData) (run : List Logged) (text : List ℕ) → InputIs bytes script (Ok run) → IsReportOf (Some bytes) text
+refused_line : (bytes : List ℕ) (script : ScriptData) (line : ℕ) → IsScript script → IsFirstBadIn script line bytes → checked_input script (lines bytes) ≡ Err line
+refused_line bytes script line is_script bad = (refused_input script bytes line is_script).1 bad
+
+-- the run that a report is of
+run_so : (bytes : List ℕ) (script : ScriptData) (answer : Result (List Logged) ℕ) (text : List ℕ) → IsScript script → InputIs bytes script answer
+    → (h : IsReportOf (Some bytes) text) → answer ≡ Ok h.run
+run_so bytes script answer text is_script is h =
+    let same = same_script h.script script (read_of (take (input_parts bytes).script bytes)) h.denoted is.denoted in
+    sym is.answered
+    ∙ ap (λ (s : ScriptData). checked_input s (lines bytes)) (sym same)
+    ∙ accepted_run bytes h.script h.run (subst IsScript (sym same) is_script) h.finished h.accepted
+
+text_so : (bytes : List ℕ) (script : ScriptData) (run : List Logged) (text : List ℕ) → IsScript script → InputIs bytes script (Ok run) → IsReportOf (Some bytes) text
     → text ≡ waits_text script (waits_report script (world_after script run))
-text_so bytes script run text is h =
+text_so bytes script run text is_script is h =
     h.told
     ∙ ap₂ (λ (s : ScriptData) (r : List Logged). waits_text s (waits_report s (world_after s r)))
     (same_script h.script script (read_of (take (input_parts bytes).script bytes)) h.denoted is.denoted)
-    (same_run h.run run (Ok h.run) refl (sym (run_so bytes script h.script (Ok run) h.run is h.denoted h.accepted)))
+    (same_run h.run run (Ok h.run) refl (sym (run_so bytes script (Ok run) text is_script is h)))
 
 done_of : (c : PlainCall Answer) (bytes : List ℕ) → ReadsPlain IsReportCall outcome_of bytes c → c.answer ≡ Done
     → (text : List ℕ) × IsReportOf (Some bytes) text × Appends c.sink.held c.sink_after.held text
@@ -88,12 +100,12 @@ done_of c bytes reads e =
     let done = reads.serves.done (ap outcome_of e) in
     (done.0, subst (λ (left : Option (List ℕ)). IsReportOf left done.0) reads.input done.1, done.2)
 
-reports : (bytes : List ℕ) (script : ScriptData) (run : List Logged) (text : List ℕ) → InputIs bytes script (Ok run)
+reports : (bytes : List ℕ) (script : ScriptData) (run : List Logged) (text : List ℕ) → IsScript script → InputIs bytes script (Ok run)
     → waits_text script (waits_report script (world_after script run)) ≡ text → Reports bytes text
-reports bytes script run text is told c old new h held =
+reports bytes script run text is_script is told c old new h held =
     let done = done_of c bytes h.0 h.1 in
     appended c.sink.held c.sink_after.held old new done.0 held.0 held.1 done.2
-    ∙ ap (λ (t : List ℕ). old ++ t) (text_so bytes script run done.0 is done.1 ∙ told)
+    ∙ ap (λ (t : List ℕ). old ++ t) (text_so bytes script run done.0 is_script is done.1 ∙ told)
 
 -- why an input is refused
 unfit_in : (c : PlainCall Answer) (bytes : List ℕ) (answer : Answer) → ReadsPlain IsReportCall outcome_of bytes c → c.answer ≡ answer
@@ -107,25 +119,25 @@ bad_so : (bytes : List ℕ) (script : ScriptData) (answer : Result (List Logged)
     → IsBad (Some bytes) line → answer ≡ Err line
 bad_so bytes script answer line is bad =
     sym is.answered
-    ∙ ap (λ (s : ScriptData). checked_input s (lines bytes)) (same_script script bad.0 (read_of (take (input_parts bytes).script bytes)) is.denoted bad.1)
-    ∙ bad.2
+    ∙ ap (λ (s : ScriptData). checked_input s (lines bytes)) (same_script script bad.0 (read_of (take (input_parts bytes).script bytes)) is.denoted bad.2)
+    ∙ refused_line bytes bad.0 line bad.1 bad.3
 
 pub reports_told : ReportsTold
 reports_told = record {
-  ends_text = reports writers_apart apart_script writer_moves writers_report apart_is apart_text;
-  cycle_text = reports both_change change_script change_moves (codes "waits a b\nwaits b a\ncycle a b\n") change_is change_text;
+  ends_text = reports writers_apart apart_script writer_moves writers_report apart_is_script apart_is apart_text;
+  cycle_text = reports both_change change_script change_moves (codes "waits a b\nwaits b a\ncycle a b\n") change_is_script change_is change_text;
   part = λ c old new h held.
       let fault = h.0.serves.write_fault (ap outcome_of h.1) in
       let report = subst (λ (left : Option (List ℕ)). IsReportOf left fault.0) h.0.input fault.1 in
       part_so c.sink.held c.sink_after.held old new writers_report held.0 held.1
-      (subst (λ (t : List ℕ). AppendsPart c.sink.held c.sink_after.held t) (text_so writers_apart apart_script writer_moves fault.0 apart_is report ∙ apart_text) fault.2);
+      (subst (λ (t : List ℕ). AppendsPart c.sink.held c.sink_after.held t) (text_so writers_apart apart_script writer_moves fault.0 apart_is_script apart_is report ∙ apart_text) fault.2);
   bad = λ c line h.
       same_line line 9 (Err line) refl (sym (bad_so wrong_grant apart_script (Err 9) line wrong_is (unfit_in c wrong_grant (BadJournal line) h.0 h.1 tt)));
   never_bad = λ c line h.
       run_or_line writer_moves line (Ok writer_moves) refl (bad_so writers_apart apart_script (Ok writer_moves) line apart_is (unfit_in c writers_apart (BadJournal line) h.0 h.1 tt));
   never_done = λ c h.
       let done = done_of c wrong_grant h.0 h.1 in
-      run_or_line done.1.run 9 (Ok done.1.run) refl (sym (run_so wrong_grant apart_script done.1.script (Err 9) done.1.run wrong_is done.1.denoted done.1.accepted));
+      run_or_line done.1.run 9 (Ok done.1.run) refl (sym (run_so wrong_grant apart_script (Err 9) done.0 apart_is_script wrong_is done.1));
   fault = λ c fault h. same_fault fault no_nodes_fault (read_of (take (input_parts []).script [])) (unfit_in c [] (Refused fault) h.0 h.1 tt) nothing_read;
   never_refused = λ c fault h.
       script_or_fault apart_script fault (read_of (take (input_parts writers_apart).script writers_apart)) apart_is.denoted
