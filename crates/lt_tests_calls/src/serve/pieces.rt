@@ -2,6 +2,7 @@ use super::{Open, sink_of, words_of};
 use lt_io::ReaderSource;
 use lt_script::{Fault, ScriptFault};
 use lt_serve::{Status, serve};
+use lt_tests_parts::{same, same_in};
 use std::io::{self, Read};
 use std::test::Fail;
 
@@ -96,8 +97,8 @@ fn checks_what_comes_in_pieces(rt: HostRuntime) -> Result<(), Fail> {
             });
             let mut sink = sink_of(alloc, 1_000, &[])?;
             let served = serve(&rt, alloc, words.as_slice(), &mut source, &mut sink, &Open);
-            assert_eq!(rt; served.status, *status, "{input}");
-            assert_eq!(rt; sink.bytes.as_slice(), text.as_bytes());
+            same_in(&rt, input, served.status, *status);
+            same(&rt, sink.bytes.as_slice(), text.as_bytes());
         }
     }
     Ok(())
