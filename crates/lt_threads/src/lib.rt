@@ -14,6 +14,7 @@ mod sharing;
 mod starting;
 mod taking;
 mod threads;
+mod visits;
 mod waiting;
 mod worker;
 
