@@ -154,9 +154,9 @@ pub too_many : (rs : List Parts) → AreScripts rs → MAX_COMMANDS < length (co
 too_many rs scripts many script h = let all = by_clients rs script scripts h in omega (arith, many, all)
 
 -- and where they are more so, a script may not have them
-pub not_few : (rs : List Parts) → AreScripts rs → ShareScript rs → AreTooMany rs → MAX_COMMANDS < length (commands_in rs)
-not_few rs scripts shares many =
-    let all = by_clients rs shares.0 scripts shares.1 in let more = many shares.0 shares.1 in omega (arith, more, all)
+pub many : (rs : List Parts) → AreScripts rs → ShareScript rs → AreTooMany rs → MAX_COMMANDS < length (commands_in rs)
+many rs scripts shares too_many =
+    let all = by_clients rs shares.0 scripts shares.1 in let more = too_many shares.0 shares.1 in omega (arith, more, all)
 
 -- what is joined, and why not
 pub joined_all : (rs : List Parts) (made : ScriptData) → ShareScript rs → IsScript made

@@ -10,6 +10,7 @@ use Rattle.lt_runner.specs.declared.turning.Worked.TheVariants as worked
 use Rattle.lt_runner.specs.Kept.{SameRunner, AsSeen, CouldMove, MovedOne, Grew, WorkEnds}
 use Rattle.lt_runner.proofs.TurnLemmas.{choice_lasts, could_later}
 use Rattle.lt_threads.specs.Taking.{MovedWithin, TakeEnds}
+use Rattle.lt_threads.proofs.Pushing.{seen_grew, grew_join, moved_grew}
 
 -- one move was made of which the log had a place
 pub moved_within : (a b c : Parts) → AsSeen a b → CouldMove a → SameRunner b c → MovedOne b c → MovedWithin a c
@@ -45,3 +46,6 @@ ends_later worked.Full a b h seen = record {
   choice = choice_lasts a b seen h.choice;
 }
 ends_later worked.NoMemory a b h seen = could_later a b seen h.place h.choice
+
+-- what is known of one letter that is taken, or of none
+pub ruleset taking = (seen_grew, grew_join, moved_grew, moved_within, moved_seen, take_later)

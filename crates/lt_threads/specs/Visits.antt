@@ -1,11 +1,12 @@
 -- How many visits a worker makes.
-use Rattle.std.specs.Prelude.{◌≡◌, ◌<◌, ◌+◌, ◌-◌, ◌*◌, ◌^◌, ◌⊎◌, ◌==◌, if◌then◌else◌, ℕ, length}
+use Rattle.std.specs.Prelude.{◌≡◌, ◌<◌, ◌≤◌, ◌+◌, ◌-◌, ◌*◌, ◌^◌, ◌⊎◌, ◌==◌, if◌then◌else◌, ℕ, length}
 use Rattle.lt_spec.specs.declared.moves.TheConstants.{MAX_MOVES}
-use Rattle.lt_pool.specs.PoolData.{PoolData, BadgeData}
+use Rattle.lt_pool.specs.PoolData.{PoolData}
 use Rattle.lt_pool.specs.Rule.{ContinuesAt}
 use Rattle.lt_runner.specs.declared.parts.Parts.{Parts}
 use Rattle.lt_runner.specs.Kept.{Grew}
 use Rattle.lt_threads.specs.declared.visits.Visits.{Visits}
+use Rattle.lt_threads.specs.declared.worker.Worker.{Worker}
 
 abbrev pub no_visits : Visits
 no_visits = record { made = 0; moved = 0; refused = 0; vain = 0 }
@@ -15,8 +16,8 @@ abbrev pub after_move : Visits → Visits
 after_move v = record { made = v.made + 1; moved = v.moved + 1; refused = 0; vain = 0 }
 
 -- after one at which another worker had the node
-abbrev pub after_refusal : Visits → Visits
-after_refusal v = record v { made = v.made + 1; refused = v.refused + 1 }
+abbrev pub after_refused : Visits → Visits
+after_refused v = record v { made = v.made + 1; refused = v.refused + 1 }
 
 -- after one of a node that made no move
 abbrev pub after_vain : Visits → Visits
@@ -52,7 +53,7 @@ pub record HaveRoom (v : Visits) : Type 0 where
   pub vain : v.vain + 1 < 2 ^ 64
 
 -- the runner of the node was claimed as the one, given back as the other, and the moves that it made were counted
-pub record VisitMade (pool : PoolData Parts) (node : ℕ) (old new : Visits) : Type 0 where
+pub record WasVisited (pool : PoolData Parts) (node : ℕ) (old new : Visits) : Type 0 where
   pub x : Parts
   pub y : Parts
   pub claimed : ContinuesAt Grew pool.firsts node x
@@ -60,10 +61,16 @@ pub record VisitMade (pool : PoolData Parts) (node : ℕ) (old new : Visits) : T
   pub counted : new ≡ after_moves (length y.log.entries - length x.log.entries) old
 
 -- the claim was refused, and that was counted
-pub record VisitRefused (a b : BadgeData Parts) (old new : Visits) : Type 0 where
-  pub refused : length b.refused ≡ length a.refused + 1
-  pub counted : new ≡ after_refusal old
+pub record WasRefused (a b : Worker) : Type 0 where
+  pub refused : length b.badge.refused ≡ length a.badge.refused + 1
+  pub counted : b.outlook.visits ≡ after_refused a.outlook.visits
 
--- the worker with this badge has made one visit
-abbrev pub IsVisit : PoolData Parts → ℕ → BadgeData Parts → BadgeData Parts → Visits → Visits → Type 0
-IsVisit pool node a b old new = VisitRefused a b old new ⊎ ((b.refused ≡ a.refused) × VisitMade pool node old new)
+-- the worker has made one visit
+abbrev pub MadeVisit : PoolData Parts → ℕ → Worker → Worker → Type 0
+MadeVisit pool node a b =
+    WasRefused a b ⊎ ((b.badge.refused ≡ a.badge.refused) × WasVisited pool node a.outlook.visits b.outlook.visits)
+
+-- after a run with this patience no more of its claims were refused than these visits allow
+abbrev pub FewRefused : ℕ → Worker → Worker → Type 0
+FewRefused patience a b =
+    length b.badge.refused ≤ length a.badge.refused + (b.outlook.visits.moved + 1) * patience

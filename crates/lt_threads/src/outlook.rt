@@ -1,5 +1,5 @@
 ghost use Rattle.std.specs.Prelude.{◌≡◌, ◌<◌, ◌+◌, ◌/◌, false};
-ghost use Rattle.lt_threads.specs.Visits.{no_visits, after_move, after_refusal, after_vain, MayVisit, HaveRoom};
+ghost use Rattle.lt_threads.specs.Visits.{no_visits, after_move, after_refused, after_vain, MayVisit, HaveRoom};
 ghost use Rattle.lt_threads.specs.declared.outlook.TheConstants.{FEW_WORKERS, NODES_PER_WORKER};
 
 use crate::visits::Visits;
@@ -100,7 +100,7 @@ impl Outlook {
     /// Another worker has the node.
     pub(crate) fn note_refusal(&mut self, node: u8)
         requires { HaveRoom self.old.visits }
-        ensures { self.new.visits ≡ after_refusal self.old.visits }
+        ensures { self.new.visits ≡ after_refused self.old.visits }
     {
         self.visits.note_refusal();
         if self.by_mail {

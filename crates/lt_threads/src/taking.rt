@@ -24,7 +24,7 @@ pub(crate) fn take_letters<G: Gate>(runner: &mut Runner, gate: &G) -> (u64, Work
 }
 
 // Lets the runner take a letter, and tells whether the visit ends so.
-#[tactic(auto, using(crate::proofs::Pushing::seen_grew, crate::proofs::Pushing::grew_join, crate::proofs::Taken::moved_seen))]
+#[tactic(auto, using(crate::proofs::Taken::taking))]
 fn take_one<G: Gate>(runner: &mut Runner, gate: &G) -> Option<(u64, Worked)>
     ensures grew { Grew runner.old runner.new }
     ensures moved { result ≡ None → MovedWithin runner.old runner.new }
@@ -51,7 +51,7 @@ fn send_on(runner: &mut Runner) -> Option<(u64, Worked)>
     Some((reached, Worked::Idle))
 }
 
-#[tactic(auto, using(crate::proofs::Pushing::seen_grew, crate::proofs::Pushing::grew_join, crate::proofs::Taken::take_later))]
+#[tactic(auto, using(crate::proofs::Taken::taking))]
 fn turn_by_mail<G: Gate>(runner: &mut Runner, gate: &G) -> Turned
     ensures grew { Grew runner.old runner.new }
     ensures ends { TakeEnds result runner.old runner.new }
@@ -63,7 +63,7 @@ fn turn_by_mail<G: Gate>(runner: &mut Runner, gate: &G) -> Turned
     }
 }
 
-#[tactic(auto, using(crate::proofs::Pushing::seen_grew, crate::proofs::Pushing::moved_grew, crate::proofs::Taken::moved_within))]
+#[tactic(auto, using(crate::proofs::Taken::taking))]
 fn take_in_hand<G: Gate>(runner: &mut Runner, gate: &G) -> Turned
     requires chosen { next_choice runner.old ≡ choices.Take }
     requires could { CouldMove runner.old }

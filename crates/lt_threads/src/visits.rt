@@ -1,6 +1,6 @@
 // How many visits a worker makes.
 ghost use Rattle.std.specs.Prelude.{◌≡◌, ◌↔◌, IsTrue};
-ghost use Rattle.lt_threads.specs.Visits.{no_visits, after_move, after_refusal, after_vain, most_vain, most_moved, MayVisit, HaveRoom};
+ghost use Rattle.lt_threads.specs.Visits.{no_visits, after_move, after_refused, after_vain, most_vain, most_moved, MayVisit, HaveRoom};
 
 use lt_spec::MAX_MOVES;
 
@@ -50,7 +50,7 @@ impl Visits {
 
     pub(crate) fn note_refusal(&mut self)
         requires { HaveRoom self.old }
-        ensures { self.new ≡ after_refusal self.old }
+        ensures { self.new ≡ after_refused self.old }
     {
         self.made += 1;
         self.refused += 1;
@@ -65,8 +65,8 @@ impl Visits {
     }
 }
 
-// How many visits are made at most between two moves at nodes that are claimed: after each refused claim the worker goes
-// once round all nodes.
+// How many visits of nodes that are claimed are made at most between two moves: after each refused claim the worker
+// goes once round all nodes.
 fn most_vain(count: u8, patience: u32) -> u64
     ensures { result ≡ most_vain count patience }
 {

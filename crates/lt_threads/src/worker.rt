@@ -2,7 +2,7 @@
 ghost use Rattle.std.specs.Prelude.{◌≡◌, ◌<◌, ◌≤◌, ◌+◌, ◌-◌, ◌*◌, length};
 ghost use Rattle.lt_runner.specs.Kept.{Grew, WorkEnds};
 ghost use Rattle.lt_threads.specs.Workers.{IsFree};
-ghost use Rattle.lt_threads.specs.Visits.{after_moves, most_idle, most_moved, HaveRoom, IsVisit};
+ghost use Rattle.lt_threads.specs.Visits.{after_moves, most_idle, most_moved, HaveRoom, MadeVisit, FewRefused};
 
 use crate::outlook::Outlook;
 use crate::taking::take_letters;
@@ -36,7 +36,7 @@ impl Worker {
         ensures free { IsFree pool.now self.new.badge }
         ensures few { self.new.outlook.visits.made ≤ (self.new.outlook.visits.moved + 1) * most_idle count patience }
         ensures moved { self.new.outlook.visits.moved ≤ most_moved count }
-        ensures refused { length self.new.badge.refused ≤ length self.old.badge.refused + (self.new.outlook.visits.moved + 1) * patience }
+        ensures refused { FewRefused patience self.old self.new }
     {
         self.outlook.visits = Visits::none();
         'visits: while !self.short && !self.outlook.is_over(count, patience) {
@@ -51,7 +51,7 @@ impl Worker {
         requires inside { node < length pool.now.firsts }
         requires room { HaveRoom self.old.outlook.visits }
         ensures free { IsFree pool.now self.new.badge }
-        ensures visit { IsVisit pool.now node self.old.badge self.new.badge self.old.outlook.visits self.new.outlook.visits }
+        ensures visit { MadeVisit pool.now node self.old self.new }
     {
         let Ok(mut runner) = pool.claim(&mut self.badge, node) else {
             self.outlook.note_refusal(node);
