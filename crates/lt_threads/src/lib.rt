@@ -11,6 +11,7 @@ mod outlook;
 mod rounds;
 mod settling;
 mod sharing;
+mod stacks;
 mod starting;
 mod taking;
 mod threads;
