@@ -11,13 +11,13 @@ use Rattle.lt_live.specs.Live.{AreLive, IsSessionOf, OpenedAreLive}
 use Rattle.lt_live_callers.specs.declared.desk.Desk.{Desk}
 use Rattle.lt_live_callers.specs.declared.served.Called.{Called}
 use Rattle.lt_live_callers.specs.declared.served.Served.{Served}
-use Rattle.lt_live_callers.specs.Refused.{NamesOwn, HasRoom, MaySubmit}
+use Rattle.lt_live_callers.specs.Refused.{NamesOwn, CanSubmit, MayCommand}
 use Rattle.lt_live_callers.specs.Desks.{caller_of, called_of, session_of}
 use Rattle.lt_live_callers.specs.Served.{CallsAt, NoneRefused, AreDesks, AreServing, AreEnded, IsServedBy}
 
 -- of a session whose ring has a place for each command of its share, a command that has no room might not be submitted
 barred : (script : ScriptData) (stations : List StationData) (client : ℕ) (s : Session) → IsSessionOf script stations client s → s.share ≤ places s
-    → (command : Command) → ¬ HasRoom s command → ¬ MaySubmit script client s command
+    → (command : Command) → ¬ CanSubmit s command → ¬ MayCommand script client s command
 barred script stations client s is roomy command none may =
     let left : length (submitted s) < s.share = omega (arith, may.left, is.share) in
     none (record {
@@ -93,12 +93,12 @@ module _ {C : Type 0} where
         subst (λ (t : Session). CallsAt goes (slice_get callers client) t (Some (called_of d))) (same_Some d.session s is) (serving.each client d e)
 
     refused_there : (client : ℕ) (s : Session) (called : Called C) (o : Option (Desk C)) → slice_get desks client ≡ o → option_map session_of o ≡ Some s
-        → option_map called_of o ≡ Some called → (command : Command) → called.refused ≡ Some command → ¬ MaySubmit script client s command
+        → option_map called_of o ≡ Some called → (command : Command) → called.refused ≡ Some command → ¬ MayCommand script client s command
     refused_there client s called None e is was = absurd (cc)
     refused_there client s called (Some d) e is was =
         let session = serving.live.each client d.session (slice_get-map session_of desks client ∙ ap (option_map session_of) e) in
-        subst (λ (b : Called C). (command : Command) → b.refused ≡ Some command → ¬ MaySubmit script client s command) (same_Some (called_of d) called was)
-        (subst (λ (t : Session). (command : Command) → d.refused ≡ Some command → ¬ MaySubmit script client t command) (same_Some d.session s is)
+        subst (λ (b : Called C). (command : Command) → b.refused ≡ Some command → ¬ MayCommand script client s command) (same_Some (called_of d) called was)
+        (subst (λ (t : Session). (command : Command) → d.refused ≡ Some command → ¬ MayCommand script client t command) (same_Some d.session s is)
         (λ command back. barred script stations client d.session session (serving.roomy client d e) command (serving.barred client d e command back)))
 
     -- what the desks did, as what their callers did

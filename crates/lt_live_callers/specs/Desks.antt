@@ -9,7 +9,7 @@ use Rattle.lt_live.specs.Stations.{StationData}
 use Rattle.lt_live.specs.Live.{StationGoesOn, EachStation}
 use Rattle.lt_live_callers.specs.declared.desk.Desk.{Desk}
 use Rattle.lt_live_callers.specs.declared.served.Called.{Called}
-use Rattle.lt_live_callers.specs.Refused.{HasRoom}
+use Rattle.lt_live_callers.specs.Refused.{CanSubmit}
 
 abbrev pub told : Option Reply → List Reply
 told None = []
@@ -27,7 +27,7 @@ pub record SubmitsAtDesk (command result : Option Command) (old new : Session) :
   pub same : SameSession old new
   pub polled : polled new ≡ polled old
   pub submitted : submitted new ++ command_held result ≡ submitted old ++ command_held command
-  pub barred : (back : Command) → result ≡ Some back → ¬ HasRoom new back
+  pub barred : (back : Command) → result ≡ Some back → ¬ CanSubmit new back
 
 -- one step of a caller: what it was told, what it answered, and the caller after it
 pub record StepOf (C : Type 0) : Type 0 where
@@ -61,7 +61,7 @@ module _ {C : Type 0} where
 
   -- the command that was refused might not be submitted
   abbrev pub IsBarred : Desk C → Type 0
-  IsBarred desk = (back : Command) → desk.refused ≡ Some back → ¬ HasRoom desk.session back
+  IsBarred desk = (back : Command) → desk.refused ≡ Some back → ¬ CanSubmit desk.session back
 
   -- the caller made steps: it was told what was polled in them, and what it answered was submitted but for what was refused
   pub record DeskGoesOn (goes : C → Option Reply → Option Command → C → Type 0) (a b : Desk C) : Type 0 where

@@ -13,12 +13,12 @@ pub record NamesOwn (script : ScriptData) (client : ℕ) (command : Command) : T
   pub modes : HasModesOf script.version command
 
 -- the session has not submitted all that it may, its ring has a place, and the command names what it may
-pub record HasRoom (s : Session) (command : Command) : Type 0 where
+pub record CanSubmit (s : Session) (command : Command) : Type 0 where
   pub left : length (submitted s) < s.share
   pub place : length (submitted s) < places s
   pub names : NamesOwn s.script s.client command
 
 -- the client's session has not submitted all that each may, and the command names what it may
-pub record MaySubmit (script : ScriptData) (client : ℕ) (s : Session) (command : Command) : Type 0 where
+pub record MayCommand (script : ScriptData) (client : ℕ) (s : Session) (command : Command) : Type 0 where
   pub left : length (submitted s) < equal_share script
   pub names : NamesOwn script client command

@@ -18,7 +18,7 @@ use Rattle.lt_live_callers.specs.declared.desk.Desk.{Desk}
 use Rattle.lt_live_callers.specs.declared.served.Called.{Called}
 use Rattle.lt_live_callers.specs.declared.served.Served.{Served}
 use Rattle.lt_live_callers.specs.Desks.{StepOf, Went, replies_of, commands_of, caller_of, called_of, session_of, IsBarred}
-use Rattle.lt_live_callers.specs.Refused.{MaySubmit}
+use Rattle.lt_live_callers.specs.Refused.{MayCommand}
 
 -- this world is at rest with nobody waiting, or with somebody waiting; or this node, the least such one, can make a further move
 abbrev pub StopsSo : LiveEnding → ScriptData → World → Type 0
@@ -66,7 +66,7 @@ module _ {C : Type 0} where
     -- a command that was refused might not be submitted
     pub refused : (client : ℕ) (s : Session) (called : Called C) → slice_get sessions client ≡ Some s
         → slice_get served.callers.items client ≡ Some called → (command : Command) → called.refused ≡ Some command
-        → ¬ MaySubmit first client s command
+        → ¬ MayCommand first client s command
 
   abbrev pub NoneRefused : List (Desk C) → Type 0
   NoneRefused [] = Unit {0}
