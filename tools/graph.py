@@ -6,6 +6,7 @@ from curves import clear_curve, path
 from waiting import all_waits, behind, edges_of, lock_edges_of, ring_of
 
 RADIUS, ROOM, HEAD = 13, 56, 60
+GLYPH = 6.7         # the width of a letter
 INK, FAINT, RING, BEHIND, EDGE = '#222222', '#8a8a8a', '#d1381f', '#a9aeb6', '#f0a30a'
 MOST_CURVES = 400   # of more arrows each is a straight line
 MOST_NAMES = 4      # of those that have no arrow
@@ -33,6 +34,10 @@ class Waits:
             return 'ring'
         return 'behind' if client in self.ring or client in self.behind else 'edge'
 
+    def colour(self, client):
+        """The colour of a client: of the ring, behind it, or neither."""
+        return RING if client in self.ring else BEHIND if client in self.behind else INK
+
     def is_by_lock(self, client, other):
         """Whether a lock of the other one is in the way."""
         return other in self.locks[client]
@@ -55,8 +60,8 @@ def size_of(edges):
     """The width and height that the drawing takes."""
     if not edges:
         return 320, HEAD + 20
-    side = 2 * (circle_of(edges) + ROOM)
-    return max(side, 320), side + HEAD
+    name = RADIUS + 8 + round(max(map(len, clients_of(edges))) * GLYPH)
+    return max(2 * (circle_of(edges) + max(ROOM, name)), 320), 2 * (circle_of(edges) + ROOM) + HEAD
 
 
 def circle_of(edges):
@@ -83,18 +88,22 @@ def graph(waits, left, top):
         for other in others:
             look = waits.kind(client, other), waits.is_by_lock(client, other)
             pieces.append(edge(places[client], places[other], marks if is_bent else [], *look))
-    middle = sum(y for _, y in marks) / len(marks)
-    return pieces + [mark for client, (x, y) in places.items()
-                     for mark in client_at(client, x, y, y < middle - 1, client in waits.ring)]
+    return pieces + [piece for turn, (client, place) in zip(turns_of(edges), places.items())
+                     for piece in client_at(client, place, turn, waits.colour(client))]
 
 
 def places_of(edges, left, top):
     """Where each client stands on the circle, the first one at the top."""
     clients, radius = clients_of(edges), circle_of(edges)
     middle = left + size_of(edges)[0] / 2, top + HEAD + ROOM + radius
-    turns = [2 * pi * k / len(clients) for k in range(len(clients))]
     return {client: (middle[0] + radius * sin(turn), middle[1] - radius * cos(turn))
-            for client, turn in zip(clients, turns)}
+            for client, turn in zip(clients, turns_of(edges))}
+
+
+def turns_of(edges):
+    """The angle of each client on the circle, from the top."""
+    count = len(clients_of(edges))
+    return [2 * pi * k / count for k in range(count)]
 
 
 def edge(start, end, marks, kind, is_by_lock):
@@ -110,12 +119,15 @@ def edge(start, end, marks, kind, is_by_lock):
             f'{dash}marker-end="url(#{kind})"/>')
 
 
-def client_at(client, x, y, is_above, in_ring):
-    """A client: a mark with its name above or below, away from the middle."""
-    colour = RING if in_ring else INK
-    line = y - RADIUS - 2 if is_above else y + RADIUS + 10
-    return [f'<circle cx="{x:.1f}" cy="{y:.1f}" r="{RADIUS - 4}" fill="#ffffff" stroke="{colour}" stroke-width="1.6"/>',
-            text(x, line, client, INK, 'text-anchor="middle"')]
+def client_at(client, place, turn, colour):
+    """A client: a mark with its name outside the circle, which covers the arrows behind it."""
+    x, y = place
+    mark = f'<circle cx="{x:.1f}" cy="{y:.1f}" r="{RADIUS - 4}" fill="#ffffff" stroke="{colour}" stroke-width="1.6"/>'
+    name, side = 'paint-order="stroke" stroke="#ffffff" stroke-width="3" text-anchor=', sin(turn)
+    if abs(side) > 0.5:
+        x += (RADIUS if side > 0 else -RADIUS)
+        return [mark, text(x, y + 4, client, INK, name + ('"start"' if side > 0 else '"end"'))]
+    return [mark, text(x, y - RADIUS - 2 if cos(turn) > 0 else y + RADIUS + 10, client, INK, name + '"middle"')]
 
 
 def text(x, y, words, colour, more=''):
