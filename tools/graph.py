@@ -16,8 +16,9 @@ KINDS = {'ring': 'red: a ring', 'behind': 'grey: behind it', 'edge': 'amber: oth
 class Waits:
     """Who waits for whom after the last move: by locks, and in a ring; or each wait, if all are asked for."""
 
-    def __init__(self, follower, is_all):
+    def __init__(self, follower, is_all, is_cut):
         waits = all_waits(follower)
+        self.is_cut = is_cut
         self.ring = ring_of(waits)
         self.behind = set(behind(waits, self.ring))
         self.locks = lock_edges_of(waits)
@@ -45,10 +46,12 @@ class Waits:
     def legend(self):
         """What the colours mean that are there, and who waits without an arrow."""
         kinds = {self.kind(client, other) for client, others in self.edges.items() for other in others}
-        words = [KINDS[kind] for kind in KINDS if kind in kinds]
+        words = [KINDS[kind] for kind in KINDS if kind in kinds] if self.ring else []
         if not all(self.is_by_lock(client, other) for client, others in self.edges.items() for other in others):
             words.append('dashed: behind an ask')
-        lines = ['; '.join(words)] if self.ring else ['no ring: an arrow ends at a client that has ended']
+        lines = ['; '.join(words)] * bool(words)
+        if not self.ring:
+            lines.insert(0, 'no ring' if self.is_cut else 'no ring: arrows lead to a client that has ended')
         if self.left_out:
             count = len(self.left_out)
             names = ' '.join(self.left_out) if count <= MOST_NAMES else f'{count} clients'
@@ -60,8 +63,10 @@ def size_of(edges):
     """The width and height that the drawing takes."""
     if not edges:
         return 320, HEAD + 20
-    name = RADIUS + 8 + round(max(map(len, clients_of(edges))) * GLYPH)
-    return max(2 * (circle_of(edges) + max(ROOM, name)), 320), 2 * (circle_of(edges) + ROOM) + HEAD
+    names = max(len(client) * (GLYPH if is_beside(turn) else GLYPH / 2)
+                for client, turn in zip(clients_of(edges), turns_of(edges)))
+    side = circle_of(edges) + max(ROOM, RADIUS + 8 + round(names))
+    return max(2 * side, 320), 2 * (circle_of(edges) + ROOM) + HEAD
 
 
 def circle_of(edges):
@@ -106,6 +111,11 @@ def turns_of(edges):
     return [2 * pi * k / count for k in range(count)]
 
 
+def is_beside(turn):
+    """Whether the name of a client stands beside its mark, not above or below."""
+    return abs(sin(turn)) > 0.5
+
+
 def edge(start, end, marks, kind, is_by_lock):
     """An arrow that keeps away from the other clients; of two that wait for each other each has one of its own."""
     beside = [mark for mark in marks if mark not in (start, end)]
@@ -123,10 +133,10 @@ def client_at(client, place, turn, colour):
     """A client: a mark with its name outside the circle, which covers the arrows behind it."""
     x, y = place
     mark = f'<circle cx="{x:.1f}" cy="{y:.1f}" r="{RADIUS - 4}" fill="#ffffff" stroke="{colour}" stroke-width="1.6"/>'
-    name, side = 'paint-order="stroke" stroke="#ffffff" stroke-width="3" text-anchor=', sin(turn)
-    if abs(side) > 0.5:
-        x += (RADIUS if side > 0 else -RADIUS)
-        return [mark, text(x, y + 4, client, INK, name + ('"start"' if side > 0 else '"end"'))]
+    name = 'paint-order="stroke" stroke="#ffffff" stroke-width="3" text-anchor='
+    if is_beside(turn):
+        x, anchor = (x + RADIUS, '"start"') if sin(turn) > 0 else (x - RADIUS, '"end"')
+        return [mark, text(x, y + 4, client, INK, name + anchor)]
     return [mark, text(x, y - RADIUS - 2 if cos(turn) > 0 else y + RADIUS + 10, client, INK, name + '"middle"')]
 
 
