@@ -16,3 +16,7 @@ pub mod ReportInputs
 pub mod ReportsOpened
 pub mod NestsOpened
 pub mod ReportScripts
+pub mod WhyRings
+pub mod WhyOpened
+pub mod EndsOpened
+pub mod CallersOpened

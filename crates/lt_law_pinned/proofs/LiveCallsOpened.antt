@@ -106,9 +106,9 @@ one_fits zero below = refl
 one_fits (suc n) below = absurd (omega (arith, below))
 
 -- the bytes denote this script, in which no client has more than its share
-record Fits (bytes : List ℕ) (script : ScriptData) : Type 0 where
-  read : read_of bytes ≡ Ok script
-  fit : (client : ℕ) → client < length script.clients → is_over script client ≡ false
+pub record Fits (bytes : List ℕ) (script : ScriptData) : Type 0 where
+  pub read : read_of bytes ≡ Ok script
+  pub fit : (client : ℕ) → client < length script.clients → is_over script client ≡ false
 
 not_over : (bytes : List ℕ) (script : ScriptData) → Fits bytes script → (client : ℕ) → IsOverShare (Some bytes) client → ⊥
 not_over bytes script fits client over =
@@ -198,7 +198,7 @@ not_rose n before now most began few less rose =
     let risen : count_after 0 n ≤ now = subst (λ (k : ℕ). count_after k n ≤ now) began rose in
     omega (arith, risen, few, less)
 
-goes_well : (c : LiveCall) (bytes : List ℕ) (script : ScriptData) → Fits bytes script → ReadsBytes bytes c → IsUntroubled c
+pub goes_well : (c : LiveCall) (bytes : List ℕ) (script : ScriptData) → Fits bytes script → ReadsBytes bytes c → IsUntroubled c
     → GoesWell c.words c.answer.status c.source c.source_after c.sink.faults c.sink_after.faults
 goes_well c bytes script fits reads fine = record {
   no_words = reads.no_words;

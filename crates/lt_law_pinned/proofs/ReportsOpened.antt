@@ -13,7 +13,7 @@ use Rattle.lt_script.specs.Reading.{read_of}
 use Rattle.lt_journal.specs.Split.{input_parts}
 use Rattle.lt_law_journals.specs.Checking.{checked_input, IsFinished, IsFirstBadIn}
 use Rattle.lt_law_journals.proofs.Answers.{accepted_input, refused_input}
-use Rattle.lt_checker.specs.Input.{IsJournalOf, IsBad}
+use Rattle.lt_checker.specs.Input.{DenotesBefore, IsJournalOf, IsBad}
 use Rattle.lt_waits.specs.declared.answer.Answer.{Answer}
 use Rattle.lt_waits.specs.declared.answer.Answer.TheVariants.{Done, Usage, Refused, TooLong, ReadFault, WriteFault, NoMemory, BadJournal}
 use Rattle.lt_waits.specs.Answers.{outcome_of}
@@ -77,14 +77,15 @@ accepted_run bytes script run is_script finished journal = (accepted_input scrip
 refused_line : (bytes : List ℕ) (script : ScriptData) (line : ℕ) → IsScript script → IsFirstBadIn script line bytes → checked_input script (lines bytes) ≡ Err line
 refused_line bytes script line is_script bad = (refused_input script bytes line is_script).1 bad
 
--- the run that a report is of
-run_so : (bytes : List ℕ) (script : ScriptData) (answer : Result (List Logged) ℕ) (text : List ℕ) → IsScript script → InputIs bytes script answer
-    → (h : IsReportOf (Some bytes) text) → answer ≡ Ok h.run
-run_so bytes script answer text is_script is h =
-    let same = same_script h.script script (read_of (take (input_parts bytes).script bytes)) h.denoted is.denoted in
+-- the run that is told is the one that the input says
+pub run_so : (bytes : List ℕ) (script : ScriptData) (answer : Result (List Logged) ℕ) (told : ScriptData) (run : List Logged)
+    → IsScript script → InputIs bytes script answer → DenotesBefore (Some bytes) told → IsJournalOf (Some bytes) told run → IsFinished told run
+    → answer ≡ Ok run
+run_so bytes script answer told run is_script is denoted accepted finished =
+    let same = same_script told script (read_of (take (input_parts bytes).script bytes)) denoted is.denoted in
     sym is.answered
     ∙ ap (λ (s : ScriptData). checked_input s (lines bytes)) (sym same)
-    ∙ accepted_run bytes h.script h.run (subst IsScript (sym same) is_script) h.finished h.accepted
+    ∙ accepted_run bytes told run (subst IsScript (sym same) is_script) finished accepted
 
 text_so : (bytes : List ℕ) (script : ScriptData) (run : List Logged) (text : List ℕ) → IsScript script → InputIs bytes script (Ok run) → IsReportOf (Some bytes) text
     → text ≡ waits_text script (waits_report script (world_after script run))
@@ -92,7 +93,7 @@ text_so bytes script run text is_script is h =
     h.told
     ∙ ap₂ (λ (s : ScriptData) (r : List Logged). waits_text s (waits_report s (world_after s r)))
     (same_script h.script script (read_of (take (input_parts bytes).script bytes)) h.denoted is.denoted)
-    (same_run h.run run (Ok h.run) refl (sym (run_so bytes script (Ok run) text is_script is h)))
+    (same_run h.run run (Ok h.run) refl (sym (run_so bytes script (Ok run) h.script h.run is_script is h.denoted h.accepted h.finished)))
 
 done_of : (c : PlainCall Answer) (bytes : List ℕ) → ReadsPlain IsReportCall outcome_of bytes c → c.answer ≡ Done
     → (text : List ℕ) × IsReportOf (Some bytes) text × Appends c.sink.held c.sink_after.held text
@@ -115,7 +116,7 @@ unfit_in c bytes answer reads e is =
     (subst (λ (left : Option (List ℕ)). IsUnfit left c.answer) reads.input
     (reads.serves.refused (subst (λ (a : Answer). IsRefused (outcome_of a)) (sym e) is)))
 
-bad_so : (bytes : List ℕ) (script : ScriptData) (answer : Result (List Logged) ℕ) (line : ℕ) → InputIs bytes script answer
+pub bad_so : (bytes : List ℕ) (script : ScriptData) (answer : Result (List Logged) ℕ) (line : ℕ) → InputIs bytes script answer
     → IsBad (Some bytes) line → answer ≡ Err line
 bad_so bytes script answer line is bad =
     sym is.answered
@@ -137,7 +138,7 @@ reports_told = record {
       run_or_line writer_moves line (Ok writer_moves) refl (bad_so writers_apart apart_script (Ok writer_moves) line apart_is (unfit_in c writers_apart (BadJournal line) h.0 h.1 tt));
   never_done = λ c h.
       let done = done_of c wrong_grant h.0 h.1 in
-      run_or_line done.1.run 9 (Ok done.1.run) refl (sym (run_so wrong_grant apart_script (Err 9) done.0 apart_is_script wrong_is done.1));
+      run_or_line done.1.run 9 (Ok done.1.run) refl (sym (run_so wrong_grant apart_script (Err 9) done.1.script done.1.run apart_is_script wrong_is done.1.denoted done.1.accepted done.1.finished));
   fault = λ c fault h. same_fault fault no_nodes_fault (read_of (take (input_parts []).script [])) (unfit_in c [] (Refused fault) h.0 h.1 tt) nothing_read;
   never_refused = λ c fault h.
       script_or_fault apart_script fault (read_of (take (input_parts writers_apart).script writers_apart)) apart_is.denoted
@@ -162,7 +163,7 @@ reports_told = record {
       );
 }
 
-none_refused : (answer : Answer) → IsRefused (outcome_of answer) → IsUnfit (Some writers_apart) answer → ⊥
+pub none_refused : (answer : Answer) → IsRefused (outcome_of answer) → IsUnfit (Some writers_apart) answer → ⊥
 none_refused (Refused fault) is h =
     script_or_fault apart_script fault (read_of (take (input_parts writers_apart).script writers_apart)) apart_is.denoted h
 none_refused (BadJournal line) is h = run_or_line writer_moves line (Ok writer_moves) refl (bad_so writers_apart apart_script (Ok writer_moves) line apart_is h)

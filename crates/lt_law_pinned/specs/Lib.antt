@@ -9,3 +9,6 @@ pub mod OtherAnswers
 pub mod PlainCalls
 pub mod Reports
 pub mod NestCalls
+pub mod WhyCalls
+pub mod EndCalls
+pub mod CallerCalls
