@@ -78,8 +78,8 @@ module _ {C : Type 0} where
     pub given : map session_of desks ≡ sessions
     pub free : NoneRefused desks
 
-  -- the stations and the sessions are those of the script, each caller called by the session at its place, whose ring has a place
-  -- for each command that it may submit, and what was refused might not be submitted
+  -- the stations and the sessions are those of the script, each caller called by the session at its place, whose ring
+  -- has a place for each command that it may submit, and what was refused might not be submitted
   pub record AreServing (goes : C → Option Reply → Option Command → C → Type 0) (script : ScriptData) (callers : List C)
       (stations : List StationData) (desks : List (Desk C)) : Type 0 where
     pub live : AreLive script stations (map session_of desks)
