@@ -1,5 +1,6 @@
 mod journals;
 
+use crate::telling::{holds, holds_in};
 use journals::{
     EMPTY_SCRIPT, LATE_COPY, LATE_COPY_SCRIPT, TELLS, TELLS_SCRIPT, TWO_NODES, TWO_NODES_SCRIPT,
 };
@@ -7,7 +8,6 @@ use lt_checker::{Checker, ReplayError, replay};
 use lt_journal::read;
 use lt_merge::Run;
 use lt_script::Script;
-use lt_tests_parts::{holds, holds_in};
 use lt_text::next_line;
 use std::alloc::{AllocError, Global};
 use std::test::Fail;

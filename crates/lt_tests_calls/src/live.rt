@@ -2,11 +2,11 @@ ghost use Rattle.std.specs.Prelude.{◌≡◌, ◌<◌, ◌≤◌, [], IfOk};
 ghost use Rattle.lt_spec.specs.declared.limits.TheConstants.{MAX_COMMANDS};
 ghost use Rattle.lt_live.specs.Words.{SameSession};
 
+use crate::telling::{holds, same};
 use lt_live::{Reply, Session, Station, open};
 use lt_modes::{Command, Mode};
 use lt_runner::{Open, Turned};
 use lt_script::{MAX_COMMANDS, Script, read};
-use lt_tests_parts::{holds, same};
 use std::alloc::Global;
 use std::test::Fail;
 

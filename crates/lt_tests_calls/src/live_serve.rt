@@ -1,11 +1,11 @@
 mod meeting;
 
+use crate::telling::{holds, same};
 use lt_checker::check_input;
 use lt_io::{MemorySink, MemorySource};
 use lt_live::Reply;
 use lt_live_serve::{Open, Served, Status, program, serve};
 use lt_runner::Gate;
-use lt_tests_parts::{holds, same};
 use std::alloc::{AllocError, Global};
 use std::io::{self, ErrorKind};
 use std::str::from_utf8;

@@ -1,6 +1,6 @@
+use crate::telling::holds;
 use lt_modes::Mode;
 use lt_nest::{Asked, BeginError, Ended, Nest};
-use lt_tests_parts::holds;
 
 // A child locks beside its parent; another transaction waits for both.
 #[test]

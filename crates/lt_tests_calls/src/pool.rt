@@ -1,9 +1,9 @@
 // Stations in a pool, as workers share them.
 use crate::live::{LOCK, TWO_NODES, script_of, submit};
+use crate::telling::{holds, same};
 use lt_live::{Reply, open, visit};
 use lt_pool::Pool;
 use lt_runner::{Open, Turned};
-use lt_tests_parts::{holds, same};
 use std::test::Fail;
 
 #[test]

@@ -1,6 +1,6 @@
+use crate::telling::{holds, same, same_in};
 use lt_io::{MemorySink, MemorySource};
 use lt_script::{Fault, ScriptFault};
-use lt_tests_parts::{holds, same, same_in};
 use lt_waits::{Answer, WaitGraph, serve};
 use std::alloc::{AllocError, Global};
 use std::test::Fail;

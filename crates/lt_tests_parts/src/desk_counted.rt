@@ -1,6 +1,6 @@
 use crate::desk_draws::Draws;
 use crate::desk_walks::Both;
-use crate::same;
+use crate::telling::same;
 use lt_desk::Desk;
 use lt_held::Held;
 use lt_modes::ModeSet;

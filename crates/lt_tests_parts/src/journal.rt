@@ -1,4 +1,4 @@
-use crate::{holds, same};
+use crate::telling::{holds, same};
 use lt_journal::write;
 use lt_merge::Run;
 use lt_modes::{Event, Mode, ModeSet, Move, Stamp, Step};

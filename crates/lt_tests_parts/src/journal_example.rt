@@ -1,4 +1,4 @@
-use crate::same;
+use crate::telling::same;
 use lt_journal::{Journal, Line, read, split, write};
 use lt_merge::Run;
 use lt_modes::{Move, Stamp};

@@ -1,4 +1,4 @@
-use crate::{holds, same};
+use crate::telling::{holds, same};
 use lt_journal::{Line, Parts, read, split};
 use lt_modes::Mode;
 use lt_script::Script;

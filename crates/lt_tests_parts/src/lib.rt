@@ -36,6 +36,7 @@ mod script;
 mod streams;
 #[cfg(test)]
 mod summary;
+#[cfg(test)]
 mod telling;
 #[cfg(test)]
 mod threads;
@@ -45,5 +46,3 @@ mod turns;
 mod words;
 #[cfg(test)]
 mod world;
-
-pub use telling::{holds, holds_in, same, same_in};

@@ -1,4 +1,4 @@
-use crate::{same, same_in};
+use crate::telling::{same, same_in};
 use lt_gen::{Draws, can_make, script};
 use lt_script::print;
 use std::alloc::Global;

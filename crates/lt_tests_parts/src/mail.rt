@@ -1,4 +1,4 @@
-use crate::same;
+use crate::telling::same;
 use lt_desk::{Body, Letter, News};
 use lt_mail::{Mail, beside, open};
 use lt_modes::{Link, ModeSet, Stamp};

@@ -1,4 +1,4 @@
-use crate::same;
+use crate::telling::same;
 use lt_modes::{MODES, Mode, ModeSet};
 
 // The printed conflict table, a row for each mode.

@@ -2,7 +2,7 @@ ghost use Rattle.std.specs.Bool.{OnTrue};
 ghost use Rattle.std.specs.Prelude.{◌≡◌, ◌<◌, length};
 ghost use Rattle.lt_spec.specs.NodeMove.{home};
 
-use crate::{holds, same};
+use crate::telling::{holds, same};
 use lt_core::Answer;
 use lt_desk::{Letter, Out};
 use lt_modes::{Command, Event, Mode};

@@ -1,4 +1,4 @@
-use crate::same;
+use crate::telling::same;
 use lt_text::{exact_number, number, push_number};
 use std::test::Fail;
 

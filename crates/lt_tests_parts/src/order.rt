@@ -1,4 +1,4 @@
-use crate::{holds, same};
+use crate::telling::{holds, same};
 use lt_modes::{Command, Mode};
 use lt_order::{first_bad, ordered};
 use lt_script::Script;

@@ -1,6 +1,6 @@
 ghost use Rattle.std.specs.Prelude.{◌≡◌, refl};
 
-use crate::{holds, same};
+use crate::telling::{holds, same};
 use lt_pool::{Pool, Same};
 use std::test::Fail;
 

@@ -2,7 +2,7 @@ ghost use Rattle.std.specs.Prelude.{◌<◌, ◌≤◌, IfOk};
 ghost use Rattle.lt_spec.specs.declared.moves.TheConstants.{MAX_MOVES};
 ghost use Rattle.lt_runner.specs.Kept.{AreBeside};
 
-use crate::{holds, same};
+use crate::telling::{holds, same};
 use lt_mail::open;
 use lt_modes::{Command, Mode};
 use lt_runner::{Choice, Found, Gate, Runner, Turned, Worked, all_at_once};

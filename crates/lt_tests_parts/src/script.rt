@@ -1,4 +1,4 @@
-use crate::{holds, same, same_in};
+use crate::telling::{holds, same, same_in};
 use lt_modes::{Command, Mode};
 use lt_script::{MAX_CLIENTS_OF_FIRST, ReadError, Script, print, read};
 use lt_text::push_number;

@@ -1,4 +1,4 @@
-use crate::same;
+use crate::telling::same;
 use lt_io::{
     Failed, MemorySink, MemorySource, ReadFailure, ReaderSource, Source, SureSink, SureSource,
     WriterSink, read_all, write_all,

@@ -1,4 +1,4 @@
-use crate::same;
+use crate::telling::same;
 use lt_merge::Run;
 use lt_modes::{Event, Mode, Move, Stamp, Step};
 use lt_script::Script;

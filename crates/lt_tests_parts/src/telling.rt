@@ -4,14 +4,12 @@ use std::fmt::{Debug, Display};
 use std::process::Abort;
 
 /// Ends the test where it was told something else than it wanted.
-///
-/// A call of this is proved in a tenth of the time that `assert_eq!` takes in a test.
-pub fn same<R: Abort, T: PartialEq + Debug + Drop>(rt: &R, told: T, wanted: T) {
+pub(crate) fn same<R: Abort, T: PartialEq + Debug + Drop>(rt: &R, told: T, wanted: T) {
     assert_eq!(rt; told, wanted);
 }
 
 /// The same of one of many inputs, which it names.
-pub fn same_in<R: Abort, I: Display + Drop, T: PartialEq + Debug + Drop>(
+pub(crate) fn same_in<R: Abort, I: Display + Drop, T: PartialEq + Debug + Drop>(
     rt: &R,
     input: I,
     told: T,
@@ -21,14 +19,14 @@ pub fn same_in<R: Abort, I: Display + Drop, T: PartialEq + Debug + Drop>(
 }
 
 /// Ends the test where this is not so.
-pub fn holds<R: Abort>(rt: &R, told: bool)
+pub(crate) fn holds<R: Abort>(rt: &R, told: bool)
     ensures { told ≡ true }
 {
     assert!(rt; told);
 }
 
 /// The same of one of many inputs, which it names.
-pub fn holds_in<R: Abort, I: Display + Drop>(rt: &R, input: I, told: bool)
+pub(crate) fn holds_in<R: Abort, I: Display + Drop>(rt: &R, input: I, told: bool)
     ensures { told ≡ true }
 {
     assert!(rt; told, "{input}");

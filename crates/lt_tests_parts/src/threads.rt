@@ -1,4 +1,4 @@
-use crate::{holds, same, same_in};
+use crate::telling::{holds, same, same_in};
 use lt_runner::Open;
 use lt_script::{Script, read};
 use lt_spec::{Ending, MAX_MOVES};

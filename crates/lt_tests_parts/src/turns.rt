@@ -1,4 +1,4 @@
-use crate::same;
+use crate::telling::same;
 use lt_turns::Turns;
 use std::test::Fail;
 

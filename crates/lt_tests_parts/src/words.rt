@@ -1,4 +1,4 @@
-use crate::{holds, holds_in, same_in};
+use crate::telling::{holds, holds_in, same_in};
 use lt_words::Command;
 use std::alloc::{AllocError, Global};
 use std::test::Fail;

@@ -1,6 +1,6 @@
 ghost use Rattle.std.specs.Prelude.{◌≡◌, length};
 
-use crate::{holds, same};
+use crate::telling::{holds, same};
 use lt_modes::{Command, Mode, Step};
 use lt_script::Script;
 use lt_world::{Choice, World};

@@ -2,10 +2,10 @@
 ghost use Rattle.std.specs.Prelude.{◌<◌};
 
 use super::served;
+use crate::telling::same;
 use lt_live_serve::Status;
 use lt_merge::Run;
 use lt_runner::Gate;
-use lt_tests_parts::same;
 use std::sync::atomic::{AtomicU64, Ordering};
 use std::test::Fail;
 

@@ -1,8 +1,8 @@
 use super::{Open, served, sink_of, source_of, words_of};
+use crate::telling::{same, same_in};
 use lt_io::SureSource;
 use lt_script::{Fault, ScriptFault};
 use lt_serve::{Status, USUAL, program, serve};
-use lt_tests_parts::{same, same_in};
 use std::io::{self, ErrorKind};
 use std::test::Fail;
 

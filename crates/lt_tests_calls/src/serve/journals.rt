@@ -1,6 +1,6 @@
 use super::served;
+use crate::telling::same;
 use lt_serve::{Setup, Status, USUAL};
-use lt_tests_parts::same;
 use std::test::Fail;
 
 // Scripts, with the status and the journal that they come to in the fixed order.

@@ -1,9 +1,9 @@
 use super::gates::{Passes, TIMES};
 use super::{sink_of, source_of, words_of};
+use crate::telling::{holds, same};
 use lt_merge::Run;
 use lt_runner::Gate;
 use lt_serve::{Served, Status, serve};
-use lt_tests_parts::{holds, same};
 use std::alloc::{AllocError, Global};
 use std::test::Fail;
 use std::thread::Threads;

@@ -1,9 +1,9 @@
 use super::gates::{Passes, TIMES};
 use super::{sink_of, source_of, words_of};
+use crate::telling::{holds, same};
 use lt_runner::Gate;
 use lt_serve::{Setup, Status, serve_with};
 use lt_spec::MAX_MOVES;
-use lt_tests_parts::{holds, same};
 use std::alloc::{AllocError, Global};
 use std::str::from_utf8;
 use std::test::Fail;

@@ -1,8 +1,8 @@
 use super::{Open, sink_of, words_of};
+use crate::telling::{same, same_in};
 use lt_io::ReaderSource;
 use lt_script::{Fault, ScriptFault};
 use lt_serve::{Status, serve};
-use lt_tests_parts::{same, same_in};
 use std::io::{self, Read};
 use std::test::Fail;
 

@@ -1,6 +1,6 @@
 use super::served;
+use crate::telling::{holds, same_in};
 use lt_serve::USUAL;
-use lt_tests_parts::{holds, same_in};
 use std::test::Fail;
 
 // Scripts with a fault, and the line that tells it.

@@ -1,12 +1,12 @@
 //! The greatest sizes, with ample memory.
 use super::words_of;
+use crate::telling::{holds, same, same_in};
 use lt_checker::{ReplayError, replay};
 use lt_io::{MemorySink, SureSource};
 use lt_journal::read as read_journal;
 use lt_runner::Open;
 use lt_script::read as read_script;
 use lt_serve::{Status, serve};
-use lt_tests_parts::{holds, same, same_in};
 use std::alloc::{AllocError, Global};
 use std::test::Fail;
 use std::thread::Threads;

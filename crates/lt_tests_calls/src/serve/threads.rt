@@ -1,6 +1,6 @@
 use super::served;
+use crate::telling::{holds, same};
 use lt_serve::{Setup, Status, USUAL};
-use lt_tests_parts::{holds, same};
 use std::alloc::Global;
 use std::str::from_utf8;
 use std::test::Fail;

@@ -1,7 +1,7 @@
 //! A script with all that there may be at once, and an input with many lines that are skipped.
 use super::sizes::{joined, served};
+use crate::telling::{holds, same};
 use lt_serve::Status;
-use lt_tests_parts::{holds, same};
 use std::alloc::{AllocError, Global};
 use std::test::Fail;
 
