@@ -1,7 +1,9 @@
 #!/usr/bin/env python3
 """Runs the proved programs on scripts at each extreme: 1 and the most nodes, sets, clients, clients of a node, commands of
 one client and of one node, of both versions; and nested transactions at theirs. Each ends with status 0, as nobody waits;
-`check` takes each journal, and of runs that get stuck `lockwaits` tells the ring. It prints how many calls were made."""
+`check` takes each journal, and of runs that get stuck `lockwaits` tells the ring. Then it runs them on inputs that are
+refused: at their first line, far on, at their last line, and on inputs of no byte. Each is told by its own status and
+line, and none as want of memory. It prints how many calls were made."""
 import subprocess
 import sys
 from pathlib import Path
@@ -63,6 +65,43 @@ def nest(sets, transactions, locks):
 
 NESTS = {'one of each': nest(1, 1, 1), 'no lock': nest(1, 1, 0), 'the most sets and transactions': nest(8, 256, 512)}
 
+# The most commands of a client, alone on its node: its turns, and the journal of its run.
+ALONE = ['nodes 1', 'set s', 'client c at 0'] + ['c lock s write', 'c unlock s write'] * 2048
+JOURNAL = [line for k in range(1, 4097, 2)
+           for line in [f'move {k} 0 act c', 'grant c s write', f'move {k + 1} 0 act c', 'unlock c s write']]
+JOURNAL += ['owner s 0 0', 'end 4096']
+FAR = 6000
+LONG_LINE = 'grant c s ' + 'w' * 300
+
+# Of journals with a bad line: their lines, and at which of these, from 1, the first bad one is.
+BAD_JOURNALS = {
+    'a bad first line of a journal': (['grant c s write'] + JOURNAL[1:], 1),
+    'a move by another clock far on': (JOURNAL[:FAR] + ['move 1 0 act c'] + JOURNAL[FAR + 1:], FAR + 1),
+    'another mode far on': (JOURNAL[:FAR + 1] + ['grant c s read'] + JOURNAL[FAR + 2:], FAR + 2),
+    'a line of 310 bytes far on': (JOURNAL[:FAR + 1] + [LONG_LINE] + JOURNAL[FAR + 2:], FAR + 2),
+    'another last line': (JOURNAL[:-1] + ['end 4095'], len(JOURNAL)),
+    'no last line': (JOURNAL[:-1], len(JOURNAL)),
+    'a line after the last': (JOURNAL + [''], len(JOURNAL) + 1),
+    'no journal': ([], 1),
+}
+
+# Of scripts that are refused: their lines, and what is told of the first fault.
+REFUSED_SCRIPTS = {
+    'no byte': ([], 'line 1: S5'),
+    'a refused first line of a script': (ALONE[1:], 'line 1: S5'),
+    'a set that is not there far on': (ALONE[:4000] + ['c lock t write'] + ALONE[4000:-1], 'line 4001: S8'),
+    'no mode in the last line of a script': (ALONE[:-1] + ['c unlock s wright'], f'line {len(ALONE)}: S10'),
+    'a command too many': (ALONE + ['c unlock s write'], f'line {len(ALONE) + 1}: S9'),
+}
+
+# Of lines of nested transactions that are refused: the lines, and the first of them that is refused.
+REFUSED_NESTS = {
+    'a refused first line of a nest': (['t lock s read', 'set s', 't begin'], 1),
+    'a set that is not there in the last line': (['set s', 't begin'] + ['t try s read'] * 1200 + ['t try r read'], 1203),
+    'the last line has no form': (['set s', 't begin'] + ['t try s read'] * 1200 + ['t try s'], 1203),
+    'a line too many': (['set s', 't begin', 't abort'] + ['t abort'] * 65533, 65536),
+}
+
 calls, wrong = 0, []
 
 
@@ -74,6 +113,16 @@ def call(name, program, words, data, status=0):
     if ran.returncode != status or ran.stderr:
         wrong.append(f'{name}: {Path(program).name} {" ".join(words)}: status {ran.returncode}, {ran.stderr[-200:]!r}')
     return ran.stdout
+
+
+def refused(name, program, words, data, status, line):
+    """Has the program refuse the input with this status and this line, and write nothing."""
+    global calls
+    calls += 1
+    ran = subprocess.run([program] + words, input=data, capture_output=True, env={}, check=False)
+    told = f'{Path(program).name}: {line}\n'.encode()
+    if (ran.returncode, ran.stdout, ran.stderr) != (status, b'', told):
+        wrong.append(f'{name}: {Path(program).name} {" ".join(words)}: status {ran.returncode}, {ran.stderr[-200:]!r}')
 
 
 def is_so(name, what, good):
@@ -100,6 +149,22 @@ for name, words, lines, last in [
 for name, data in NESTS.items():
     text = call(name, NEST, [], data)
     is_so(name, 'a lock is left', text.splitlines()[-2:-1] == [b'commit t1' if b'\nt1 ' in data else b'commit t'])
+whole = text_of(ALONE + ['journal'] + JOURNAL)
+is_so('the most commands alone', 'another count of moves', call('alone', RUN, ['check'], whole) == b'ok 4096\n')
+for name, (lines, fault) in REFUSED_SCRIPTS.items():
+    for program, words in [(RUN, ['sim', 'first']), (RUN, ['sim', '7']), (RUN, ['run']), (RUN, ['order']), (LIVE, [])]:
+        refused(name, program, words, text_of(lines), 2, fault)
+    for program, words in [(RUN, ['check']), (WAITS, []), (WAITS, ['why'])]:
+        refused(name, program, words, text_of(lines), 2, fault)
+        if lines:
+            refused(name, program, words, text_of(lines + ['journal'] + JOURNAL), 2, fault)
+for name, (lines, bad) in BAD_JOURNALS.items():
+    for program, words in [(RUN, ['check']), (WAITS, []), (WAITS, ['why'])]:
+        fault = f'line {len(ALONE) + 1 + bad}: journal'
+        refused(name, program, words, text_of(ALONE + ['journal'] + lines), 8, fault)
+for name, (lines, bad) in REFUSED_NESTS.items():
+    refused(name, NEST, [], text_of(lines), 2, f'line {bad}')
+is_so('no byte', 'another text of no line', call('no byte', NEST, [], b'') == b'end 0\n')
 print(f'tests/extremes.py: {calls} calls, {len(wrong)} wrong')
 for what in wrong:
     print(f'  {what}')

@@ -295,6 +295,8 @@ case $1 in
   all)
     echo "fn low: proved" >&2
     echo "logic=proved functions=1" >&2
+    echo "fn high: proved" >&2
+    echo "logic=proved functions=2" >&2
     echo "lt_low: ok"
     echo "lockrun: ok"
     exit ;;
@@ -307,10 +309,12 @@ expect 'the build' "build: from nothing, all together takes about half an hour o
 build: lockrun is made from 2 crates, and each that isn't proved yet is proved first
 fn low: proved
 logic=proved functions=1
-lt_low: ok
 build: lockrun: 1 of 2 crates proved
-lockrun: ok
+fn high: proved
+logic=proved functions=2
 build: lockrun: 2 of 2 crates proved
+lt_low: ok
+lockrun: ok
 library lt_low: modules loaded=1
 build: lockrun is proved and linked: $made/crates/lockrun/out/lockrun
 status 0" "$(PATH=$with_build && said "$made/build" lockrun)"

@@ -6,6 +6,7 @@ from curves import clear_curve, path
 from waiting import all_waits, behind, edges_of, lock_edges_of, ring_of
 
 RADIUS, ROOM, HEAD = 13, 56, 60
+GLYPH = 6.7         # the width of a letter
 INK, FAINT, RING, BEHIND, EDGE = '#222222', '#8a8a8a', '#d1381f', '#a9aeb6', '#f0a30a'
 MOST_CURVES = 400   # of more arrows each is a straight line
 MOST_NAMES = 4      # of those that have no arrow
@@ -15,8 +16,9 @@ KINDS = {'ring': 'red: a ring', 'behind': 'grey: behind it', 'edge': 'amber: oth
 class Waits:
     """Who waits for whom after the last move: by locks, and in a ring; or each wait, if all are asked for."""
 
-    def __init__(self, follower, is_all):
+    def __init__(self, follower, is_all, is_cut):
         waits = all_waits(follower)
+        self.is_cut = is_cut
         self.ring = ring_of(waits)
         self.behind = set(behind(waits, self.ring))
         self.locks = lock_edges_of(waits)
@@ -33,6 +35,10 @@ class Waits:
             return 'ring'
         return 'behind' if client in self.ring or client in self.behind else 'edge'
 
+    def colour(self, client):
+        """The colour of a client: of the ring, behind it, or neither."""
+        return RING if client in self.ring else BEHIND if client in self.behind else INK
+
     def is_by_lock(self, client, other):
         """Whether a lock of the other one is in the way."""
         return other in self.locks[client]
@@ -40,10 +46,12 @@ class Waits:
     def legend(self):
         """What the colours mean that are there, and who waits without an arrow."""
         kinds = {self.kind(client, other) for client, others in self.edges.items() for other in others}
-        words = [KINDS[kind] for kind in KINDS if kind in kinds]
+        words = [KINDS[kind] for kind in KINDS if kind in kinds] if self.ring else []
         if not all(self.is_by_lock(client, other) for client, others in self.edges.items() for other in others):
             words.append('dashed: behind an ask')
-        lines = ['; '.join(words)] if self.ring else ['no ring: an arrow ends at a client that has ended']
+        lines = ['; '.join(words)] * bool(words)
+        if not self.ring:
+            lines.insert(0, 'no ring' if self.is_cut else 'no ring: arrows lead to a client that has ended')
         if self.left_out:
             count = len(self.left_out)
             names = ' '.join(self.left_out) if count <= MOST_NAMES else f'{count} clients'
@@ -55,8 +63,10 @@ def size_of(edges):
     """The width and height that the drawing takes."""
     if not edges:
         return 320, HEAD + 20
-    side = 2 * (circle_of(edges) + ROOM)
-    return max(side, 320), side + HEAD
+    names = max(len(client) * (GLYPH if is_beside(turn) else GLYPH / 2)
+                for client, turn in zip(clients_of(edges), turns_of(edges)))
+    side = circle_of(edges) + max(ROOM, RADIUS + 8 + round(names))
+    return max(2 * side, 320), 2 * (circle_of(edges) + ROOM) + HEAD
 
 
 def circle_of(edges):
@@ -83,18 +93,27 @@ def graph(waits, left, top):
         for other in others:
             look = waits.kind(client, other), waits.is_by_lock(client, other)
             pieces.append(edge(places[client], places[other], marks if is_bent else [], *look))
-    middle = sum(y for _, y in marks) / len(marks)
-    return pieces + [mark for client, (x, y) in places.items()
-                     for mark in client_at(client, x, y, y < middle - 1, client in waits.ring)]
+    return pieces + [piece for turn, (client, place) in zip(turns_of(edges), places.items())
+                     for piece in client_at(client, place, turn, waits.colour(client))]
 
 
 def places_of(edges, left, top):
     """Where each client stands on the circle, the first one at the top."""
     clients, radius = clients_of(edges), circle_of(edges)
     middle = left + size_of(edges)[0] / 2, top + HEAD + ROOM + radius
-    turns = [2 * pi * k / len(clients) for k in range(len(clients))]
     return {client: (middle[0] + radius * sin(turn), middle[1] - radius * cos(turn))
-            for client, turn in zip(clients, turns)}
+            for client, turn in zip(clients, turns_of(edges))}
+
+
+def turns_of(edges):
+    """The angle of each client on the circle, from the top."""
+    count = len(clients_of(edges))
+    return [2 * pi * k / count for k in range(count)]
+
+
+def is_beside(turn):
+    """Whether the name of a client stands beside its mark, not above or below."""
+    return abs(sin(turn)) > 0.5
 
 
 def edge(start, end, marks, kind, is_by_lock):
@@ -110,12 +129,15 @@ def edge(start, end, marks, kind, is_by_lock):
             f'{dash}marker-end="url(#{kind})"/>')
 
 
-def client_at(client, x, y, is_above, in_ring):
-    """A client: a mark with its name above or below, away from the middle."""
-    colour = RING if in_ring else INK
-    line = y - RADIUS - 2 if is_above else y + RADIUS + 10
-    return [f'<circle cx="{x:.1f}" cy="{y:.1f}" r="{RADIUS - 4}" fill="#ffffff" stroke="{colour}" stroke-width="1.6"/>',
-            text(x, line, client, INK, 'text-anchor="middle"')]
+def client_at(client, place, turn, colour):
+    """A client: a mark with its name outside the circle, which covers the arrows behind it."""
+    x, y = place
+    mark = f'<circle cx="{x:.1f}" cy="{y:.1f}" r="{RADIUS - 4}" fill="#ffffff" stroke="{colour}" stroke-width="1.6"/>'
+    name = 'paint-order="stroke" stroke="#ffffff" stroke-width="3" text-anchor='
+    if is_beside(turn):
+        x, anchor = (x + RADIUS, '"start"') if sin(turn) > 0 else (x - RADIUS, '"end"')
+        return [mark, text(x, y + 4, client, INK, name + anchor)]
+    return [mark, text(x, y - RADIUS - 2 if cos(turn) > 0 else y + RADIUS + 10, client, INK, name + '"middle"')]
 
 
 def text(x, y, words, colour, more=''):

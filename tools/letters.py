@@ -459,13 +459,13 @@ class Follower:
         return unfit(move.line, f'{why}; due there is {self.due(move.number - 1)}')
 
     def due(self, count):
-        """The lines that can stand after so many moves: of moves not more than three, or the first closing line."""
+        """The lines that can stand after so many moves: of five moves or more three, or the first closing line."""
         lines = [f'move {self.clocks[node] + 1} {node} act {client}'
                  for client, node in self.script.node_of.items() if self.can_act(client)]
         lines += [f'move {max(self.clocks[to], way[0].sent.clock) + 1} {to} take {sender}'
                   for (sender, to), way in sorted(self.on_way.items()) if way]
-        more = [f'one of {len(lines) - MOST_DUE} others'] * (len(lines) > MOST_DUE)
-        return ' or '.join(lines[:MOST_DUE] + more) or self.closing_lines(count)[0]
+        more = [f'one of {len(lines) - MOST_DUE} more'] * (len(lines) > MOST_DUE + 1)
+        return ' or '.join((lines[:MOST_DUE] if more else lines) + more) or self.closing_lines(count)[0]
 
     def can_act(self, client):
         """Whether a client can make a command."""

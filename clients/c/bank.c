@@ -54,7 +54,7 @@ static void transfer(lockrun_caller *caller, int from, int to) {
 }
 
 static void *call(void *argument) {
-    lockrun_caller *caller = argument;
+    lockrun_caller *caller = (lockrun_caller *)argument;
     uint32_t number = lockrun_client(&caller->session);
     for (int k = 0; k < transfers; k++) {
         int from = (number + k) % ACCOUNTS;

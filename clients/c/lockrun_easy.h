@@ -1,4 +1,4 @@
-/* lockrun_easy.h: calls that wait, over lockrun.h. Plain C11; nothing of it is proved.
+/* lockrun_easy.h: calls that wait, over lockrun.h. Plain C11, and C++11; nothing of it is proved.
  *
  * No thread runs the nodes: whoever waits turns them, one thread at a time for each node. A caller is used by one thread
  * at a time. A call waits at most `patience` milliseconds, or for ever if that is LOCKRUN_FOREVER. If the time is over it
@@ -9,9 +9,16 @@
 #define LOCKRUN_EASY_H
 #include "lockrun.h"
 #include <sched.h>
-#include <stdatomic.h>
 #include <stdlib.h>
+#include <string.h>
 #include <time.h>
+#ifdef __cplusplus
+#include <atomic>
+typedef std::atomic_flag lockrun_flag;
+#else
+#include <stdatomic.h>
+typedef atomic_flag lockrun_flag;
+#endif
 
 enum { LOCKRUN_WAITS = 32, LOCKRUN_FOREVER = -1 };
 
@@ -20,8 +27,8 @@ enum { LOCKRUN_OWN = 2, LOCKRUN_SPINS = 20, LOCKRUN_YIELDS = 200, LOCKRUN_LONGES
 
 typedef struct {
     lockrun_station station;
-    atomic_flag busy;
-    char apart[64 - sizeof(lockrun_station) - sizeof(atomic_flag)];
+    lockrun_flag busy;
+    char apart[64 - sizeof(lockrun_station) - sizeof(lockrun_flag)];
 } lockrun_node;
 
 typedef struct {
@@ -55,7 +62,8 @@ static inline uint32_t lockrun_help(lockrun_caller *caller, unsigned tries) {
     uint32_t code = lockrun_turn_node(caller->nodes, caller->home);
     if (tries < LOCKRUN_OWN) return code;
     for (size_t k = 0; k < caller->nodes->count; k++) {
-        uint32_t other = k == caller->home ? LOCKRUN_NOTHING : lockrun_turn_node(caller->nodes, k);
+        if (k == caller->home) continue;
+        uint32_t other = lockrun_turn_node(caller->nodes, k);
         if (lockrun_is_fault(other)) code = other;
     }
     return code;
@@ -70,8 +78,8 @@ static inline int64_t lockrun_now(void) {
 static inline void lockrun_back_off(unsigned tries) {
     if (tries < LOCKRUN_SPINS) return;
     if (tries < LOCKRUN_YIELDS) { sched_yield(); return; }
-    long nap = 1000L * (tries - LOCKRUN_YIELDS + 1);
-    struct timespec time = {0, nap < LOCKRUN_LONGEST_NAP ? nap : LOCKRUN_LONGEST_NAP};
+    const long nap = 1000L * (tries - LOCKRUN_YIELDS + 1), longest = LOCKRUN_LONGEST_NAP;
+    struct timespec time = {0, nap < longest ? nap : longest};
     nanosleep(&time, 0);
 }
 
@@ -141,7 +149,7 @@ static inline void lockrun_nodes_free(lockrun_nodes *nodes) {
     if (nodes->service.at) lockrun_free(&nodes->service);
     free(nodes->node);
     free(nodes->caller);
-    *nodes = (lockrun_nodes){0};
+    memset(nodes, 0, sizeof *nodes);
 }
 
 /* Takes the next station, or the next session, into a list that grows by it. */
@@ -149,10 +157,12 @@ static inline uint32_t lockrun_add_node(lockrun_nodes *nodes) {
     lockrun_station station = {0};
     uint32_t code = lockrun_take_station(&nodes->service, &station);
     if (code != LOCKRUN_OK) return code;
-    lockrun_node *grown = realloc(nodes->node, (nodes->count + 1) * sizeof *grown);
+    lockrun_node *grown = (lockrun_node *)realloc((void *)nodes->node, (nodes->count + 1) * sizeof *grown);
     if (!grown) { lockrun_free(&station); return LOCKRUN_NO_MEMORY; }
     nodes->node = grown;
-    nodes->node[nodes->count++] = (lockrun_node){.station = station, .busy = ATOMIC_FLAG_INIT};
+    grown += nodes->count++;
+    grown->station = station;
+    atomic_flag_clear(&grown->busy);
     return LOCKRUN_OK;
 }
 
@@ -160,17 +170,17 @@ static inline uint32_t lockrun_add_caller(lockrun_nodes *nodes) {
     lockrun_session session = {0};
     uint32_t code = lockrun_take_session(&nodes->service, &session);
     if (code != LOCKRUN_OK) return code;
-    lockrun_caller *grown = realloc(nodes->caller, (nodes->callers + 1) * sizeof *grown);
+    lockrun_caller *grown = (lockrun_caller *)realloc(nodes->caller, (nodes->callers + 1) * sizeof *grown);
     if (!grown) { lockrun_free(&session); return LOCKRUN_NO_MEMORY; }
     nodes->caller = grown;
-    uint32_t home = lockrun_home(&session);
-    nodes->caller[nodes->callers++] = (lockrun_caller){.session = session, .nodes = nodes, .home = home};
+    lockrun_caller caller = {session, nodes, lockrun_home(&session), 0, 0};
+    nodes->caller[nodes->callers++] = caller;
     return LOCKRUN_OK;
 }
 
 /* Opens all nodes of a script, with a caller for each client. `nodes` stays where it is until it is finished or freed. */
 static inline uint32_t lockrun_nodes_open(lockrun_nodes *nodes, const char *text, size_t length, uint32_t limit) {
-    *nodes = (lockrun_nodes){0};
+    memset(nodes, 0, sizeof *nodes);
     uint32_t code = lockrun_open((const uint8_t *)text, length, limit, 4, &nodes->service);
     while (code == LOCKRUN_OK) code = lockrun_add_node(nodes);
     if (code == LOCKRUN_NOTHING) code = LOCKRUN_OK;

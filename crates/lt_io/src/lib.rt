@@ -7,8 +7,6 @@ mod piece;
 mod sink;
 mod source;
 mod sure;
-#[cfg(test)]
-mod tests;
 mod whole;
 
 pub use adapters::{ReaderSource, WriterSink};

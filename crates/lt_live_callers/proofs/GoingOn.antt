@@ -1,5 +1,5 @@
 -- Stations and desks that go on stay those of one script.
-use Rattle.std.proofs.Common.{◌≡◌, ℕ, List, map, Option, Some, None, sym, subst, slice_get, slice_set, option_map}
+use Rattle.std.proofs.Common.{◌≡◌, arith, ℕ, List, map, Option, Some, None, sym, subst, slice_get, slice_set, option_map}
 use Rattle.std.proofs.lemmas.Option.{slice_get-map}
 use Rattle.lt_modes.specs.declared.command.Command.{Command}
 use Rattle.lt_modes.specs.Script.{ScriptData}
@@ -65,4 +65,11 @@ module _ {C : Type 0} (goes : C → Option Reply → Option Command → C → Ty
     each = λ client d here.
         let (old, was, went) = alike_before (DeskGoesOn goes) desks after go client d here in
         calls_go_on goes (slice_get callers client) old d (h.each client old was) went;
+    roomy = λ client d here.
+        let (old, was, went) = alike_before (DeskGoesOn goes) desks after go client d here in
+        let same = went.same in
+        omega (arith, h.roomy client old was, same.share, same.commands.1);
+    barred = λ client d here.
+        let (old, was, went) = alike_before (DeskGoesOn goes) desks after go client d here in
+        went.barred (h.barred client old was);
   }

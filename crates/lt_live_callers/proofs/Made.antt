@@ -1,18 +1,31 @@
 -- Desks are made, and what callers made at them.
-use Rattle.std.proofs.Common.{◌≡◌, ℕ, zero, suc, List, [], ◌∷◌, ◌++◌, ◌<◌, length, map, Option, Some, None, refl, sym, ap, subst, ◌∙◌, rules, arith, slice_get, slice_index_or, remove, option_map, append-nil}
-use Rattle.std.proofs.lemmas.Option.{same_Some, slice_get-get_or, slice_get-map}
+use Rattle.std.proofs.Common.{◌≡◌, ℕ, zero, suc, List, [], ◌∷◌, ◌++◌, ◌<◌, ◌≤◌, length, map, Option, Some, None, refl, sym, ap, subst, ◌∙◌, rules, arith, slice_get, slice_index_or, remove, option_map, append-nil}
+use Rattle.std.proofs.lemmas.Option.{same_Some, slice_get-get_or, slice_get-map, slice_get_within}
 use Rattle.lt_modes.specs.declared.command.Command.{Command}
 use Rattle.lt_modes.specs.Script.{ScriptData}
 use Rattle.lt_live.specs.declared.reply.Reply.{Reply}
 use Rattle.lt_live.specs.declared.ends.Session.{Session}
-use Rattle.lt_live.specs.Words.{submitted, command_held}
-use Rattle.lt_live.specs.Stations.{StationData, IsOpen}
-use Rattle.lt_live.specs.Live.{AreLive, OpenedAreLive}
+use Rattle.lt_live.specs.Words.{submitted, command_held, places}
+use Rattle.lt_live.specs.Stations.{StationData, IsOpen, equal_share}
+use Rattle.lt_live.specs.Live.{AreLive, IsSessionOf, OpenedAreLive}
 use Rattle.lt_live_callers.specs.declared.desk.Desk.{Desk}
 use Rattle.lt_live_callers.specs.declared.served.Called.{Called}
 use Rattle.lt_live_callers.specs.declared.served.Served.{Served}
+use Rattle.lt_live_callers.specs.Refused.{NamesOwn, CanSubmit, MayCommand}
 use Rattle.lt_live_callers.specs.Desks.{caller_of, called_of, session_of}
 use Rattle.lt_live_callers.specs.Served.{CallsAt, NoneRefused, AreDesks, AreServing, AreEnded, IsServedBy}
+
+-- of a session whose ring has a place for each command of its share, a command that has no room might not be submitted
+barred : (script : ScriptData) (stations : List StationData) (client : ℕ) (s : Session) → IsSessionOf script stations client s → s.share ≤ places s
+    → (command : Command) → ¬ CanSubmit s command → ¬ MayCommand script client s command
+barred script stations client s is roomy command none may =
+    let left : length (submitted s) < s.share = omega (arith, may.left, is.share) in
+    none (record {
+      left = left;
+      place = omega (arith, left, roomy);
+      names = subst (λ (first : ScriptData). NamesOwn first s.client command) (sym is.script_is)
+          (subst (λ (c : ℕ). NamesOwn script c command) (sym is.client_is) may.names);
+    })
 
 module _ {C : Type 0} where
   no_more : (xs : List C) → length xs ≡ 0 → xs ≡ []
@@ -36,15 +49,20 @@ module _ {C : Type 0} where
   free_at (x ∷ xs) zero d at all = search (rules, at, all)
   free_at (x ∷ xs) (suc k) d at all = free_at xs k d at all.1
 
+  -- the session of a desk is the one at its place
+  session_there : (callers : List C) (sessions : List Session) (desks : List (Desk C)) (client : ℕ) (d : Desk C) → AreDesks callers sessions desks
+      → slice_get desks client ≡ Some d → slice_get sessions client ≡ Some d.session
+  session_there callers sessions desks client d are here =
+      sym (ap (λ (xs : List Session). slice_get xs client) are.given) ∙ slice_get-map session_of desks client ∙ ap (option_map session_of) here
+
   -- nobody has called yet
   pub begun : (goes : C → Option Reply → Option Command → C → Type 0) → OpenedAreLive → (script : ScriptData) (limit capacity : ℕ) (stations : List StationData)
       (sessions : List Session) (callers : List C) (desks : List (Desk C)) → script.commands ≡ [] → IsOpen script limit capacity stations sessions
-      → AreDesks callers sessions desks → AreServing goes script callers stations desks
-  begun goes opened_live script limit capacity stations sessions callers desks empty opened are = record {
+      → (0 < length script.clients → capacity ≡ equal_share script) → AreDesks callers sessions desks → AreServing goes script callers stations desks
+  begun goes opened_live script limit capacity stations sessions callers desks empty opened share are = record {
     live = subst (λ (all : List Session). AreLive script stations all) (sym are.given) (opened_live script limit capacity stations sessions empty opened);
     each = λ client d here.
-        let new = (opened.each client d.session
-        (sym (ap (λ (xs : List Session). slice_get xs client) are.given) ∙ slice_get-map session_of desks client ∙ ap (option_map session_of) here)).0 in
+        let new = (opened.each client d.session (session_there callers sessions desks client d are here)).0 in
         subst (λ (o : Option C). CallsAt goes o d.session (Some (called_of d)))
         (sym (slice_get-map caller_of desks client ∙ ap (option_map caller_of) here) ∙ ap (λ (xs : List C). slice_get xs client) are.seated)
         (record {
@@ -53,27 +71,49 @@ module _ {C : Type 0} where
           told = new.replies.0;
           asked = ap (λ (o : Option Command). submitted d.session ++ command_held o) (free_at desks client d here are.free) ∙ append-nil (submitted d.session) ∙ new.commands;
         });
+    roomy = λ client d here.
+        let there = session_there callers sessions desks client d are here in
+        let new = (opened.each client d.session there).0 in
+        let inside = slice_get_within sessions client d.session there in
+        omega (arith, new.share.0, new.places, share (omega (arith, inside, opened.count)));
+    barred = λ client d here back is.
+        let none = free_at desks client d here are.free in
+        absurd (cc);
   }
 
-  -- what the desks did, as what their callers did
-  pub served_by : (goes : C → Option Reply → Option Command → C → Type 0) (script : ScriptData) (callers : List C) (stations : List StationData)
-      (desks : List (Desk C)) (served : Served C) → AreServing goes script callers stations desks → AreEnded script desks served → IsServedBy goes script callers served
-  served_by goes script callers stations desks served serving ended = record {
-    sessions = map session_of desks;
-    count = serving.live.count;
-    serves = ended.serves;
-    ends = ended.ends;
-    each = λ client s here.
-        subst (λ (o : Option (Called C)). CallsAt goes (slice_get callers client) s o)
-        (sym (slice_get-map called_of desks client) ∙ ap (λ (xs : List (Called C)). slice_get xs client) ended.callers)
-        (by_desk client s (slice_get desks client) refl (sym (slice_get-map session_of desks client) ∙ here));
-  }
-    where
-      by_desk : (client : ℕ) (s : Session) (o : Option (Desk C)) → slice_get desks client ≡ o → option_map session_of o ≡ Some s
-          → CallsAt goes (slice_get callers client) s (option_map called_of o)
-      by_desk client s None e is = absurd (cc)
-      by_desk client s (Some d) e is =
-          subst (λ (t : Session). CallsAt goes (slice_get callers client) t (Some (called_of d))) (same_Some d.session s is) (serving.each client d e)
+  module _ (goes : C → Option Reply → Option Command → C → Type 0) (script : ScriptData) (callers : List C) (stations : List StationData)
+      (desks : List (Desk C)) (served : Served C) (serving : AreServing goes script callers stations desks) (ended : AreEnded script desks served) where
+    called_there : (client : ℕ) → slice_get served.callers.items client ≡ option_map called_of (slice_get desks client)
+    called_there client = sym (ap (λ (xs : List (Called C)). slice_get xs client) ended.callers) ∙ slice_get-map called_of desks client
+
+    calls_there : (client : ℕ) (s : Session) (o : Option (Desk C)) → slice_get desks client ≡ o → option_map session_of o ≡ Some s
+        → CallsAt goes (slice_get callers client) s (option_map called_of o)
+    calls_there client s None e is = absurd (cc)
+    calls_there client s (Some d) e is =
+        subst (λ (t : Session). CallsAt goes (slice_get callers client) t (Some (called_of d))) (same_Some d.session s is) (serving.each client d e)
+
+    refused_there : (client : ℕ) (s : Session) (called : Called C) (o : Option (Desk C)) → slice_get desks client ≡ o → option_map session_of o ≡ Some s
+        → option_map called_of o ≡ Some called → (command : Command) → called.refused ≡ Some command → ¬ MayCommand script client s command
+    refused_there client s called None e is was = absurd (cc)
+    refused_there client s called (Some d) e is was =
+        let session = serving.live.each client d.session (slice_get-map session_of desks client ∙ ap (option_map session_of) e) in
+        subst (λ (b : Called C). (command : Command) → b.refused ≡ Some command → ¬ MayCommand script client s command) (same_Some (called_of d) called was)
+        (subst (λ (t : Session). (command : Command) → d.refused ≡ Some command → ¬ MayCommand script client t command) (same_Some d.session s is)
+        (λ command back. barred script stations client d.session session (serving.roomy client d e) command (serving.barred client d e command back)))
+
+    -- what the desks did, as what their callers did
+    pub served_by : IsServedBy goes script callers served
+    served_by = record {
+      sessions = map session_of desks;
+      count = serving.live.count;
+      serves = ended.serves;
+      ends = ended.ends;
+      each = λ client s here.
+          subst (λ (o : Option (Called C)). CallsAt goes (slice_get callers client) s o) (sym (called_there client))
+          (calls_there client s (slice_get desks client) refl (sym (slice_get-map session_of desks client) ∙ here));
+      refused = λ client s called here there.
+          refused_there client s called (slice_get desks client) refl (sym (slice_get-map session_of desks client) ∙ here) (sym (called_there client) ∙ there);
+    }
 
 -- the element at a place of the list
 pub found : {X : Type 0} (xs : List X) (k : ℕ) (x : X) → k < length xs → x ≡ slice_index_or xs k x → slice_get xs k ≡ Some x

@@ -3,7 +3,7 @@ use Rattle.std.proofs.Common.{◌≡◌, false, rules, List, [], ◌∷◌, ◌+
 use Rattle.lt_modes.specs.declared.command.Command.{Command}
 use Rattle.lt_live.specs.declared.reply.Reply.{Reply}
 use Rattle.lt_live.specs.declared.ends.Session.{Session}
-use Rattle.lt_live.specs.Words.{submitted, polled, command_held, SameSession}
+use Rattle.lt_live.specs.Words.{submitted, polled, known_replies, command_held, SameSession}
 use Rattle.lt_live.proofs.Settling.{session_itself, same_sessions}
 use Rattle.lt_live_callers.specs.declared.desk.Desk.{Desk}
 use Rattle.lt_live_callers.specs.Desks.{told, HearsAtDesk, SubmitsAtDesk, StepOf, Went, replies_of, commands_of, called_of, DeskGoesOn}
@@ -13,8 +13,13 @@ pub nothing : (o : Option Command) → false ≡ is_some o → o ≡ None
 nothing None is = refl
 nothing (Some command) is = search rules
 
-pub heard_none : (old new : Session) → SameSession old new → polled new ≡ polled old → submitted new ≡ submitted old → HearsAtDesk None old new
-heard_none old new same p s = record { same = same; polled = p ∙ sym (append-nil (polled old)); submitted = s }
+pub heard_none : (old new : Session) → SameSession old new → polled new ≡ polled old → submitted new ≡ submitted old → known_replies old ≡ []
+    → HearsAtDesk None old new
+heard_none old new same p s none = record { same = same; polled = p ∙ sym (append-nil (polled old)); submitted = s; none = λ _. none }
+
+pub heard_some : (reply : Reply) (old new : Session) → SameSession old new → polled new ≡ polled old ++ reply ∷ [] → submitted new ≡ submitted old
+    → HearsAtDesk (Some reply) old new
+heard_some reply old new same p s = record { same = same; polled = p; submitted = s; none = λ is. absurd (cc) }
 
 module _ {C : Type 0} (goes : C → Option Reply → Option Command → C → Type 0) where
   pub desk_itself : (a : Desk C) → DeskGoesOn goes a a
@@ -24,6 +29,7 @@ module _ {C : Type 0} (goes : C → Option Reply → Option Command → C → Ty
     went = refl;
     told = sym (append-nil (polled a.session));
     asked = sym (append-nil (submitted a.session ++ command_held a.refused));
+    barred = λ h. h;
   }
 
   pub one_step : (a b : Desk C) (reply : Option Reply) (command : Option Command) (mid : Session) → a.refused ≡ None
@@ -37,6 +43,7 @@ module _ {C : Type 0} (goes : C → Option Reply → Option Command → C → Ty
         ∙ sym (ap (λ (xs : List Command). xs ++ command_held command)
         (ap (λ (o : Option Command). submitted a.session ++ command_held o) free ∙ append-nil (submitted a.session)))
         ∙ sym (ap (λ (rest : List Command). (submitted a.session ++ command_held a.refused) ++ rest) (append-nil (command_held command)));
+    barred = λ _. submits.barred;
   }
 
   went_on : (a b c : C) (xs ys : List (StepOf C)) → Went goes a xs b → Went goes b ys c → Went goes a (xs ++ ys) c
@@ -62,6 +69,7 @@ module _ {C : Type 0} (goes : C → Option Reply → Option Command → C → Ty
     asked = second.asked ∙ ap (λ (xs : List Command). xs ++ commands_of second.steps) first.asked
         ∙ append_assoc (submitted a.session ++ command_held a.refused) (commands_of first.steps) (commands_of second.steps)
         ∙ sym (ap (λ (rest : List Command). (submitted a.session ++ command_held a.refused) ++ rest) (commands_append first.steps second.steps));
+    barred = λ h. second.barred (first.barred h);
   }
 
   -- who called went on calling

@@ -4,27 +4,30 @@ use Rattle.lt_modes.specs.declared.command.Command.{Command}
 use Rattle.lt_mail.specs.Words.{Alike}
 use Rattle.lt_live.specs.declared.reply.Reply.{Reply}
 use Rattle.lt_live.specs.declared.ends.Session.{Session}
-use Rattle.lt_live.specs.Words.{submitted, polled, command_held, SameSession}
+use Rattle.lt_live.specs.Words.{submitted, polled, known_replies, command_held, SameSession}
 use Rattle.lt_live.specs.Stations.{StationData}
 use Rattle.lt_live.specs.Live.{StationGoesOn, EachStation}
 use Rattle.lt_live_callers.specs.declared.desk.Desk.{Desk}
 use Rattle.lt_live_callers.specs.declared.served.Called.{Called}
+use Rattle.lt_live_callers.specs.Refused.{CanSubmit}
 
 abbrev pub told : Option Reply → List Reply
 told None = []
 told (Some reply) = reply ∷ []
 
--- the next reply was polled, if one is there
+-- the next reply was polled, if one is known
 pub record HearsAtDesk (result : Option Reply) (old new : Session) : Type 0 where
   pub same : SameSession old new
   pub polled : polled new ≡ polled old ++ told result
   pub submitted : submitted new ≡ submitted old
+  pub none : result ≡ None → known_replies old ≡ []
 
--- the command, if there is one, was submitted or comes back
+-- the command, if there is one, was submitted, or comes back since it might not be
 pub record SubmitsAtDesk (command result : Option Command) (old new : Session) : Type 0 where
   pub same : SameSession old new
   pub polled : polled new ≡ polled old
   pub submitted : submitted new ++ command_held result ≡ submitted old ++ command_held command
+  pub barred : (back : Command) → result ≡ Some back → ¬ CanSubmit new back
 
 -- one step of a caller: what it was told, what it answered, and the caller after it
 pub record StepOf (C : Type 0) : Type 0 where
@@ -56,6 +59,10 @@ module _ {C : Type 0} where
   abbrev pub called_of : Desk C → Called C
   called_of desk = record { caller = desk.caller; refused = desk.refused }
 
+  -- the command that was refused might not be submitted
+  abbrev pub IsBarred : Desk C → Type 0
+  IsBarred desk = (back : Command) → desk.refused ≡ Some back → ¬ CanSubmit desk.session back
+
   -- the caller made steps: it was told what was polled in them, and what it answered was submitted but for what was refused
   pub record DeskGoesOn (goes : C → Option Reply → Option Command → C → Type 0) (a b : Desk C) : Type 0 where
     pub same : SameSession a.session b.session
@@ -63,6 +70,7 @@ module _ {C : Type 0} where
     pub went : Went goes a.caller steps b.caller
     pub told : polled b.session ≡ polled a.session ++ replies_of steps
     pub asked : submitted b.session ++ command_held b.refused ≡ (submitted a.session ++ command_held a.refused) ++ commands_of steps
+    pub barred : IsBarred a → IsBarred b
 
   abbrev pub DesksGoOn : (C → Option Reply → Option Command → C → Type 0) → List (Desk C) → List (Desk C) → Type 0
   DesksGoOn goes old new = (k : ℕ) → Alike (DeskGoesOn goes) (slice_get old k) (slice_get new k)

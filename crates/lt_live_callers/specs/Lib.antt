@@ -1,3 +1,4 @@
+pub mod Refused
 pub mod Desks
 pub mod Served
 pub mod Texts

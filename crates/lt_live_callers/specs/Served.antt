@@ -1,5 +1,5 @@
 -- How the run of stations ends.
-use Rattle.std.specs.Prelude.{◌≡◌, true, false, List, Some, ℕ, [], ◌∷◌, ◌++◌, Option, None, codes, length, map, slice_get}
+use Rattle.std.specs.Prelude.{◌≡◌, ◌≤◌, true, false, List, Some, ℕ, [], ◌∷◌, ◌++◌, Option, None, codes, length, map, slice_get}
 use Rattle.lt_modes.specs.Script.{ScriptData}
 use Rattle.lt_modes.specs.declared.command.Command.{Command}
 use Rattle.lt_spec.specs.World.{Logged, World, world_after, is_at_rest, anyone_waits}
@@ -9,7 +9,7 @@ use Rattle.lt_runner.specs.declared.parts.Parts.{Parts}
 use Rattle.lt_threads.specs.Meeting.{IsLeastEnabled, EachIs}
 use Rattle.lt_live.specs.declared.reply.Reply.{Reply}
 use Rattle.lt_live.specs.declared.ends.Session.{Session}
-use Rattle.lt_live.specs.Words.{submitted, polled, command_held}
+use Rattle.lt_live.specs.Words.{submitted, polled, command_held, places}
 use Rattle.lt_live.specs.Live.{IsServedRun, AreLive}
 use Rattle.lt_live.specs.Stations.{StationData}
 use Rattle.lt_live_callers.specs.declared.ending.LiveEnding.{LiveEnding}
@@ -17,7 +17,8 @@ use Rattle.lt_live_callers.specs.declared.ending.LiveEnding.TheVariants.{Done, S
 use Rattle.lt_live_callers.specs.declared.desk.Desk.{Desk}
 use Rattle.lt_live_callers.specs.declared.served.Called.{Called}
 use Rattle.lt_live_callers.specs.declared.served.Served.{Served}
-use Rattle.lt_live_callers.specs.Desks.{StepOf, Went, replies_of, commands_of, caller_of, called_of, session_of}
+use Rattle.lt_live_callers.specs.Desks.{StepOf, Went, replies_of, commands_of, caller_of, called_of, session_of, IsBarred}
+use Rattle.lt_live_callers.specs.Refused.{MayCommand}
 
 -- this world is at rest with nobody waiting, or with somebody waiting; or this node, the least such one, can make a further move
 abbrev pub StopsSo : LiveEnding → ScriptData → World → Type 0
@@ -62,6 +63,10 @@ module _ {C : Type 0} where
     pub ends : CallersEndSo served.ending served.script served.run.entries
     pub each : (client : ℕ) (s : Session) → slice_get sessions client ≡ Some s
         → CallsAt goes (slice_get callers client) s (slice_get served.callers.items client)
+    -- a command that was refused might not be submitted
+    pub refused : (client : ℕ) (s : Session) (called : Called C) → slice_get sessions client ≡ Some s
+        → slice_get served.callers.items client ≡ Some called → (command : Command) → called.refused ≡ Some command
+        → ¬ MayCommand first client s command
 
   abbrev pub NoneRefused : List (Desk C) → Type 0
   NoneRefused [] = Unit {0}
@@ -73,11 +78,14 @@ module _ {C : Type 0} where
     pub given : map session_of desks ≡ sessions
     pub free : NoneRefused desks
 
-  -- the stations and the sessions are those of the script, and each caller called by the session at its place
+  -- the stations and the sessions are those of the script, each caller called by the session at its place, whose ring
+  -- has a place for each command that it may submit, and what was refused might not be submitted
   pub record AreServing (goes : C → Option Reply → Option Command → C → Type 0) (script : ScriptData) (callers : List C)
       (stations : List StationData) (desks : List (Desk C)) : Type 0 where
     pub live : AreLive script stations (map session_of desks)
     pub each : (client : ℕ) (d : Desk C) → slice_get desks client ≡ Some d → CallsAt goes (slice_get callers client) d.session (Some (called_of d))
+    pub roomy : (client : ℕ) (d : Desk C) → slice_get desks client ≡ Some d → d.session.share ≤ places d.session
+    pub barred : (client : ℕ) (d : Desk C) → slice_get desks client ≡ Some d → IsBarred d
 
   -- the run that serves the sessions of these desks, how it ended, and their callers
   pub record AreEnded (script : ScriptData) (desks : List (Desk C)) (served : Served C) : Type 0 where

@@ -16,7 +16,7 @@ pub(crate) struct Desk<C> {
 }
 
 // The next reply, if one is there.
-#[tactic(auto, using(crate::proofs::Steps::heard_none))]
+#[tactic(auto, using(crate::proofs::Steps::heard_none, crate::proofs::Steps::heard_some))]
 fn hear(session: &mut Session) -> Option<Reply>
     ensures { HearsAtDesk result session.old session.new }
 {

@@ -3,6 +3,7 @@ ghost use Rattle.std.specs.Prelude.{◌≡◌, ◌≢◌, ◌⊎◌, ◌≤◌, 
 ghost use Rattle.lt_spec.specs.declared.moves.TheConstants.{MAX_MOVES};
 ghost use Rattle.lt_spec.specs.declared.limits.TheConstants.{MAX_COMMANDS};
 ghost use Rattle.lt_live_callers.specs.declared.error.CallersError.TheVariants as errors;
+ghost use Rattle.lt_live.specs.Stations.{equal_share};
 ghost use Rattle.lt_live_callers.specs.Served.{AreDesks, AreServing};
 
 use crate::caller::Caller;
@@ -49,7 +50,8 @@ fn may_begin(script: &Script, callers: usize, limit: u32) -> Result<(), CallersE
 
 // How many commands each session may submit, or one where there is none: so its ring has a place for each.
 fn share_of(script: &Script) -> u32
-    ensures { (0 < result) × (result ≤ MAX_COMMANDS) }
+    ensures some { (0 < result) × (result ≤ MAX_COMMANDS) }
+    ensures share { 0 < length script.now.clients → result ≡ equal_share script.now }
 {
     if script.clients() == 0 {
         return 1;

@@ -13,8 +13,6 @@ mod mode_set;
 mod moves;
 mod parts;
 mod stamp;
-#[cfg(test)]
-mod tests;
 
 pub use ask::Ask;
 pub use command::Command;

@@ -4,7 +4,5 @@
 
 mod locks;
 mod order;
-#[cfg(test)]
-mod tests;
 
 pub use order::{first_bad, ordered};

@@ -10,8 +10,6 @@ mod pool;
 mod rule;
 mod same;
 mod steps;
-#[cfg(test)]
-mod tests;
 mod view;
 
 pub use laws::law_one_place;

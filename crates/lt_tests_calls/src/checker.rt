@@ -1,5 +1,6 @@
 mod journals;
 
+use crate::telling::{holds, holds_in};
 use journals::{
     EMPTY_SCRIPT, LATE_COPY, LATE_COPY_SCRIPT, TELLS, TELLS_SCRIPT, TWO_NODES, TWO_NODES_SCRIPT,
 };
@@ -136,13 +137,15 @@ fn accepts_the_examples(rt: HostRuntime) -> Result<(), Fail> {
     ];
     for (script, journal, moves) in cases {
         let journal = journal.as_bytes();
-        assert!(rt;
+        holds_in(
+            &rt,
+            moves,
             is_told(rt.alloc(), script, journal, (true, moves))?,
-            "{moves}"
         );
-        assert!(rt;
+        holds_in(
+            &rt,
+            moves,
             is_told_cut(rt.alloc(), script, journal, (true, moves))?,
-            "{moves}"
         );
     }
     Ok(())
@@ -165,13 +168,15 @@ fn names_the_first_bad_line(rt: HostRuntime) -> Result<(), Fail> {
     for (k, text, bad) in cases {
         let journal = with_line(rt.alloc(), TWO_NODES, k, text)?;
         let want = (false, bad);
-        assert!(rt;
+        holds_in(
+            &rt,
+            text,
             is_told(rt.alloc(), TWO_NODES_SCRIPT, &journal, want)?,
-            "{k} {text}"
         );
-        assert!(rt;
+        holds_in(
+            &rt,
+            text,
             is_told_cut(rt.alloc(), TWO_NODES_SCRIPT, &journal, want)?,
-            "{k} {text}"
         );
     }
     Ok(())
@@ -184,13 +189,15 @@ fn names_the_first_bad_line_of_a_long_journal(rt: HostRuntime) -> Result<(), Fai
     for (k, text, bad) in cases {
         let journal = with_line(rt.alloc(), LATE_COPY, k, text)?;
         let want = (false, bad);
-        assert!(rt;
+        holds_in(
+            &rt,
+            k,
             is_told(rt.alloc(), LATE_COPY_SCRIPT, &journal, want)?,
-            "{k}"
         );
-        assert!(rt;
+        holds_in(
+            &rt,
+            k,
             is_told_cut(rt.alloc(), LATE_COPY_SCRIPT, &journal, want)?,
-            "{k}"
         );
     }
     Ok(())
@@ -204,16 +211,23 @@ fn ends_early(rt: HostRuntime) -> Result<(), Fail> {
     for k in 1..8 {
         let (front, _) = journal.split_at(journal.len().saturating_sub(k));
         let want = if k == 1 { (true, 19) } else { (false, 39) };
-        assert!(rt; is_told(rt.alloc(), LATE_COPY_SCRIPT, front, want)?, "{k}");
-        assert!(rt;
+        holds_in(&rt, k, is_told(rt.alloc(), LATE_COPY_SCRIPT, front, want)?);
+        holds_in(
+            &rt,
+            k,
             is_told_cut(rt.alloc(), LATE_COPY_SCRIPT, front, want)?,
-            "{k}"
         );
     }
     let first: &[u8] = b"move 1 0 act a\ngrant a s intention_read\nmove 1 1 act b\nwait b s read\n\
         move 2 0 take 1\ntoken s 1 1\n";
-    assert!(rt; is_told(rt.alloc(), TWO_NODES_SCRIPT, first, (false, 7))?);
-    assert!(rt; is_told_cut(rt.alloc(), TWO_NODES_SCRIPT, first, (false, 7))?);
+    holds(
+        &rt,
+        is_told(rt.alloc(), TWO_NODES_SCRIPT, first, (false, 7))?,
+    );
+    holds(
+        &rt,
+        is_told_cut(rt.alloc(), TWO_NODES_SCRIPT, first, (false, 7))?,
+    );
     Ok(())
 }
 
@@ -229,18 +243,23 @@ fn names_lines_that_are_missing_or_cut(rt: HostRuntime) -> Result<(), Fail> {
     ];
     for (journal, bad) in cases {
         let bytes = journal.as_bytes();
-        assert!(rt;
+        holds_in(
+            &rt,
+            journal,
             is_told(rt.alloc(), EMPTY_SCRIPT, bytes, (false, bad))?,
-            "{journal}"
         );
-        assert!(rt;
+        holds_in(
+            &rt,
+            journal,
             is_told_cut(rt.alloc(), EMPTY_SCRIPT, bytes, (false, bad))?,
-            "{journal}"
         );
     }
     let long = vec![in rt.alloc(); b'e'; 300]?;
-    assert!(rt; is_told(rt.alloc(), EMPTY_SCRIPT, &long, (false, 1))?);
-    assert!(rt; is_told_cut(rt.alloc(), EMPTY_SCRIPT, &long, (false, 1))?);
+    holds(&rt, is_told(rt.alloc(), EMPTY_SCRIPT, &long, (false, 1))?);
+    holds(
+        &rt,
+        is_told_cut(rt.alloc(), EMPTY_SCRIPT, &long, (false, 1))?,
+    );
     Ok(())
 }
 
@@ -282,9 +301,10 @@ fn places_of(journal: &[u8], line: &[u8]) -> (usize, usize) {
 fn refuses_each_line_that_is_exchanged(rt: HostRuntime) -> Result<(), Fail> {
     let cases = [(LATE_COPY_SCRIPT, LATE_COPY, 39), (TELLS_SCRIPT, TELLS, 37)];
     for (script, journal, lines) in cases {
-        assert!(rt;
+        holds_in(
+            &rt,
+            lines,
             is_refused_at_each(rt.alloc(), script, journal, lines)?,
-            "{lines}"
         );
     }
     Ok(())

@@ -15,4 +15,6 @@ mod pool;
 #[cfg(test)]
 mod serve;
 #[cfg(test)]
+mod telling;
+#[cfg(test)]
 mod waits;

@@ -2,6 +2,7 @@ ghost use Rattle.std.specs.Prelude.{◌≡◌, ◌<◌, ◌≤◌, [], IfOk};
 ghost use Rattle.lt_spec.specs.declared.limits.TheConstants.{MAX_COMMANDS};
 ghost use Rattle.lt_live.specs.Words.{SameSession};
 
+use crate::telling::{holds, same};
 use lt_live::{Reply, Session, Station, open};
 use lt_modes::{Command, Mode};
 use lt_runner::{Open, Turned};
@@ -65,18 +66,19 @@ pub(crate) fn submit(session: &mut Session, command: Command) -> Result<Result<(
 #[test]
 fn a_full_ring_gives_the_command_back(rt: HostRuntime) -> Result<(), Fail> {
     let (mut station, mut session) = first_client(rt.alloc(), ONE_CLIENT, 1)?;
-    assert_eq!(rt; submit(&mut session, LOCK)?, Ok(()));
-    assert_eq!(rt; submit(&mut session, UNLOCK)?, Err(UNLOCK));
-    assert_eq!(rt; session.poll(), None);
-    assert_eq!(rt; station.turn(&Open), Turned::Moved);
-    assert_eq!(rt; submit(&mut session, UNLOCK)?, Ok(()));
-    assert_eq!(rt; session.poll(), Some(Reply::Granted));
-    assert_eq!(rt; station.turn(&Open), Turned::Moved);
-    assert_eq!(rt; session.poll(), Some(Reply::Unlocked));
-    assert_eq!(rt; station.turn(&Open), Turned::Quiet);
-    assert_eq!(rt;
+    same(&rt, submit(&mut session, LOCK)?, Ok(()));
+    same(&rt, submit(&mut session, UNLOCK)?, Err(UNLOCK));
+    same(&rt, session.poll(), None);
+    same(&rt, station.turn(&Open), Turned::Moved);
+    same(&rt, submit(&mut session, UNLOCK)?, Ok(()));
+    same(&rt, session.poll(), Some(Reply::Granted));
+    same(&rt, station.turn(&Open), Turned::Moved);
+    same(&rt, session.poll(), Some(Reply::Unlocked));
+    same(&rt, station.turn(&Open), Turned::Quiet);
+    same(
+        &rt,
         (session.left(), station.script().commands()),
-        (MAX_COMMANDS - 2, 2)
+        (MAX_COMMANDS - 2, 2),
     );
     Ok(())
 }
@@ -85,18 +87,18 @@ fn a_full_ring_gives_the_command_back(rt: HostRuntime) -> Result<(), Fail> {
 fn an_ask_goes_to_the_other_node(rt: HostRuntime) -> Result<(), Fail> {
     let script = script_of(rt.alloc(), TWO_NODES)?;
     let (mut stations, mut sessions) = open(rt.alloc(), &script, 10, 1)?;
-    assert_eq!(rt; stations.len(), 2);
-    assert_eq!(rt; sessions.len(), 1);
+    holds(&rt, stations.len() == 2);
+    holds(&rt, sessions.len() == 1);
     let mut session = sessions.remove(0);
     let mut far = stations.remove(1);
     let mut near = stations.remove(0);
-    assert_eq!(rt; submit(&mut session, LOCK)?, Ok(()));
+    same(&rt, submit(&mut session, LOCK)?, Ok(()));
     for round in 0_u8..4 {
         near.turn(&Open);
         far.turn(&Open);
-        assert_eq!(rt; (far.waits(0), session.unanswered()), (round < 3, 1));
+        same(&rt, (far.waits(0), session.unanswered()), (round < 3, 1));
     }
-    assert_eq!(rt; session.poll(), Some(Reply::Granted));
-    assert_eq!(rt; session.unanswered(), 0);
+    same(&rt, session.poll(), Some(Reply::Granted));
+    same(&rt, session.unanswered(), 0);
     Ok(())
 }

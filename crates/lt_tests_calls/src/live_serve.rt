@@ -1,5 +1,6 @@
 mod meeting;
 
+use crate::telling::{holds, same};
 use lt_checker::check_input;
 use lt_io::{MemorySink, MemorySource};
 use lt_live::Reply;
@@ -82,17 +83,17 @@ fn is_accepted(alloc: Global, script: &str, journal: &str) -> Result<bool, Alloc
 #[test]
 fn one_lock(rt: HostRuntime) -> Result<(), Fail> {
     let (served, journal) = served(&rt, rt.alloc(), ONE_LOCK, &Open)?;
-    assert_eq!(rt; served.status, Status::Done);
-    assert_eq!(rt; journal.as_slice(), ITS_JOURNAL);
+    same(&rt, served.status, Status::Done);
+    same(&rt, journal.as_slice(), ITS_JOURNAL);
     let polled = [(0, Reply::Granted), (0, Reply::Unlocked)];
-    assert_eq!(rt; served.polled.as_slice(), polled.as_slice());
+    same(&rt, served.polled.as_slice(), polled.as_slice());
     Ok(())
 }
 
 #[test]
 fn three_readers(rt: HostRuntime) -> Result<(), Fail> {
     let (served, journal) = served(&rt, rt.alloc(), THREE_READERS, &Open)?;
-    assert_eq!(rt; served.status, Status::Done);
+    same(&rt, served.status, Status::Done);
     let Ok(text) = from_utf8(&journal) else {
         return Err(Fail::from("no text"));
     };
@@ -101,15 +102,15 @@ fn three_readers(rt: HostRuntime) -> Result<(), Fail> {
         "held b s read 1\n",
         "held c s read 1\n",
     ] {
-        assert!(rt; text.contains(held));
+        holds(&rt, text.contains(held));
     }
-    assert!(rt; is_accepted(rt.alloc(), THREE_READERS, text)?);
+    same(&rt, is_accepted(rt.alloc(), THREE_READERS, text), Ok(true));
     let polled = [
         (0, Reply::Granted),
         (1, Reply::Granted),
         (2, Reply::Granted),
     ];
-    assert_eq!(rt; served.polled.as_slice(), polled.as_slice());
+    same(&rt, served.polled.as_slice(), polled.as_slice());
     Ok(())
 }
 
@@ -129,11 +130,11 @@ fn many_of(alloc: Global, commands: u8) -> Result<String, AllocError> {
 #[test]
 fn too_many_commands(rt: HostRuntime) -> Result<(), Fail> {
     let (over, nothing) = served(&rt, rt.alloc(), &many_of(rt.alloc(), 65)?, &Open)?;
-    assert_eq!(rt; over.status, Status::Share { client: 0 });
-    assert_eq!(rt; nothing.as_slice(), b"".as_slice());
+    same(&rt, over.status, Status::Share { client: 0 });
+    same(&rt, nothing.as_slice(), b"".as_slice());
     let (within, _) = served(&rt, rt.alloc(), &many_of(rt.alloc(), 64)?, &Open)?;
-    assert_eq!(rt; within.status, Status::Done);
-    assert_eq!(rt; within.polled.len(), 64);
+    same(&rt, within.status, Status::Done);
+    same(&rt, within.polled.len(), 64);
     Ok(())
 }
 
@@ -143,13 +144,17 @@ fn failing_reads_and_writes(rt: HostRuntime) -> Result<(), Fail> {
     let mut source = source_of(alloc, ONE_LOCK, &[1])?;
     let mut sink = sink_of(alloc, &[])?;
     let unread = serve(&rt, alloc, &[], &mut source, &mut sink, &Open);
-    assert_eq!(rt; unread.status, Status::ReadFault);
-    assert_eq!(rt; sink.bytes.as_slice(), b"".as_slice());
+    same(&rt, unread.status, Status::ReadFault);
+    same(&rt, sink.bytes.as_slice(), b"".as_slice());
     let mut source = source_of(alloc, ONE_LOCK, &[])?;
     let mut sink = sink_of(alloc, &[3])?;
     let unwritten = serve(&rt, alloc, &[], &mut source, &mut sink, &Open);
-    assert_eq!(rt; unwritten.status, Status::WriteFault);
-    assert_eq!(rt; sink.bytes.as_slice(), b"move 1 0 act a\ngrant".as_slice());
+    same(&rt, unwritten.status, Status::WriteFault);
+    same(
+        &rt,
+        sink.bytes.as_slice(),
+        b"move 1 0 act a\ngrant".as_slice(),
+    );
     Ok(())
 }
 
@@ -165,7 +170,7 @@ fn no_words(rt: HostRuntime) -> Result<(), Fail> {
         let mut source = source_of(alloc, ONE_LOCK, &[])?;
         let mut sink = sink_of(alloc, &[])?;
         let served = program(&rt, alloc, &words, &mut source, &mut sink, &Open);
-        assert_eq!(rt; served.status, status);
+        same(&rt, served.status, status);
     }
     Ok(())
 }

@@ -1,5 +1,6 @@
 // Stations in a pool, as workers share them.
 use crate::live::{LOCK, TWO_NODES, script_of, submit};
+use crate::telling::{holds, same};
 use lt_live::{Reply, open, visit};
 use lt_pool::Pool;
 use lt_runner::{Open, Turned};
@@ -9,27 +10,27 @@ use std::test::Fail;
 fn workers_visit_stations(rt: HostRuntime) -> Result<(), Fail> {
     let script = script_of(rt.alloc(), TWO_NODES)?;
     let (stations, mut sessions) = open(rt.alloc(), &script, 10, 1)?;
-    assert_eq!(rt; stations.len(), 2);
-    assert_eq!(rt; sessions.len(), 1);
+    holds(&rt, stations.len() == 2);
+    holds(&rt, sessions.len() == 1);
     let mut session = sessions.remove(0);
-    assert_eq!(rt; submit(&mut session, LOCK)?, Ok(()));
+    same(&rt, submit(&mut session, LOCK)?, Ok(()));
     let (pool, mut first) = Pool::new(rt.alloc(), stations)?;
     let mut other = pool.split(&mut first);
     let Ok(held) = pool.claim(&mut other, 1) else {
         return Err(Fail::from("no worker has the station yet"));
     };
-    assert_eq!(rt; visit(&pool, &mut first, 1, &Open), None);
+    same(&rt, visit(&pool, &mut first, 1, &Open), None);
     pool.give(&mut other, 1, held);
     pool.join(&mut first, other);
-    assert_eq!(rt; visit(&pool, &mut first, 1, &Open), Some(Turned::Moved));
+    same(&rt, visit(&pool, &mut first, 1, &Open), Some(Turned::Moved));
     for _ in 0_u8..4 {
         visit(&pool, &mut first, 0, &Open);
         visit(&pool, &mut first, 1, &Open);
     }
-    assert_eq!(rt; session.poll(), Some(Reply::Granted));
+    same(&rt, session.poll(), Some(Reply::Granted));
     let Ok(stations) = pool.close(first) else {
         return Err(Fail::from("out of memory"));
     };
-    assert_eq!(rt; stations.len(), 2);
+    holds(&rt, stations.len() == 2);
     Ok(())
 }

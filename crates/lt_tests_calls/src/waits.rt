@@ -1,3 +1,4 @@
+use crate::telling::{holds, same, same_in};
 use lt_io::{MemorySink, MemorySource};
 use lt_script::{Fault, ScriptFault};
 use lt_waits::{Answer, WaitGraph, serve};
@@ -177,9 +178,9 @@ fn answers_inputs(rt: HostRuntime) -> Result<(), Fail> {
         let mut source = source_of(alloc, input, &[])?;
         let mut sink = sink_of(alloc, 1_000, &[])?;
         let served = serve(alloc, &[], &mut source, &mut sink);
-        assert_eq!(rt; served, *answer, "{input}");
-        assert_eq!(rt; format!(in alloc; "{served}")?.as_str(), *line);
-        assert_eq!(rt; sink.bytes.as_slice(), text.as_bytes());
+        same_in(&rt, input, served, *answer);
+        same(&rt, format!(in alloc; "{served}")?.as_str(), *line);
+        same(&rt, sink.bytes.as_slice(), text.as_bytes());
     }
     Ok(())
 }
@@ -189,21 +190,27 @@ fn tells_faults(rt: HostRuntime) -> Result<(), Fail> {
     let alloc = rt.alloc();
     let mut source = source_of(alloc, KEPT, &[1])?;
     let mut sink = sink_of(alloc, 1_000, &[])?;
-    assert_eq!(rt;
+    same(
+        &rt,
         serve(alloc, &[], &mut source, &mut sink),
-        Answer::ReadFault
+        Answer::ReadFault,
     );
-    assert!(rt; sink.bytes.is_empty());
+    holds(&rt, sink.bytes.is_empty());
     let mut source = source_of(alloc, KEPT, &[])?;
     let mut sink = sink_of(alloc, 5, &[2])?;
-    assert_eq!(rt;
+    same(
+        &rt,
         serve(alloc, &[], &mut source, &mut sink),
-        Answer::WriteFault
+        Answer::WriteFault,
     );
-    assert_eq!(rt; sink.bytes.as_slice(), "waits".as_bytes());
+    same(&rt, sink.bytes.as_slice(), "waits".as_bytes());
     let words = [String::from_str(alloc, "x")?];
     let mut source = source_of(alloc, KEPT, &[])?;
-    assert_eq!(rt; serve(alloc, &words, &mut source, &mut sink), Answer::Usage);
+    same(
+        &rt,
+        serve(alloc, &words, &mut source, &mut sink),
+        Answer::Usage,
+    );
     Ok(())
 }
 
@@ -232,7 +239,7 @@ fn the_shortest_ring(rt: HostRuntime) -> Result<(), Fail> {
     for (pairs, clients) in &cases {
         let graph = WaitGraph::new(3, Vec::from_slice(alloc, pairs)?);
         let ring = graph.shortest_ring(alloc)?;
-        assert!(rt; ring.map(|ring| ring.len()) == *clients);
+        same(&rt, ring.map(|ring| ring.len()), *clients);
     }
     Ok(())
 }

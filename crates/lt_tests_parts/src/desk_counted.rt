@@ -1,5 +1,6 @@
 use crate::desk_draws::Draws;
 use crate::desk_walks::Both;
+use crate::telling::same;
 use lt_desk::Desk;
 use lt_held::Held;
 use lt_modes::ModeSet;
@@ -78,20 +79,26 @@ fn what_is_counted_is_what_a_walk_finds(rt: HostRuntime) -> Result<(), Fail> {
         change(&mut both, &mut draws, turn)?;
         let (me, node, mode) = (draws.node(), draws.node(), draws.mode());
         let (own, pending) = (ModeSet::one(mode), draws.pending(turn));
-        assert_eq!(rt; both.queue.place(true) as usize, both.after_holders());
-        assert_eq!(rt; both.queue.asked(mode) as usize, both.asked(mode));
-        assert_eq!(rt; both.queue.frozen(), both.frozen());
-        assert_eq!(rt; both.table.nodes_with(mode) as usize, both.nodes_with(mode));
-        assert_eq!(rt;
-            both.table.others(node, me, own),
-            both.others(node, me, own)
+        same(&rt, both.queue.place(true) as usize, both.after_holders());
+        same(&rt, both.queue.asked(mode) as usize, both.asked(mode));
+        same(&rt, both.queue.frozen(), both.frozen());
+        same(
+            &rt,
+            both.table.nodes_with(mode) as usize,
+            both.nodes_with(mode),
         );
-        assert_eq!(rt;
+        same(
+            &rt,
+            both.table.others(node, me, own),
+            both.others(node, me, own),
+        );
+        same(
+            &rt,
             both.desk.pick(me, &both.held, &pending),
-            both.pick(me, &pending)
+            both.pick(me, &pending),
         );
         if both.desk.freeze_number() < 4000 {
-            assert_eq!(rt; both.desk.freeze(me).nodes, both.freeze(me));
+            same(&rt, both.desk.freeze(me).nodes, both.freeze(me));
         }
     }
     Ok(())

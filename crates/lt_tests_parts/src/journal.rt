@@ -1,3 +1,4 @@
+use crate::telling::{holds, same};
 use lt_journal::write;
 use lt_merge::Run;
 use lt_modes::{Event, Mode, ModeSet, Move, Stamp, Step};
@@ -36,7 +37,7 @@ fn add(
     step: Step,
     event: Event,
 ) -> Result<(), AllocError> {
-    assert!(rt; run.len() < 100);
+    holds(rt, run.len() < 100);
     run.reserve(1)?;
     run.push(Move {
         stamp: Stamp { clock, node },
@@ -177,7 +178,7 @@ fn writes_a_run_at_rest(rt: HostRuntime) -> Result<(), Fail> {
         add(&rt, &mut run, clock, node, step, event)?;
     }
     let text = write(rt.alloc(), &script(rt.alloc())?, &run, None)?;
-    assert!(rt; text.as_slice() == TEXT.as_bytes());
+    same(&rt, text.as_slice(), TEXT.as_bytes());
     Ok(())
 }
 
@@ -197,6 +198,6 @@ fn writes_a_run_that_was_cut(rt: HostRuntime) -> Result<(), Fail> {
     let text = write(rt.alloc(), &script(rt.alloc())?, &run, Some(1))?;
     let expected =
         "move 1 0 act a\nfreeze s 1 1 intention_read write\nmove 2 0 act a\nfreeze s 1 2 none\ncut 1\n";
-    assert!(rt; text.as_slice() == expected.as_bytes());
+    same(&rt, text.as_slice(), expected.as_bytes());
     Ok(())
 }

@@ -1,3 +1,4 @@
+use crate::telling::same;
 use lt_journal::{Journal, Line, read, split, write};
 use lt_merge::Run;
 use lt_modes::{Move, Stamp};
@@ -204,8 +205,8 @@ fn reads_each_line(rt: HostRuntime) -> Result<(), Fail> {
     for (input, lines) in [(LATE_COPY, 53), (TELLS, 51)] {
         let example = read_example(rt.alloc(), input)?;
         let journal = journal_of(rt.alloc(), &example)?;
-        assert_eq!(rt; example.lines.saturating_add(journal.len()), lines);
-        assert_eq!(rt; bad_lines(&journal), 0);
+        same(&rt, example.lines.saturating_add(journal.len()), lines);
+        same(&rt, bad_lines(&journal), 0);
     }
     Ok(())
 }
@@ -216,9 +217,9 @@ fn writes_what_was_read(rt: HostRuntime) -> Result<(), Fail> {
     for input in [LATE_COPY, TELLS] {
         let example = read_example(rt.alloc(), input)?;
         let run = run_of(rt.alloc(), &journal_of(rt.alloc(), &example)?)?;
-        assert_eq!(rt; run.len(), 19);
+        same(&rt, run.len(), 19);
         let text = write(rt.alloc(), &example.script, &run, None)?;
-        assert!(rt; text == example.journal);
+        same(&rt, text, example.journal);
     }
     Ok(())
 }

@@ -1,3 +1,4 @@
+use crate::telling::{holds, same};
 use lt_journal::{Line, Parts, read, split};
 use lt_modes::Mode;
 use lt_script::Script;
@@ -35,10 +36,10 @@ fn reads_closing_lines(rt: HostRuntime) -> Result<(), Fail> {
         ("cut 2", Line::Cut { node: 2 }),
     ];
     for (text, line) in cases {
-        assert!(rt; text.len() < 100);
+        holds(&rt, text.len() < 100);
         let journal = read(rt.alloc(), &script, text.as_bytes())?;
-        assert_eq!(rt; journal.len(), 1);
-        assert_eq!(rt; journal.line(0), line);
+        holds(&rt, journal.len() == 1);
+        holds(&rt, journal.line(0) == line);
     }
     Ok(())
 }
@@ -76,14 +77,14 @@ fn takes_no_other_line(rt: HostRuntime) -> Result<(), Fail> {
         "# end 1",
     ];
     for line in lines {
-        assert!(rt; line.len() < 100);
+        holds(&rt, line.len() < 100);
         let mut text = String::new(rt.alloc());
         text.push_str(line)?;
         text.push_str("\n")?;
-        assert!(rt; text.len() < 1000);
+        holds(&rt, text.len() < 1000);
         let journal = read(rt.alloc(), &script, text.as_bytes())?;
-        assert_eq!(rt; journal.len(), 1);
-        assert_eq!(rt; journal.line(0), Line::Bad);
+        holds(&rt, journal.len() == 1);
+        holds(&rt, journal.line(0) == Line::Bad);
     }
     Ok(())
 }
@@ -98,12 +99,12 @@ fn splits_at_the_first_line_of_one_word_journal(rt: HostRuntime) {
         ("journal\njournal\n", (0, 8, 1)),
     ];
     for (input, (script, journal, lines)) in cases {
-        assert!(rt; input.len() < 100);
+        holds(&rt, input.len() < 100);
         let parts = Parts {
             script,
             journal,
             lines,
         };
-        assert_eq!(rt; split(input.as_bytes()), parts);
+        same(&rt, split(input.as_bytes()), parts);
     }
 }

@@ -1,5 +1,5 @@
-//! Tests of the desk, of mail, nodes, runners, threads and the world; and of scripts, words, made scripts, journals
-//! and summaries: a crate apart, so that none is proved again for its tests.
+//! Tests of calls up to those of threads: streams, texts, scripts, journals, the parts of a node, the world, the pool
+//! and runners. They stand in a crate apart, so that none is proved again for its tests.
 #![tactic(auto)]
 
 #[cfg(test)]
@@ -19,15 +19,29 @@ mod made;
 #[cfg(test)]
 mod mail;
 #[cfg(test)]
+mod modes;
+#[cfg(test)]
 mod node;
+#[cfg(test)]
+mod numbers;
+#[cfg(test)]
+mod order;
+#[cfg(test)]
+mod pool;
 #[cfg(test)]
 mod runner;
 #[cfg(test)]
 mod script;
 #[cfg(test)]
+mod streams;
+#[cfg(test)]
 mod summary;
 #[cfg(test)]
+mod telling;
+#[cfg(test)]
 mod threads;
+#[cfg(test)]
+mod turns;
 #[cfg(test)]
 mod words;
 #[cfg(test)]

@@ -1,3 +1,4 @@
+use crate::telling::{same, same_in};
 use lt_gen::{Draws, can_make, script};
 use lt_script::print;
 use std::alloc::Global;
@@ -41,7 +42,7 @@ fn makes_small_scripts(rt: HostRuntime) -> Result<(), Fail> {
     ];
     for (size, text) in rows {
         let found = printed(rt.alloc(), size)?;
-        assert!(rt; found.as_slice() == text.as_bytes(), "{text}");
+        same_in(&rt, text, found.as_slice(), text.as_bytes());
     }
     Ok(())
 }
@@ -66,7 +67,7 @@ fn makes_large_scripts(rt: HostRuntime) -> Result<(), Fail> {
     ];
     for (size, sum) in rows {
         let found = printed(rt.alloc(), size)?;
-        assert_eq!(rt; checksum(&found), sum);
+        same(&rt, checksum(&found), sum);
     }
     Ok(())
 }
@@ -84,7 +85,7 @@ fn draws_numbers(rt: HostRuntime) -> Result<(), Fail> {
     ];
     for (n, expected) in rows {
         if n > 0 {
-            assert_eq!(rt; draws.draw(n), expected);
+            same(&rt, draws.draw(n), expected);
         }
     }
     Ok(())

@@ -1,3 +1,4 @@
+use crate::telling::same;
 use lt_desk::{Body, Letter, News};
 use lt_mail::{Mail, beside, open};
 use lt_modes::{Link, ModeSet, Stamp};
@@ -83,23 +84,23 @@ impl Two {
 #[test]
 fn three_letters_in_a_ring_for_one(rt: HostRuntime) -> Result<(), Fail> {
     let mut two = Two::new(rt.alloc())?;
-    assert_eq!(rt; (two.sender.node(), two.taker.node()), (0, 1));
+    same(&rt, (two.sender.node(), two.taker.node()), (0, 1));
     two.send(5)?;
     two.send(6)?;
     two.send(7)?;
-    assert_eq!(rt; two.take(), None);
+    same(&rt, two.take(), None);
     two.flush();
-    assert_eq!(rt; two.take_known(), None);
-    assert_eq!(rt; two.take(), Some(5));
-    assert_eq!(rt; two.take(), None);
-    assert_eq!(rt; two.has_letter(), (false, false));
+    same(&rt, two.take_known(), None);
+    same(&rt, two.take(), Some(5));
+    same(&rt, two.take(), None);
+    same(&rt, two.has_letter(), (false, false));
     two.flush_all();
-    assert_eq!(rt; two.has_letter(), (true, true));
-    assert_eq!(rt; two.take(), Some(6));
+    same(&rt, two.has_letter(), (true, true));
+    same(&rt, two.take(), Some(6));
     two.meet();
-    assert_eq!(rt; two.take_known(), Some(7));
+    same(&rt, two.take_known(), Some(7));
     two.meet();
-    assert_eq!(rt; two.take_known(), None);
-    assert_eq!(rt; two.take(), None);
+    same(&rt, two.take_known(), None);
+    same(&rt, two.take(), None);
     Ok(())
 }

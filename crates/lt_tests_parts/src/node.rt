@@ -2,12 +2,14 @@ ghost use Rattle.std.specs.Bool.{OnTrue};
 ghost use Rattle.std.specs.Prelude.{◌≡◌, ◌<◌, length};
 ghost use Rattle.lt_spec.specs.NodeMove.{home};
 
+use crate::telling::{holds, same};
 use lt_core::Answer;
 use lt_desk::{Letter, Out};
 use lt_modes::{Command, Event, Mode};
 use lt_node::Node;
 use lt_script::{MAX_COMMANDS, Script};
 use std::alloc::{AllocError, Global};
+use std::process::Abort;
 use std::test::Fail;
 
 const LOCK: Command = Command::Lock {
@@ -80,14 +82,18 @@ fn two_nodes(alloc: Global) -> Result<Script, AllocError> {
 fn a_waiter_is_sent_the_token(rt: HostRuntime) -> Result<(), Fail> {
     let script = two_nodes(rt.alloc())?;
     let mut out = Out::new(rt.alloc());
-    assert_eq!(rt; script.nodes(), 2);
+    holds(&rt, script.nodes() == 2);
     let mut first = Node::new(rt.alloc(), &script, 0)?;
     let mut second = Node::new(rt.alloc(), &script, 1)?;
-    assert_eq!(rt; act(&mut first, 0, &mut out)?, Some(Answer::Granted));
-    assert_eq!(rt; act(&mut second, 1, &mut out)?, Some(Answer::Waits));
-    assert!(rt; take_sent(&mut first, &mut out)?);
-    assert_eq!(rt; act(&mut first, 0, &mut out)?, Some(Answer::Dropped(1)));
-    assert!(rt; take_sent(&mut second, &mut out)?);
+    same(&rt, act(&mut first, 0, &mut out), Ok(Some(Answer::Granted)));
+    same(&rt, act(&mut second, 1, &mut out), Ok(Some(Answer::Waits)));
+    same(&rt, take_sent(&mut first, &mut out), Ok(true));
+    same(
+        &rt,
+        act(&mut first, 0, &mut out),
+        Ok(Some(Answer::Dropped(1))),
+    );
+    same(&rt, take_sent(&mut second, &mut out), Ok(true));
     for want in [
         Event::Grant {
             client: 0,
@@ -116,9 +122,17 @@ fn a_waiter_is_sent_the_token(rt: HostRuntime) -> Result<(), Fail> {
             mode: Mode::Write,
         },
     ] {
-        assert_eq!(rt; out.next_event(), Some(want));
+        same(&rt, out.next_event(), Some(want));
     }
     Ok(())
+}
+
+// Both clients lock, and the second waits.
+fn both_lock<R: Abort>(rt: &R, node: &mut Node, out: &mut Out)
+    ensures { node.new.script ≡ node.old.script }
+{
+    same(rt, act(node, 0, out), Ok(Some(Answer::Granted)));
+    same(rt, act(node, 1, out), Ok(Some(Answer::Waits)));
 }
 
 // Two writers on one node.
@@ -149,14 +163,13 @@ fn append_unlock(node: &mut Node, client: u16) -> Result<bool, AllocError> {
 fn an_appended_unlock_lets_the_waiter_go_on(rt: HostRuntime) -> Result<(), Fail> {
     let script = one_node(rt.alloc())?;
     let mut out = Out::new(rt.alloc());
-    assert!(rt; script.nodes() == 1 && script.sets() == 1);
+    holds(&rt, script.nodes() == 1 && script.sets() == 1);
     let mut node = Node::new(rt.alloc(), &script, 0)?;
-    assert_eq!(rt; act(&mut node, 0, &mut out)?, Some(Answer::Granted));
-    assert_eq!(rt; act(&mut node, 1, &mut out)?, Some(Answer::Waits));
-    assert_eq!(rt; act(&mut node, 0, &mut out)?, None);
-    assert!(rt; append_unlock(&mut node, 0)?);
-    assert_eq!(rt; act(&mut node, 0, &mut out)?, Some(Answer::Unlocked));
-    assert!(rt; !node.waits(1));
+    both_lock(&rt, &mut node, &mut out);
+    same(&rt, act(&mut node, 0, &mut out), Ok(None));
+    same(&rt, append_unlock(&mut node, 0), Ok(true));
+    same(&rt, act(&mut node, 0, &mut out), Ok(Some(Answer::Unlocked)));
+    holds(&rt, !node.waits(1));
     Ok(())
 }
 
@@ -164,14 +177,18 @@ fn an_appended_unlock_lets_the_waiter_go_on(rt: HostRuntime) -> Result<(), Fail>
 fn a_node_tells_who_waits(rt: HostRuntime) -> Result<(), Fail> {
     let script = one_node(rt.alloc())?;
     let mut out = Out::new(rt.alloc());
-    assert!(rt; script.nodes() == 1 && script.sets() == 1);
+    holds(&rt, script.nodes() == 1 && script.sets() == 1);
     let mut node = Node::new(rt.alloc(), &script, 0)?;
-    assert_eq!(rt; act(&mut node, 0, &mut out)?, Some(Answer::Granted));
-    assert_eq!(rt; act(&mut node, 1, &mut out)?, Some(Answer::Waits));
-    assert!(rt; !node.stands_before(0, 1, 0) && !node.parked_behind(0, 0, 1));
-    let (set, ask) = node.ask_of(1).ok_or("no ask")?;
-    assert_eq!(rt; (set, ask.client, ask.mode), (0, 1, Mode::Write));
-    assert_eq!(rt; node.ask_in(0, 1), Some(ask));
-    assert_eq!(rt; node.count(0, 0, Mode::Write), 1);
+    both_lock(&rt, &mut node, &mut out);
+    holds(
+        &rt,
+        !node.stands_before(0, 1, 0) && !node.parked_behind(0, 0, 1),
+    );
+    let Some((set, ask)) = node.ask_of(1) else {
+        panic!(rt; "no ask")
+    };
+    same(&rt, (set, ask.client, ask.mode), (0, 1, Mode::Write));
+    same(&rt, node.ask_in(0, 1), Some(ask));
+    same(&rt, node.count(0, 0, Mode::Write), 1);
     Ok(())
 }

@@ -2,6 +2,7 @@ ghost use Rattle.std.specs.Prelude.{◌<◌, ◌≤◌, IfOk};
 ghost use Rattle.lt_spec.specs.declared.moves.TheConstants.{MAX_MOVES};
 ghost use Rattle.lt_runner.specs.Kept.{AreBeside};
 
+use crate::telling::{holds, same};
 use lt_mail::open;
 use lt_modes::{Command, Mode};
 use lt_runner::{Choice, Found, Gate, Runner, Turned, Worked, all_at_once};
@@ -106,12 +107,12 @@ fn turn_and_meet(first: &mut Runner, second: &mut Runner, gate: &Counter) -> Tur
 fn work_ends(rt: HostRuntime) -> Result<(), Fail> {
     let script = script_of(rt.alloc(), ONE_NODE)?;
     for (patience, limit, ends, moves) in WORK {
-        assert!(rt; 0 < limit && limit <= MAX_MOVES);
+        holds(&rt, 0 < limit && limit <= MAX_MOVES);
         let mut runner = first_runner(rt.alloc(), &script, limit)?;
         let gate = Counter::new();
-        assert_eq!(rt; runner.work(patience, &gate), ends);
-        assert_eq!(rt; runner.moves(), moves);
-        assert_eq!(rt; gate.count(), u64::from(moves));
+        same(&rt, runner.work(patience, &gate), ends);
+        same(&rt, runner.moves(), moves);
+        same(&rt, gate.count(), u64::from(moves));
     }
     Ok(())
 }
@@ -122,11 +123,11 @@ fn one_turn_makes_one_move(rt: HostRuntime) -> Result<(), Fail> {
     let mut runner = first_runner(rt.alloc(), &script, 2)?;
     let gate = Counter::new();
     for (turned, moves) in [(Turned::Moved, 1), (Turned::Moved, 2), (Turned::Quiet, 2)] {
-        assert_eq!(rt; runner.turn(&gate), turned);
-        assert_eq!(rt; runner.moves(), moves);
+        same(&rt, runner.turn(&gate), turned);
+        same(&rt, runner.moves(), moves);
     }
-    assert_eq!(rt; (runner.waits(0), runner.waits(1)), (false, true));
-    assert_eq!(rt; runner.into_log().len(), 2);
+    same(&rt, (runner.waits(0), runner.waits(1)), (false, true));
+    same(&rt, runner.into_log().len(), 2);
     Ok(())
 }
 
@@ -135,13 +136,13 @@ fn a_move_is_found_and_made(rt: HostRuntime) -> Result<(), Fail> {
     let script = script_of(rt.alloc(), ONE_NODE)?;
     let mut runner = first_runner(rt.alloc(), &script, 1)?;
     let found = runner.find();
-    assert_eq!(rt; found, Found::Move(Choice::Act(0)));
+    same(&rt, found, Found::Move(Choice::Act(0)));
     if let Found::Move(choice) = found {
         runner.reserve(choice)?;
         runner.make(choice);
     }
-    assert_eq!(rt; runner.moves(), 1);
-    assert_eq!(rt; runner.find(), Found::Full);
+    same(&rt, runner.moves(), 1);
+    same(&rt, runner.find(), Found::Full);
     Ok(())
 }
 
@@ -165,36 +166,37 @@ fn an_appended_command_is_made(rt: HostRuntime) -> Result<(), Fail> {
     let script = script_of(rt.alloc(), ONE_NODE)?;
     let mut runner = first_runner(rt.alloc(), &script, 10)?;
     let gate = Counter::new();
-    assert_eq!(rt; runner.work(1, &gate), Worked::Idle);
-    assert_eq!(rt; runner.log().len(), 2);
-    assert!(rt; append_unlock(&mut runner, 0)?);
-    assert_eq!(rt; runner.script().commands(), 3);
-    assert_eq!(rt; runner.work(1, &gate), Worked::Idle);
-    assert_eq!(rt; runner.log().len(), 3);
+    same(&rt, runner.work(1, &gate), Worked::Idle);
+    same(&rt, runner.log().len(), 2);
+    same(&rt, append_unlock(&mut runner, 0), Ok(true));
+    same(&rt, runner.script().commands(), 3);
+    same(&rt, runner.work(1, &gate), Worked::Idle);
+    same(&rt, runner.log().len(), 3);
     Ok(())
 }
 
 #[test]
 fn a_letter_is_met_and_fetched(rt: HostRuntime) -> Result<(), Fail> {
     let script = script_of(rt.alloc(), TWO_NODES)?;
-    assert_eq!(rt; script.nodes(), 2);
+    holds(&rt, script.nodes() == 2);
     let (mut first, mut second) = two_runners(rt.alloc(), &script)?;
     let gate = Counter::new();
-    assert_eq!(rt;
+    same(
+        &rt,
         turn_and_meet(&mut first, &mut second, &gate),
-        Turned::Moved
+        Turned::Moved,
     );
-    assert!(rt; second.waits(0));
-    assert!(rt; !first.has_move());
+    holds(&rt, second.waits(0));
+    holds(&rt, !first.has_move());
     first.fetch();
-    assert!(rt; first.has_move());
+    holds(&rt, first.has_move());
     Ok(())
 }
 
 #[test]
 fn all_work_at_once(rt: HostRuntime) -> Result<(), Fail> {
     let script = script_of(rt.alloc(), TWO_NODES)?;
-    assert_eq!(rt; script.nodes(), 2);
+    holds(&rt, script.nodes() == 2);
     let (first, second) = two_runners(rt.alloc(), &script)?;
     let mut runners = Vec::new(rt.alloc());
     runners.push(first)?;
@@ -207,7 +209,7 @@ fn all_work_at_once(rt: HostRuntime) -> Result<(), Fail> {
     for runner in &runners {
         moves = moves.saturating_add(u64::from(runner.moves()));
     }
-    assert_eq!(rt; moves, 3);
-    assert_eq!(rt; gate.count(), 3);
+    same(&rt, moves, 3);
+    same(&rt, gate.count(), 3);
     Ok(())
 }

@@ -1,3 +1,4 @@
+use crate::telling::{holds, same, same_in};
 use lt_modes::{Command, Mode};
 use lt_script::{MAX_CLIENTS_OF_FIRST, ReadError, Script, print, read};
 use lt_text::push_number;
@@ -61,7 +62,7 @@ fn tells_the_first_fault(rt: HostRuntime) -> Result<(), Fail> {
     ];
     for (text, expected) in rows {
         let found = first_fault(rt.alloc(), text.as_bytes())?;
-        assert!(rt; found == expected, "{text}");
+        same_in(&rt, text, found, expected);
     }
     Ok(())
 }
@@ -78,9 +79,9 @@ fn nodes_and_spaces(alloc: Global, spaces: u8) -> Result<Vec<u8>, AllocError> {
 #[test]
 fn tells_long_lines(rt: HostRuntime) -> Result<(), Fail> {
     let longest = nodes_and_spaces(rt.alloc(), 193)?;
-    assert!(rt; first_fault(rt.alloc(), &longest)? == (0, 0));
+    same(&rt, first_fault(rt.alloc(), &longest)?, (0, 0));
     let longer = nodes_and_spaces(rt.alloc(), 194)?;
-    assert!(rt; first_fault(rt.alloc(), &longer)? == (1, 2));
+    same(&rt, first_fault(rt.alloc(), &longer)?, (1, 2));
     Ok(())
 }
 
@@ -94,7 +95,7 @@ fn tells_one_client_too_many(rt: HostRuntime) -> Result<(), Fail> {
         push_number(&mut text, client % 16)?;
         text.push(b'\n')?;
     }
-    assert!(rt; first_fault(rt.alloc(), &text)? == (66, 9));
+    same(&rt, first_fault(rt.alloc(), &text)?, (66, 9));
     Ok(())
 }
 
@@ -128,7 +129,7 @@ fn prints_drawn_scripts_as_they_are_read(rt: HostRuntime) -> Result<(), Fail> {
     ];
     for text in texts {
         let again = printed_again(rt.alloc(), text.as_bytes())?;
-        assert!(rt; again.as_slice() == text.as_bytes(), "{text}");
+        same_in(&rt, text, again.as_slice(), text.as_bytes());
     }
     Ok(())
 }
@@ -138,7 +139,7 @@ fn prints_with_single_spaces(rt: HostRuntime) -> Result<(), Fail> {
     let text = "# two sets\nnodes  002\r\nset s\n\tclient a at 00 \nset t with s\n\na drop a t";
     let again = printed_again(rt.alloc(), text.as_bytes())?;
     let expected = "nodes 2\nset s\nset t with s\nclient a at 0\na drop a t\n";
-    assert!(rt; again.as_slice() == expected.as_bytes());
+    same(&rt, again.as_slice(), expected.as_bytes());
     Ok(())
 }
 
@@ -153,19 +154,19 @@ fn makes_a_script(rt: HostRuntime) -> Result<(), Fail> {
         mode: Mode::Read,
     };
     script.add_command(0, command)?;
-    assert_eq!(rt; script.nodes(), 2);
-    assert_eq!(rt; script.sets(), 2);
-    assert_eq!(rt; script.clients(), 1);
-    assert_eq!(rt; script.commands(), 1);
-    assert!(rt; script.set_name(1) == "t".as_bytes());
-    assert_eq!(rt; script.family(1), 0);
-    assert!(rt; script.client_name(0) == "a".as_bytes());
-    assert_eq!(rt; script.home(0), 1);
-    assert_eq!(rt; script.load(1), 1);
-    assert_eq!(rt; script.command(0), (0, command));
-    assert_eq!(rt; script.requests().len(), 1);
-    assert_eq!(rt; script.set_number(b"t"), Some(1));
-    assert_eq!(rt; script.client_number(b"a"), Some(0));
-    assert!(rt; script.is_declared(b"s"));
+    holds(&rt, script.nodes() == 2);
+    same(&rt, script.sets(), 2);
+    holds(&rt, script.clients() == 1);
+    same(&rt, script.commands(), 1);
+    same(&rt, script.set_name(1), "t".as_bytes());
+    same(&rt, script.family(1), 0);
+    same(&rt, script.client_name(0), "a".as_bytes());
+    same(&rt, script.home(0), 1);
+    same(&rt, script.load(1), 1);
+    same(&rt, script.command(0), (0, command));
+    same(&rt, script.requests().len(), 1);
+    same(&rt, script.set_number(b"t"), Some(1));
+    same(&rt, script.client_number(b"a"), Some(0));
+    holds(&rt, script.is_declared(b"s"));
     Ok(())
 }

@@ -1,3 +1,4 @@
+use crate::telling::same;
 use lt_merge::Run;
 use lt_modes::{Event, Mode, Move, Stamp, Step};
 use lt_script::Script;
@@ -35,9 +36,10 @@ fn counts_locks_and_waiting_clients(rt: HostRuntime) -> Result<(), Fail> {
     run.add_event(grant(Mode::Write));
     let summary = Summary::new(alloc, &script, &run)?;
     let text = format!(in alloc; "{summary}")?;
-    assert_eq!(rt;
+    same(
+        &rt,
         text.as_str(),
-        "nodes 1\nsets 1\nclients 2\ncommands 0\nheld 2\nwaiting 1\n"
+        "nodes 1\nsets 1\nclients 2\ncommands 0\nheld 2\nwaiting 1\n",
     );
     Ok(())
 }

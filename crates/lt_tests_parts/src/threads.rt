@@ -1,3 +1,4 @@
+use crate::telling::{holds, same, same_in};
 use lt_runner::Open;
 use lt_script::{Script, read};
 use lt_spec::{Ending, MAX_MOVES};
@@ -55,10 +56,10 @@ fn script_of(alloc: Global, text: &str) -> Result<Script, Fail> {
 fn runs_end(rt: HostRuntime) -> Result<(), Fail> {
     for (text, limit, ending, moves) in RUNS {
         let script = script_of(rt.alloc(), text)?;
-        assert!(rt; 0 < limit && limit <= MAX_MOVES);
+        holds(&rt, 0 < limit && limit <= MAX_MOVES);
         let (ended, run) = run_on_threads(&rt, rt.alloc(), &script, 1, limit, 1, 0, &Open)?;
-        assert_eq!(rt; ended, ending, "{text}");
-        assert_eq!(rt; run.len(), moves, "{text}");
+        same_in(&rt, text, ended, ending);
+        same_in(&rt, text, run.len(), moves);
     }
     Ok(())
 }
@@ -67,21 +68,22 @@ fn runs_end(rt: HostRuntime) -> Result<(), Fail> {
 fn rounds_end(rt: HostRuntime) -> Result<(), Fail> {
     let script = script_of(rt.alloc(), TWO_NODES)?;
     for (limit, ended, first, second) in ROUNDS {
-        assert!(rt; 0 < limit && limit <= MAX_MOVES);
+        holds(&rt, 0 < limit && limit <= MAX_MOVES);
         let mut runners = start_crew(rt.alloc(), &script, 1, limit)?;
-        assert_eq!(rt; any_enabled(&script, &mut runners), Some(0));
-        assert!(rt; !anyone_waits(&script, &mut runners));
+        same(&rt, any_enabled(&script, &mut runners), Some(0));
+        holds(&rt, !anyone_waits(&script, &mut runners));
         let (mut runners, told) = run_rounds(&rt, rt.alloc(), &script, runners, 1, 0, &Open)?;
-        assert_eq!(rt; told, ended);
-        assert!(rt; anyone_waits(&script, &mut runners));
-        assert_eq!(rt;
+        same(&rt, told, ended);
+        holds(&rt, anyone_waits(&script, &mut runners));
+        same(
+            &rt,
             any_enabled(&script, &mut runners).is_none(),
-            ended == Ended::Rest
+            ended == Ended::Rest,
         );
         let logs = finish(rt.alloc(), &script, runners)?;
-        assert_eq!(rt; logs.len(), 2);
-        assert_eq!(rt; logs[0].len(), first);
-        assert_eq!(rt; logs[1].len(), second);
+        holds(&rt, logs.len() == 2);
+        same(&rt, logs[0].len(), first);
+        same(&rt, logs[1].len(), second);
     }
     Ok(())
 }
@@ -91,8 +93,8 @@ fn rest_on_threads(rt: HostRuntime) -> Result<(), Fail> {
     let script = script_of(rt.alloc(), TWO_NODES)?;
     let runners = start_crew(rt.alloc(), &script, 64, 1_000)?;
     let (mut runners, told) = run_rounds(&rt, rt.alloc(), &script, runners, 8, 256, &Open)?;
-    assert_eq!(rt; told, Ended::Rest);
-    assert_eq!(rt; any_enabled(&script, &mut runners), None);
-    assert!(rt; anyone_waits(&script, &mut runners));
+    same(&rt, told, Ended::Rest);
+    same(&rt, any_enabled(&script, &mut runners), None);
+    holds(&rt, anyone_waits(&script, &mut runners));
     Ok(())
 }

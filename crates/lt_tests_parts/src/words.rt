@@ -1,3 +1,4 @@
+use crate::telling::{holds, holds_in, same_in};
 use lt_words::Command;
 use std::alloc::{AllocError, Global};
 use std::test::Fail;
@@ -49,7 +50,7 @@ fn commands(rt: HostRuntime) -> Result<(), Fail> {
     for (line, command) in COMMANDS {
         let words = words_of(alloc, line)?;
         let found = Command::from_words(alloc, &words)?;
-        assert_eq!(rt; found, Some(command), "{line}");
+        same_in(&rt, line, found, Some(command));
     }
     Ok(())
 }
@@ -111,8 +112,8 @@ fn others(rt: HostRuntime) -> Result<(), Fail> {
     let alloc = rt.alloc();
     for line in &OTHERS {
         let words = words_of(alloc, line)?;
-        assert!(rt; Command::from_words(alloc, &words)?.is_none(), "{line}");
+        holds_in(&rt, line, Command::from_words(alloc, &words)?.is_none());
     }
-    assert!(rt; Command::from_words(alloc, &[])?.is_none());
+    holds(&rt, Command::from_words(alloc, &[])?.is_none());
     Ok(())
 }

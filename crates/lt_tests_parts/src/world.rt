@@ -1,5 +1,6 @@
 ghost use Rattle.std.specs.Prelude.{◌≡◌, length};
 
+use crate::telling::{holds, same};
 use lt_modes::{Command, Mode, Step};
 use lt_script::Script;
 use lt_world::{Choice, World};
@@ -33,19 +34,21 @@ fn makes_the_moves_in_their_order(rt: HostRuntime) -> Result<(), Fail> {
         (0, Step::Act(1)),
     ];
     for (node, step) in moves {
-        let choice = world.pick(0).ok_or("at rest")?;
-        assert_eq!(rt; choice, Choice { node, step });
-        assert!(rt; world.enabled(choice));
-        assert!(rt; world.full().is_none());
-        world.step(choice)?;
+        let Some(choice) = world.pick(0) else {
+            panic!(rt; "at rest")
+        };
+        same(&rt, choice, Choice { node, step });
+        holds(&rt, world.enabled(choice));
+        holds(&rt, world.full().is_none());
+        same(&rt, world.step(choice), Ok(()));
     }
-    assert!(rt; world.anyone_waits());
-    assert!(rt; !world.at_rest());
-    assert_eq!(rt; world.count(), 1);
-    assert_eq!(rt; world.pick(1), None);
-    assert_eq!(rt; world.full(), Some(1));
-    assert_eq!(rt; world.run().len(), 4);
-    assert_eq!(rt; world.into_run().len(), 4);
+    holds(&rt, world.anyone_waits());
+    holds(&rt, !world.at_rest());
+    same(&rt, world.count(), 1);
+    same(&rt, world.pick(1), None);
+    same(&rt, world.full(), Some(1));
+    same(&rt, world.run().len(), 4);
+    same(&rt, world.into_run().len(), 4);
     Ok(())
 }
 
@@ -54,9 +57,13 @@ fn makes_room_before_a_move(rt: HostRuntime) -> Result<(), Fail> {
     let script = two_nodes(rt.alloc())?;
     let mut world = World::new(rt.alloc(), &script, 2)?;
     for turn in 0..8 {
-        let choice = world.pick(0).ok_or("at rest")?;
-        assert!(rt; world.full().is_none());
-        let ready = world.reserve(choice).map_err(|_| "no memory")?;
+        let Some(choice) = world.pick(0) else {
+            panic!(rt; "at rest")
+        };
+        holds(&rt, world.full().is_none());
+        let Ok(ready) = world.reserve(choice) else {
+            panic!(rt; "no memory")
+        };
         // Each move is left once before it is made.
         world = if turn % 2 == 0 {
             ready.leave()
@@ -64,8 +71,8 @@ fn makes_room_before_a_move(rt: HostRuntime) -> Result<(), Fail> {
             ready.make()
         };
     }
-    assert_eq!(rt; world.run().len(), 4);
-    assert_eq!(rt; world.full(), Some(1));
+    same(&rt, world.run().len(), 4);
+    same(&rt, world.full(), Some(1));
     Ok(())
 }
 
@@ -103,14 +110,20 @@ fn tells_who_waits_for_whom(rt: HostRuntime) -> Result<(), Fail> {
     let script = writers(rt.alloc())?;
     let mut world = World::new(rt.alloc(), &script, 20)?;
     for moves in 0..11 {
-        assert_eq!(rt; world.run().len(), moves);
-        let choice = world.pick(0).ok_or("at rest")?;
-        assert!(rt; world.full().is_none());
-        world.step(choice)?;
+        same(&rt, world.run().len(), moves);
+        let Some(choice) = world.pick(0) else {
+            panic!(rt; "at rest")
+        };
+        holds(&rt, world.full().is_none());
+        same(&rt, world.step(choice), Ok(()));
     }
-    assert!(rt; world.at_rest());
-    assert!(rt; script.clients() == 4);
+    holds(&rt, world.at_rest());
+    holds(&rt, script.clients() == 4);
     let pairs = waiting_pairs(rt.alloc(), &world)?;
-    assert!(rt; pairs.as_slice() == [(1, 0), (2, 0), (2, 1), (3, 0), (3, 2)].as_slice());
+    same(
+        &rt,
+        pairs.as_slice(),
+        [(1, 0), (2, 0), (2, 1), (3, 0), (3, 2)].as_slice(),
+    );
     Ok(())
 }

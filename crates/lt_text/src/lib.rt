@@ -4,8 +4,6 @@
 mod cut;
 mod digits;
 mod laws;
-#[cfg(test)]
-mod tests;
 
 pub use cut::{is, next_field, next_line, next_word, trim_return};
 pub use digits::{are_digits, exact_number, number, push_number};

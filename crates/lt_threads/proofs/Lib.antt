@@ -8,3 +8,5 @@ pub mod Starts
 pub mod Ends
 pub mod SharedRunners
 pub mod Shares
+pub mod Taken
+pub mod Visited

@@ -20,7 +20,7 @@ use Rattle.lt_lists.proofs.Members.{some_equal}
 use Rattle.lt_law_plays.specs.AppendLaws.{AreOwnCommands as EachIsAt}
 use Rattle.lt_law_plays.proofs.Appending.{share_is_same}
 use Rattle.lt_runner.specs.declared.parts.Parts.{Parts}
-use Rattle.lt_threads.specs.Meeting.{AreShares, ShareScript, AreScripts, commands_in, AreTooMany, IsJoined, IsSharedRun, AreCrewLogs}
+use Rattle.lt_threads.specs.Meeting.{AreShares, ShareScript, AreScripts, commands_in, command_count, AreTooMany, IsJoined, IsSharedRun, AreCrewLogs}
 
 -- the commands of the runner, if there is one
 abbrev commands_or : Option Parts → List (ℕ × Command)
@@ -143,12 +143,20 @@ in_range n (p ∷ rs) h =
     (all_weaker (IsRequest s.sets s.clients) (λ (request : ℕ × Command). request.0 < n) (λ (request : ℕ × Command) is. omega (arith, is.0, known.1)) s.commands requests)
     (in_range n rs (λ k q there. h (suc k) q there))
 
+-- counted by clients they are as many
+by_clients : (rs : List Parts) (script : ScriptData) → AreScripts rs → AreShares script rs
+    → command_count (with_commands script (commands_in rs)) ≡ length (commands_in rs)
+by_clients rs script scripts h = counted (length script.clients) (commands_in rs) (in_range (length script.clients) rs
+    (λ k p here. (scripts k p here, ap (λ (s : ScriptData). length s.clients) (h.each k p here).script_is)))
+
 -- more commands than a script may have are also more where they are counted by clients
 pub too_many : (rs : List Parts) → AreScripts rs → MAX_COMMANDS < length (commands_in rs) → AreTooMany rs
-too_many rs scripts many script h =
-    let all = counted (length script.clients) (commands_in rs) (in_range (length script.clients) rs
-    (λ k p here. (scripts k p here, ap (λ (s : ScriptData). length s.clients) (h.each k p here).script_is))) in
-    omega (arith, many, all)
+too_many rs scripts many script h = let all = by_clients rs script scripts h in omega (arith, many, all)
+
+-- and where they are more so, a script may not have them
+pub many : (rs : List Parts) → AreScripts rs → ShareScript rs → AreTooMany rs → MAX_COMMANDS < length (commands_in rs)
+many rs scripts shares too_many =
+    let all = by_clients rs shares.0 scripts shares.1 in let more = too_many shares.0 shares.1 in omega (arith, more, all)
 
 -- what is joined, and why not
 pub joined_all : (rs : List Parts) (made : ScriptData) → ShareScript rs → IsScript made

@@ -3,3 +3,5 @@ pub mod Pushes
 pub mod Threads
 pub mod Workers
 pub mod Settled
+pub mod Taking
+pub mod Visits

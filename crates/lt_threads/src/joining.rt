@@ -1,5 +1,5 @@
 // Runners that each appended commands: the script with the commands of all, and the run of it that they made.
-ghost use Rattle.std.specs.Prelude.{◌≡◌, ◌<◌, ◌≤◌, ◌+◌, ◌++◌, true, false, length, take, drop, IfOk, IfErr, OnOk};
+ghost use Rattle.std.specs.Prelude.{◌≡◌, ◌<◌, ◌≤◌, ◌+◌, ◌++◌, true, false, length, take, drop, Err, IfOk, IfErr, OnOk};
 ghost use Rattle.lt_modes.specs.Script.{ScriptData};
 ghost use Rattle.lt_spec.specs.Script.{IsScript};
 ghost use Rattle.lt_spec.specs.declared.limits.TheConstants.{MAX_COMMANDS};
@@ -37,6 +37,7 @@ pub fn finish_joined(alloc: Global, runners: Vec<Runner>) -> Result<(Script, Run
     requires { ShareScript runners.items }
     ensures run { IfOk result (λ made. IsSharedRun runners.items made.0 made.1.entries) }
     ensures many { IfErr result (λ error. error ≡ errors.TooMany → AreTooMany runners.items) }
+    ensures told { AreTooMany runners.items → result ≡ Err errors.TooMany }
 {
     let script = join_scripts(alloc, &runners)?;
     let logs = finish(alloc, &script, runners)?;
@@ -45,11 +46,12 @@ pub fn finish_joined(alloc: Global, runners: Vec<Runner>) -> Result<(Script, Run
 }
 
 /// The script with the commands that each runner appended, node by node: of it the runners are a crew.
-#[tactic(auto, using(crate::proofs::Shares::joined_all, crate::proofs::Shares::too_many))]
+#[tactic(auto, using(crate::proofs::Shares::joined_all, crate::proofs::Shares::too_many, crate::proofs::Shares::many))]
 pub fn join_scripts(alloc: Global, runners: &[Runner]) -> Result<Script, JoinError>
     requires { ShareScript runners.now }
     ensures joined { IfOk result (IsJoined runners.now) }
     ensures many { IfErr result (λ error. error ≡ errors.TooMany → AreTooMany runners.now) }
+    ensures told { AreTooMany runners.now → result ≡ Err errors.TooMany }
 {
     are_scripts(runners);
     if !have_room(runners) {

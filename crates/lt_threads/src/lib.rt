@@ -11,9 +11,11 @@ mod outlook;
 mod rounds;
 mod settling;
 mod sharing;
+mod stacks;
 mod starting;
 mod taking;
 mod threads;
+mod visits;
 mod waiting;
 mod worker;
 

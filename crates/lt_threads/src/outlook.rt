@@ -1,4 +1,8 @@
-ghost use Rattle.std.specs.Prelude.{◌<◌};
+ghost use Rattle.std.specs.Prelude.{◌≡◌, ◌<◌, ◌+◌, ◌/◌, false};
+ghost use Rattle.lt_threads.specs.Visits.{no_visits, after_move, after_refused, after_vain, MayVisit, HaveRoom};
+ghost use Rattle.lt_threads.specs.declared.outlook.TheConstants.{FEW_WORKERS, NODES_PER_WORKER};
+
+use crate::visits::Visits;
 
 /// The workers among few nodes, and for how many nodes there is one more.
 const FEW_WORKERS: u8 = 3;
@@ -29,18 +33,17 @@ pub(crate) struct Outlook {
     full: u64,
     // Whether the node that it looks at has mail.
     by_mail: bool,
-    // Visits without a move, one after the other.
-    vain: u32,
-    // Refused claims, one after the other.
-    refused: u32,
     // The nodes with mail that another worker had when they were claimed, and that weren't claimed since.
     owed: u64,
     // Short visits.
     short: u32,
+    pub(crate) visits: Visits,
 }
 
 impl Outlook {
-    pub(crate) fn new(at: u8) -> Outlook {
+    pub(crate) fn new(at: u8) -> Outlook
+        ensures { result.visits ≡ no_visits }
+    {
         Outlook {
             at,
             stays: at == 0,
@@ -48,18 +51,19 @@ impl Outlook {
             acts: u64::MAX,
             full: 0,
             by_mail: false,
-            vain: 0,
-            refused: 0,
             owed: 0,
             short: 0,
+            visits: Visits::none(),
         }
     }
 
     /// Whether the worker has tried often enough, or is in the way of the others. While another worker has a node with
     /// its mail, it ends for neither.
-    pub(crate) fn is_over(&self, count: u8, patience: u32) -> bool {
-        self.owed == 0 && (self.vain >= u32::from(count) || self.leaves())
-            || self.refused >= patience
+    pub(crate) fn is_over(&self, count: u8, patience: u32) -> bool
+        ensures { result ≡ false → MayVisit count patience self.now.visits }
+    {
+        !self.visits.may_go_on(count, patience)
+            || self.owed == 0 && (self.visits.vain >= u64::from(count) || self.leaves())
     }
 
     // Whether its visits for commands were short too often. It first sees to its mail.
@@ -70,11 +74,12 @@ impl Outlook {
     /// The next of so many nodes.
     pub(crate) fn next(&mut self, count: u8) -> u8
         requires { 0 < count }
-        ensures { result < count }
+        ensures node { result < count }
+        ensures visits { self.new.visits ≡ self.old.visits }
     {
         self.by_mail = self.mail != 0;
         if self.acts & first_bits(count) == 0 {
-            self.acts = !self.full;
+            self.acts = !self.full | self.owed;
         }
         let node = if self.by_mail {
             first_from(self.mail, self.at, count)
@@ -93,8 +98,11 @@ impl Outlook {
     }
 
     /// Another worker has the node.
-    pub(crate) fn note_refusal(&mut self, node: u8) {
-        self.refused = self.refused.saturating_add(1);
+    pub(crate) fn note_refusal(&mut self, node: u8)
+        requires { HaveRoom self.old.visits }
+        ensures { self.new.visits ≡ after_refused self.old.visits }
+    {
+        self.visits.note_refusal();
         if self.by_mail {
             self.acts |= bit(node);
             self.owed |= bit(node);
@@ -102,35 +110,46 @@ impl Outlook {
     }
 
     /// The worker has the node.
-    pub(crate) fn note_claim(&mut self, node: u8) {
+    pub(crate) fn note_claim(&mut self, node: u8)
+        ensures { self.new.visits ≡ self.old.visits }
+    {
         self.owed &= !bit(node);
     }
 
     /// The node made so many moves, and sent letters to the nodes that were reached.
-    pub(crate) fn note_moves(&mut self, node: u8, moves: u32, reached: u64) {
+    pub(crate) fn note_moves(&mut self, node: u8, moves: u32, reached: u64)
+        requires { HaveRoom self.old.visits }
+        ensures { self.new.visits ≡ after_move self.old.visits }
+    {
         if !self.by_mail && moves < SHORT && reached != 0 {
             self.short = self.short.saturating_add(1);
         }
-        self.vain = 0;
-        self.refused = 0;
+        self.visits.note_move();
         self.mail |= reached;
         self.acts |= bit(node);
     }
 
     /// The node made no move.
-    pub(crate) fn note_no_move(&mut self) {
-        self.vain = self.vain.saturating_add(1);
+    pub(crate) fn note_no_move(&mut self)
+        requires { HaveRoom self.old.visits }
+        ensures { self.new.visits ≡ after_vain self.old.visits }
+    {
+        self.visits.note_vain();
     }
 
     /// The node has made as many moves as it may.
-    pub(crate) fn note_full(&mut self, node: u8) {
+    pub(crate) fn note_full(&mut self, node: u8)
+        ensures { self.new.visits ≡ self.old.visits }
+    {
         self.full |= bit(node);
         self.acts &= !bit(node);
     }
 }
 
 /// How many workers share so many nodes at most: more of them get into each other's way.
-pub(crate) fn most_workers(count: u8) -> u8 {
+pub(crate) fn most_workers(count: u8) -> u8
+    ensures { result ≡ FEW_WORKERS + count / NODES_PER_WORKER }
+{
     FEW_WORKERS + count / NODES_PER_WORKER
 }
 

@@ -9,6 +9,7 @@ ghost use Rattle.lt_threads.specs.declared.sharing.TheConstants.{MAX_WORKERS};
 
 use crate::outlook::{Outlook, most_workers};
 use crate::settling::settle;
+use crate::stacks::workers_with_room;
 use crate::worker::Worker;
 use lt_pool::{Badge, Pool};
 use lt_runner::{Gate, Runner, Worked};
@@ -56,6 +57,7 @@ fn share<R: Threads + Sync, G: Gate>(
     let count = runners.len() as u8;
     let (pool, mut first) = Pool::new(alloc, runners)?;
     let workers = workers.min(count).min(most_workers(count));
+    let workers = workers_with_room(alloc, workers);
     let mut hands = engage(alloc, &pool, &mut first, workers)?;
     work_all(rt, &pool, hands.as_mut_slice(), count, patience, gate);
     dismiss(&pool, &mut first, hands);

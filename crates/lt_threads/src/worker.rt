@@ -1,10 +1,12 @@
 // What a worker does on its thread.
-ghost use Rattle.std.specs.Prelude.{◌≡◌, ◌<◌, length};
-ghost use Rattle.lt_runner.specs.Kept.{Grew};
+ghost use Rattle.std.specs.Prelude.{◌≡◌, ◌<◌, ◌≤◌, ◌+◌, ◌-◌, ◌*◌, length};
+ghost use Rattle.lt_runner.specs.Kept.{Grew, WorkEnds};
 ghost use Rattle.lt_threads.specs.Workers.{IsFree};
+ghost use Rattle.lt_threads.specs.Visits.{after_moves, most_idle, most_moved, HaveRoom, MadeVisit, FewRefused};
 
 use crate::outlook::Outlook;
 use crate::taking::take_letters;
+use crate::visits::Visits;
 use lt_pool::{Badge, Pool};
 use lt_runner::{Gate, Runner, Worked};
 use std::thread::yield_now;
@@ -31,12 +33,13 @@ impl Worker {
     pub(crate) fn run<G: Gate>(&mut self, pool: &Pool<Runner>, count: u8, patience: u32, gate: &G)
         requires free { IsFree pool.now self.old.badge }
         requires count { (count ≡ length pool.now.firsts) × (0 < count) }
-        ensures { IsFree pool.now self.new.badge }
+        ensures free { IsFree pool.now self.new.badge }
+        ensures few { self.new.outlook.visits.made ≤ (self.new.outlook.visits.moved + 1) * most_idle count patience }
+        ensures moved { self.new.outlook.visits.moved ≤ most_moved count }
+        ensures refused { FewRefused patience self.old self.new }
     {
-        for _ in 0..u64::MAX {
-            if self.short || self.outlook.is_over(count, patience) {
-                return;
-            }
+        self.outlook.visits = Visits::none();
+        'visits: while !self.short && !self.outlook.is_over(count, patience) {
             let node = self.outlook.next(count);
             self.visit(pool, node, gate);
         }
@@ -46,7 +49,9 @@ impl Worker {
     fn visit<G: Gate>(&mut self, pool: &Pool<Runner>, node: u8, gate: &G)
         requires free { IsFree pool.now self.old.badge }
         requires inside { node < length pool.now.firsts }
-        ensures { IsFree pool.now self.new.badge }
+        requires room { HaveRoom self.old.outlook.visits }
+        ensures free { IsFree pool.now self.new.badge }
+        ensures visit { MadeVisit pool.now node self.old self.new }
     {
         let Ok(mut runner) = pool.claim(&mut self.badge, node) else {
             self.outlook.note_refusal(node);
@@ -60,7 +65,9 @@ impl Worker {
 
     // Notes what came of a visit.
     fn note(&mut self, node: u8, visit: Visit)
-        ensures { self.new.badge ≡ self.old.badge }
+        requires { HaveRoom self.old.outlook.visits }
+        ensures badge { self.new.badge ≡ self.old.badge }
+        ensures visits { self.new.outlook.visits ≡ after_moves visit.moves self.old.outlook.visits }
     {
         self.outlook.note_claim(node);
         if visit.moves == 0 {
@@ -78,7 +85,9 @@ impl Worker {
 
 // Lets the runner work, and tells what came of it.
 fn work_on<G: Gate>(runner: &mut Runner, by_mail: bool, gate: &G) -> Visit
-    ensures { Grew runner.old runner.new }
+    ensures grew { Grew runner.old runner.new }
+    ensures moves { result.moves ≡ length runner.new.log.entries - length runner.old.log.entries }
+    ensures ends { WorkEnds result.worked 0 runner.new }
 {
     let before = runner.moves();
     let (reached, worked) = work(runner, by_mail, gate);
@@ -92,7 +101,8 @@ fn work_on<G: Gate>(runner: &mut Runner, by_mail: bool, gate: &G) -> Visit
 
 // Lets the runner take letters, or make any moves, until it finds none or has sent a letter.
 fn work<G: Gate>(runner: &mut Runner, by_mail: bool, gate: &G) -> (u64, Worked)
-    ensures { Grew runner.old runner.new }
+    ensures grew { Grew runner.old runner.new }
+    ensures ends { WorkEnds result.1 0 runner.new }
 {
     if by_mail {
         take_letters(runner, gate)
@@ -101,8 +111,10 @@ fn work<G: Gate>(runner: &mut Runner, by_mail: bool, gate: &G) -> (u64, Worked)
     }
 }
 
+#[tactic(auto, using(crate::proofs::Taken::ends_later))]
 fn work_until_sent<G: Gate>(runner: &mut Runner, gate: &G) -> (u64, Worked)
-    ensures { Grew runner.old runner.new }
+    ensures grew { Grew runner.old runner.new }
+    ensures ends { WorkEnds result.1 0 runner.new }
 {
     let worked = runner.work_until_sent(gate);
     (runner.reached(), worked)

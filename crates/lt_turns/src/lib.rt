@@ -2,8 +2,6 @@
 #![tactic(auto)]
 
 mod slot;
-#[cfg(test)]
-mod tests;
 mod tree;
 mod turns;
 

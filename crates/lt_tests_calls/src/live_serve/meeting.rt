@@ -2,6 +2,7 @@
 ghost use Rattle.std.specs.Prelude.{◌<◌};
 
 use super::served;
+use crate::telling::same;
 use lt_live_serve::Status;
 use lt_merge::Run;
 use lt_runner::Gate;
@@ -65,13 +66,14 @@ fn two_stations_move_at_once(rt: HostRuntime) -> Result<(), Fail> {
         met: [AtomicU64::new(0), AtomicU64::new(0)],
     };
     let (served, _) = served(&rt, rt.alloc(), TWO_READERS, &gate)?;
-    assert_eq!(rt; served.status, Status::Done);
+    same(&rt, served.status, Status::Done);
     for node in 0..2_u8 {
         let me = usize::from(node);
-        assert_eq!(rt; gate.met[me].load(Ordering::SeqCst), 1);
-        assert_eq!(rt;
+        same(&rt, gate.met[me].load(Ordering::SeqCst), 1);
+        same(
+            &rt,
             gate.counts[me].load(Ordering::SeqCst),
-            moves_of(&served.run, node)
+            moves_of(&served.run, node),
         );
     }
     Ok(())

@@ -1,4 +1,5 @@
 use super::{Open, served, sink_of, source_of, words_of};
+use crate::telling::{same, same_in};
 use lt_io::SureSource;
 use lt_script::{Fault, ScriptFault};
 use lt_serve::{Status, USUAL, program, serve};
@@ -115,8 +116,8 @@ const ANSWERS: [(&str, &str, Status, &str); 13] = [
 fn answers(rt: HostRuntime) -> Result<(), Fail> {
     for (words, input, status, written) in &ANSWERS {
         let (found, text) = served(&rt, rt.alloc(), USUAL, words, input)?;
-        assert_eq!(rt; found, *status, "{words}");
-        assert_eq!(rt; text.as_slice(), written.as_bytes());
+        same_in(&rt, words, found, *status);
+        same(&rt, text.as_slice(), written.as_bytes());
     }
     Ok(())
 }
@@ -139,7 +140,7 @@ const ITS_JOURNAL: &[u8] = b"move 1 0 act a\n\
 fn failing_writes(rt: HostRuntime) -> Result<(), Fail> {
     let alloc = rt.alloc();
     let words = words_of(alloc, "sim first")?;
-    assert_eq!(rt; ITS_JOURNAL.len(), 81);
+    same(&rt, ITS_JOURNAL.len(), 81);
     for k in 1..=82_usize {
         let mut source = source_of(alloc, ONE_LOCK, &[])?;
         let mut sink = sink_of(alloc, 1, &[k as u64])?;
@@ -149,9 +150,9 @@ fn failing_writes(rt: HostRuntime) -> Result<(), Fail> {
         } else {
             Status::WriteFault
         };
-        assert_eq!(rt; served.status, status, "{k}");
+        same_in(&rt, k, served.status, status);
         let (written, _) = ITS_JOURNAL.split_at((k - 1).min(ITS_JOURNAL.len()));
-        assert_eq!(rt; sink.bytes.as_slice(), written, "{k}");
+        same_in(&rt, k, sink.bytes.as_slice(), written);
     }
     Ok(())
 }
@@ -170,8 +171,8 @@ fn failing_reads(rt: HostRuntime) -> Result<(), Fail> {
         } else {
             (Status::ReadFault, b"".as_slice())
         };
-        assert_eq!(rt; served.status, status, "{k}");
-        assert_eq!(rt; sink.bytes.as_slice(), written, "{k}");
+        same_in(&rt, k, served.status, status);
+        same_in(&rt, k, sink.bytes.as_slice(), written);
     }
     Ok(())
 }
@@ -188,7 +189,7 @@ fn no_words(rt: HostRuntime) -> Result<(), Fail> {
         let mut source = source_of(alloc, "nodes 1", &[])?;
         let mut sink = sink_of(alloc, 1_000, &[])?;
         let served = program(&rt, alloc, &words, &mut source, &mut sink, &Open);
-        assert_eq!(rt; served.status, status);
+        same(&rt, served.status, status);
     }
     Ok(())
 }
@@ -211,7 +212,7 @@ fn the_longest_input(rt: HostRuntime) -> Result<(), Fail> {
         };
         let mut sink = sink_of(alloc, 1_000, &[])?;
         let served = serve(&rt, alloc, words.as_slice(), &mut source, &mut sink, &Open);
-        assert_eq!(rt; served.status, status);
+        same(&rt, served.status, status);
     }
     Ok(())
 }

@@ -1,4 +1,5 @@
 use super::served;
+use crate::telling::same;
 use lt_serve::{Setup, Status, USUAL};
 use std::test::Fail;
 
@@ -221,8 +222,8 @@ const JOURNALS: [(&str, Status, &str); 8] = [
 fn journals(rt: HostRuntime) -> Result<(), Fail> {
     for (script, status, journal) in &JOURNALS {
         let (found, text) = served(&rt, rt.alloc(), USUAL, "sim first", script)?;
-        assert_eq!(rt; found, *status);
-        assert_eq!(rt; text.as_slice(), journal.as_bytes());
+        same(&rt, found, *status);
+        same(&rt, text.as_slice(), journal.as_bytes());
     }
     Ok(())
 }
@@ -250,8 +251,9 @@ fn cut(rt: HostRuntime) -> Result<(), Fail> {
          b lock s write\n\
          b unlock s write\n",
     )?;
-    assert_eq!(rt; status, Status::Cut { node: 0 });
-    assert_eq!(rt;
+    same(&rt, status, Status::Cut { node: 0 });
+    same(
+        &rt,
         text.as_slice(),
         b"move 1 0 act a\n\
          grant a s write\n\
@@ -261,7 +263,7 @@ fn cut(rt: HostRuntime) -> Result<(), Fail> {
          unlock a s write\n\
          grant b s write\n\
          cut 0\n"
-            .as_slice()
+            .as_slice(),
     );
     Ok(())
 }

@@ -1,5 +1,6 @@
 use super::gates::{Passes, TIMES};
 use super::{sink_of, source_of, words_of};
+use crate::telling::{holds, same};
 use lt_merge::Run;
 use lt_runner::Gate;
 use lt_serve::{Served, Status, serve};
@@ -55,11 +56,11 @@ fn two_nodes_move_at_once(rt: HostRuntime) -> Result<(), Fail> {
             passes: Passes::new(run),
         };
         let served = ran(&rt, rt.alloc(), &gate)?;
-        assert_eq!(rt; served.status, Status::Done);
+        same(&rt, served.status, Status::Done);
         for node in 0..2_u8 {
             let me = usize::from(node);
-            assert!(rt; gate.passes.has_met(me));
-            assert_eq!(rt; gate.passes.count(me), moves_of(&served.run, node));
+            holds(&rt, gate.passes.has_met(me));
+            same(&rt, gate.passes.count(me), moves_of(&served.run, node));
         }
     }
     Ok(())

@@ -1,5 +1,6 @@
 use super::gates::{Passes, TIMES};
 use super::{sink_of, source_of, words_of};
+use crate::telling::{holds, same};
 use lt_runner::Gate;
 use lt_serve::{Setup, Status, serve_with};
 use lt_spec::MAX_MOVES;
@@ -103,11 +104,11 @@ fn gates_decide_who_gets_the_lock(rt: HostRuntime) -> Result<(), Fail> {
                 in_order,
             };
             let (status, journal) = ran(&rt, rt.alloc(), &gate)?;
-            assert_eq!(rt; status, Status::Stuck);
-            assert!(rt; gate.passes.has_met(0));
-            assert!(rt; gate.passes.has_met(gate.late()));
+            same(&rt, status, Status::Stuck);
+            holds(&rt, gate.passes.has_met(0));
+            holds(&rt, gate.passes.has_met(gate.late()));
             match from_utf8(&journal) {
-                Ok(text) => assert!(rt; text.ends_with(closing)),
+                Ok(text) => holds(&rt, text.ends_with(closing)),
                 Err(_) => return Err(Fail::from("no text")),
             }
         }

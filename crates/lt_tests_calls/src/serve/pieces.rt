@@ -1,4 +1,5 @@
 use super::{Open, sink_of, words_of};
+use crate::telling::{same, same_in};
 use lt_io::ReaderSource;
 use lt_script::{Fault, ScriptFault};
 use lt_serve::{Status, serve};
@@ -96,8 +97,8 @@ fn checks_what_comes_in_pieces(rt: HostRuntime) -> Result<(), Fail> {
             });
             let mut sink = sink_of(alloc, 1_000, &[])?;
             let served = serve(&rt, alloc, words.as_slice(), &mut source, &mut sink, &Open);
-            assert_eq!(rt; served.status, *status, "{input}");
-            assert_eq!(rt; sink.bytes.as_slice(), text.as_bytes());
+            same_in(&rt, input, served.status, *status);
+            same(&rt, sink.bytes.as_slice(), text.as_bytes());
         }
     }
     Ok(())

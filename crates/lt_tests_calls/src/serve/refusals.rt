@@ -1,4 +1,5 @@
 use super::served;
+use crate::telling::{holds, same_in};
 use lt_serve::USUAL;
 use std::test::Fail;
 
@@ -36,8 +37,8 @@ fn refused(rt: HostRuntime) -> Result<(), Fail> {
     let alloc = rt.alloc();
     for (script, text) in &REFUSED {
         let (status, written) = served(&rt, rt.alloc(), USUAL, "sim first", script)?;
-        assert_eq!(rt; format!(in alloc; "{status}")?.as_str(), *text, "{script}");
-        assert!(rt; written.is_empty());
+        same_in(&rt, script, format!(in alloc; "{status}")?.as_str(), *text);
+        holds(&rt, written.is_empty());
     }
     Ok(())
 }

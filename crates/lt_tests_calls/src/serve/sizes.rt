@@ -1,5 +1,6 @@
 //! The greatest sizes, with ample memory.
 use super::words_of;
+use crate::telling::{holds, same, same_in};
 use lt_checker::{ReplayError, replay};
 use lt_io::{MemorySink, SureSource};
 use lt_journal::read as read_journal;
@@ -64,19 +65,19 @@ fn replayed(alloc: Global, script: &[u8], journal: &[u8]) -> Result<Result<u32, 
 fn runs_the_greatest_script(rt: HostRuntime) -> Result<(), Fail> {
     let alloc = rt.alloc();
     let (status, script) = served(&rt, alloc, "make 16 64 4096 7", b"")?;
-    assert_eq!(rt; status, Status::Done);
-    assert_eq!(rt; script.len(), 94_384);
+    same(&rt, status, Status::Done);
+    same(&rt, script.len(), 94_384);
     for (words, length, moves) in &RUNS {
         let (status, journal) = served(&rt, alloc, words, &script)?;
-        assert_eq!(rt; status, Status::Done, "{words}");
-        assert_eq!(rt; journal.len(), *length, "{words}");
+        same_in(&rt, words, status, Status::Done);
+        holds(&rt, journal.len() == *length);
         let input = joined(alloc, &script, &journal)?;
         let (status, text) = served(&rt, alloc, "check", &input)?;
-        assert_eq!(rt; status, Status::Done, "{words}");
+        same_in(&rt, words, status, Status::Done);
         let answer = format!(in alloc; "ok {moves}\n")?;
-        assert_eq!(rt; text.as_slice(), answer.as_bytes());
+        same(&rt, text.as_slice(), answer.as_bytes());
         let told = replayed(alloc, &script, &journal)?;
-        assert_eq!(rt; told, Ok(*moves), "{words}");
+        same_in(&rt, words, told, Ok(*moves));
     }
     Ok(())
 }
@@ -86,10 +87,10 @@ fn runs_the_greatest_script_on_threads(rt: HostRuntime) -> Result<(), Fail> {
     let alloc = rt.alloc();
     let (_, script) = served(&rt, alloc, "make 16 64 4096 7", b"")?;
     let (status, journal) = served(&rt, alloc, "run", &script)?;
-    assert_eq!(rt; status, Status::Done);
+    same(&rt, status, Status::Done);
     let input = joined(alloc, &script, &journal)?;
     let (status, _) = served(&rt, alloc, "check", &input)?;
-    assert_eq!(rt; status, Status::Done);
+    same(&rt, status, Status::Done);
     Ok(())
 }
 
@@ -102,8 +103,8 @@ fn reads_the_longest_line(rt: HostRuntime) -> Result<(), Fail> {
         *byte = *letter;
     }
     let (status, journal) = served(&rt, alloc, "sim first", &script)?;
-    assert_eq!(rt; status, Status::Done);
-    assert_eq!(rt; journal.as_slice(), b"end 0\n".as_slice());
+    same(&rt, status, Status::Done);
+    same(&rt, journal.as_slice(), b"end 0\n".as_slice());
     Ok(())
 }
 
@@ -116,13 +117,13 @@ fn reads_a_long_journal(rt: HostRuntime) -> Result<(), Fail> {
     for _ in 0..100_000 {
         bytes.extend_from_slice(b"move 1 0 act a\n")?;
     }
-    assert_eq!(rt; bytes.len(), 1_500_000);
+    same(&rt, bytes.len(), 1_500_000);
     let input = joined(alloc, script, &bytes)?;
     let (status, text) = served(&rt, alloc, "check", &input)?;
-    assert_eq!(rt; status, Status::BadJournal { line: 5 });
-    assert_eq!(rt; text.len(), 0);
+    same(&rt, status, Status::BadJournal { line: 5 });
+    same(&rt, text.len(), 0);
     let told = replayed(alloc, script, &bytes)?;
-    assert_eq!(rt; told, Err(1));
+    same(&rt, told, Err(1));
     Ok(())
 }
 
@@ -154,11 +155,11 @@ fn runs_the_greatest_script_of_version_2(rt: HostRuntime) -> Result<(), Fail> {
     let alloc = rt.alloc();
     let script = second_version(alloc)?;
     let (status, journal) = served(&rt, alloc, "sim first", &script)?;
-    assert_eq!(rt; status, Status::Done);
-    assert_eq!(rt; journal.len(), 411_530);
+    same(&rt, status, Status::Done);
+    holds(&rt, journal.len() == 411_530);
     let input = joined(alloc, &script, &journal)?;
     let (status, text) = served(&rt, alloc, "check", &input)?;
-    assert_eq!(rt; status, Status::Done);
-    assert_eq!(rt; text.as_slice(), b"ok 8152\n".as_slice());
+    same(&rt, status, Status::Done);
+    same(&rt, text.as_slice(), b"ok 8152\n".as_slice());
     Ok(())
 }

@@ -1,4 +1,5 @@
 use super::served;
+use crate::telling::{holds, same};
 use lt_serve::{Setup, Status, USUAL};
 use std::alloc::Global;
 use std::str::from_utf8;
@@ -43,11 +44,11 @@ fn three_readers_on_threads(rt: HostRuntime) -> Result<(), Fail> {
         workers: 8,
     };
     let (status, journal) = served(&rt, rt.alloc(), setup, "run", THREE_READERS)?;
-    assert_eq!(rt; status, Status::Done);
+    same(&rt, status, Status::Done);
     let input = input_of(rt.alloc(), THREE_READERS, &journal)?;
     let (status, said) = served(&rt, rt.alloc(), USUAL, "check", &input)?;
-    assert_eq!(rt; status, Status::Done);
-    assert_eq!(rt; said.as_slice(), b"ok 7\n".as_slice());
+    same(&rt, status, Status::Done);
+    same(&rt, said.as_slice(), b"ok 7\n".as_slice());
     Ok(())
 }
 
@@ -61,8 +62,8 @@ fn cut_on_threads(rt: HostRuntime) -> Result<(), Fail> {
         workers: 8,
     };
     let (status, journal) = served(&rt, rt.alloc(), setup, "run", THREE_READERS)?;
-    assert_eq!(rt; status, Status::Cut { node: 0 });
-    assert_eq!(rt; journal.as_slice(), CUT);
+    same(&rt, status, Status::Cut { node: 0 });
+    same(&rt, journal.as_slice(), CUT);
     Ok(())
 }
 
@@ -78,10 +79,13 @@ fn a_drawn_script_on_threads(rt: HostRuntime) -> Result<(), Fail> {
     let (_, script) = served(&rt, rt.alloc(), USUAL, "make 16 64 256 7", "")?;
     let script = String::from_utf8(script)?;
     let (status, journal) = served(&rt, rt.alloc(), setup, "run", &script)?;
-    assert_eq!(rt; status, Status::Done);
+    same(&rt, status, Status::Done);
     let input = input_of(rt.alloc(), &script, &journal)?;
-    assert!(rt; !input.contains("\nheld ") && !input.contains("\nwaiting "));
+    holds(
+        &rt,
+        !input.contains("\nheld ") && !input.contains("\nwaiting "),
+    );
     let (status, _) = served(&rt, rt.alloc(), USUAL, "check", &input)?;
-    assert_eq!(rt; status, Status::Done);
+    same(&rt, status, Status::Done);
     Ok(())
 }

@@ -1,5 +1,6 @@
 //! A script with all that there may be at once, and an input with many lines that are skipped.
 use super::sizes::{joined, served};
+use crate::telling::{holds, same};
 use lt_serve::Status;
 use std::alloc::{AllocError, Global};
 use std::test::Fail;
@@ -67,20 +68,20 @@ fn runs_the_widest_script(rt: HostRuntime) -> Result<(), Fail> {
     let mut script = declared(alloc)?;
     drop_many(alloc, &mut script)?;
     ask_all(alloc, &mut script)?;
-    assert_eq!(rt; script.len(), 178_091);
+    same(&rt, script.len(), 178_091);
     let (status, journal) = served(&rt, alloc, "sim first", &script)?;
-    assert_eq!(rt; status, Status::Stuck);
-    assert_eq!(rt; journal.len(), 443_982);
+    same(&rt, status, Status::Stuck);
+    holds(&rt, journal.len() == 443_982);
     let input = joined(alloc, &script, &journal)?;
     let (status, text) = served(&rt, alloc, "check", &input)?;
-    assert_eq!(rt; status, Status::Done);
-    assert_eq!(rt; text.as_slice(), b"ok 3043\n".as_slice());
+    same(&rt, status, Status::Done);
+    same(&rt, text.as_slice(), b"ok 3043\n".as_slice());
 
     let (status, journal) = served(&rt, alloc, "run", &script)?;
-    assert_eq!(rt; status, Status::Stuck);
+    same(&rt, status, Status::Stuck);
     let input = joined(alloc, &script, &journal)?;
     let (status, _) = served(&rt, alloc, "check", &input)?;
-    assert_eq!(rt; status, Status::Done);
+    same(&rt, status, Status::Done);
     Ok(())
 }
 
@@ -96,10 +97,10 @@ fn checks_a_long_input(rt: HostRuntime) -> Result<(), Fail> {
           journal\nmove 1 0 act a\ngrant a s read\nheld a s read 1\nowner s 0 0\nend 1\n",
     )?;
     let (status, text) = served(&rt, alloc, "check", &input)?;
-    assert_eq!(rt; status, Status::Done);
-    assert_eq!(rt; text.as_slice(), b"ok 1\n".as_slice());
+    same(&rt, status, Status::Done);
+    same(&rt, text.as_slice(), b"ok 1\n".as_slice());
     input.extend_from_slice(b"end 1\n")?;
     let (status, _) = served(&rt, alloc, "check", &input)?;
-    assert_eq!(rt; status, Status::BadJournal { line: 1_000_012 });
+    same(&rt, status, Status::BadJournal { line: 1_000_012 });
     Ok(())
 }

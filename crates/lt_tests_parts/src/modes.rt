@@ -1,4 +1,5 @@
-use super::{MODES, Mode, ModeSet};
+use crate::telling::same;
+use lt_modes::{MODES, Mode, ModeSet};
 
 // The printed conflict table, a row for each mode.
 const TABLE: [[bool; 6]; 6] = [
@@ -14,8 +15,8 @@ const TABLE: [[bool; 6]; 6] = [
 fn the_printed_table(rt: HostRuntime) {
     for (mode, row) in MODES.iter().zip(TABLE.iter()) {
         for (other, conflict) in MODES.iter().zip(row.iter()) {
-            assert_eq!(rt; mode.conflicts(*other), *conflict, "{mode:?} {other:?}");
-            assert_eq!(rt; ModeSet::one(*mode).bars().has(*other), *conflict);
+            same(&rt, mode.conflicts(*other), *conflict);
+            same(&rt, ModeSet::one(*mode).bars().has(*other), *conflict);
         }
     }
 }
@@ -31,8 +32,8 @@ fn the_words(rt: HostRuntime) {
         "write",
     ];
     for (mode, word) in MODES.iter().zip(words.iter()) {
-        assert_eq!(rt; mode.word(), *word);
-        assert_eq!(rt; Mode::from_word(word.as_bytes()), Some(*mode));
+        same(&rt, mode.word(), *word);
+        same(&rt, Mode::from_word(word.as_bytes()), Some(*mode));
     }
-    assert_eq!(rt; Mode::from_word(b"reed"), None);
+    same(&rt, Mode::from_word(b"reed"), None);
 }

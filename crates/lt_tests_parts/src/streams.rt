@@ -1,4 +1,5 @@
-use super::{
+use crate::telling::same;
+use lt_io::{
     Failed, MemorySink, MemorySource, ReadFailure, ReaderSource, Source, SureSink, SureSource,
     WriterSink, read_all, write_all,
 };
@@ -11,11 +12,11 @@ fn streams_of_std(rt: HostRuntime) -> Result<(), Fail> {
     let mut source = ReaderSource::new(text);
     let mut sink = WriterSink::new(Vec::new(rt.alloc()));
     let bytes = read_all(rt.alloc(), &mut source, text.len())?;
-    assert_eq!(rt; bytes.as_slice(), text);
+    same(&rt, bytes.as_slice(), text);
     // A read after the end is an end too.
     let mut buf = [0; 4];
-    assert_eq!(rt; source.read(&mut buf), Ok(0));
-    assert_eq!(rt; write_all(&mut sink, text), Ok(()));
+    same(&rt, source.read(&mut buf), Ok(0));
+    same(&rt, write_all(&mut sink, text), Ok(()));
     Ok(())
 }
 
@@ -32,9 +33,9 @@ fn memory_fails_where_it_is_told(rt: HostRuntime) -> Result<(), Fail> {
     };
     let mut buf = [0; 3];
     for want in [Ok(3), Err(Failed), Ok(1), Ok(0)] {
-        assert_eq!(rt; source.read(&mut buf), want);
+        same(&rt, source.read(&mut buf), want);
     }
-    assert_eq!(rt; (source.given, source.faults, source.ends), (4, 1, 1));
+    same(&rt, (source.given, source.faults, source.ends), (4, 1, 1));
 
     let mut sink = MemorySink {
         bytes: Vec::new(rt.alloc()),
@@ -43,10 +44,10 @@ fn memory_fails_where_it_is_told(rt: HostRuntime) -> Result<(), Fail> {
         fails: Vec::from_slice(rt.alloc(), &[3])?,
         faults: 0,
     };
-    assert_eq!(rt; write_all(&mut sink, b"grant"), Err(Failed));
-    assert_eq!(rt; sink.bytes.as_slice(), b"gran".as_slice());
-    assert_eq!(rt; write_all(&mut sink, b"t"), Ok(()));
-    assert_eq!(rt; (sink.calls, sink.faults), (4, 1));
+    same(&rt, write_all(&mut sink, b"grant"), Err(Failed));
+    same(&rt, sink.bytes.as_slice(), b"gran".as_slice());
+    same(&rt, write_all(&mut sink, b"t"), Ok(()));
+    same(&rt, (sink.calls, sink.faults), (4, 1));
     Ok(())
 }
 
@@ -62,10 +63,10 @@ fn sure_pair_at_the_limit(rt: HostRuntime) -> Result<(), Fail> {
         };
         let result = read_all(rt.alloc(), &mut source, limit);
         if let Ok(bytes) = &result {
-            assert_eq!(rt; bytes.len(), SIZE);
-            assert_eq!(rt; write_all(&mut SureSink, bytes), Ok(()));
+            same(&rt, bytes.len(), SIZE);
+            same(&rt, write_all(&mut SureSink, bytes), Ok(()));
         }
-        assert_eq!(rt; result.err(), want);
+        same(&rt, result.err(), want);
     }
     Ok(())
 }
@@ -107,14 +108,14 @@ fn a_call_that_failed_is_not_made_again(rt: HostRuntime) -> Result<(), Fail> {
     let mut source = ReaderSource::new(FailsOnce { calls: 0 });
     let mut buf = [0; 4];
     for want in [Err(Failed), Ok(1), Ok(1)] {
-        assert_eq!(rt; source.read(&mut buf), want);
+        same(&rt, source.read(&mut buf), want);
     }
     let mut source = ReaderSource::new(FailsOnce { calls: 0 });
     let refused = read_all(rt.alloc(), &mut source, 8);
-    assert_eq!(rt; refused.err(), Some(ReadFailure::Failed));
+    same(&rt, refused.err(), Some(ReadFailure::Failed));
 
     let mut sink = WriterSink::new(FailsOnce { calls: 0 });
-    assert_eq!(rt; write_all(&mut sink, b"tell"), Err(Failed));
-    assert_eq!(rt; write_all(&mut sink, b"tell"), Ok(()));
+    same(&rt, write_all(&mut sink, b"tell"), Err(Failed));
+    same(&rt, write_all(&mut sink, b"tell"), Ok(()));
     Ok(())
 }

@@ -1,6 +1,7 @@
 ghost use Rattle.std.specs.Prelude.{◌≡◌, refl};
 
-use crate::{Pool, Same};
+use crate::telling::{holds, same};
+use lt_pool::{Pool, Same};
 use std::test::Fail;
 
 // An item that goes on as long as it keeps its name.
@@ -27,24 +28,24 @@ fn a_slot_is_one_badges_at_a_time(rt: HostRuntime) -> Result<(), Fail> {
     let Ok(item) = pool.claim(&mut first, 1) else {
         panic!(rt; "slot 1 is free")
     };
-    assert!(rt; item.name == 1);
+    same(&rt, item.name, 1);
     let refused = pool.claim(&mut second, 1);
-    assert!(rt; matches!(&refused, Err(1)));
+    holds(&rt, matches!(&refused, Err(1)));
     drop(refused);
     pool.give(&mut first, 1, item);
 
     let Ok(item) = pool.claim(&mut second, 1) else {
         panic!(rt; "slot 1 was given back")
     };
-    assert!(rt; item.name == 1);
+    same(&rt, item.name, 1);
     pool.give(&mut second, 1, item);
 
     pool.join(&mut first, second);
     let Ok(items) = pool.close(first) else {
         panic!(rt; "there is memory")
     };
-    assert!(rt; items.len() == 3);
+    holds(&rt, items.len() == 3);
     let names = [items[0].name, items[1].name, items[2].name];
-    assert!(rt; names == [0, 1, 2]);
+    same(&rt, names, [0, 1, 2]);
     Ok(())
 }

@@ -1,4 +1,5 @@
-use crate::Turns;
+use crate::telling::same;
+use lt_turns::Turns;
 use std::test::Fail;
 
 #[test]
@@ -7,11 +8,11 @@ fn the_least_number_is_first(rt: HostRuntime) -> Result<(), Fail> {
     turns.set(0, Some(4));
     turns.set(1, Some(1));
     turns.set(2, Some(1));
-    assert_eq!(rt; turns.first(), Some(1));
+    same(&rt, turns.first(), Some(1));
     turns.set(1, None);
-    assert_eq!(rt; turns.first(), Some(2));
-    assert_eq!(rt; turns.after(2), Some(0));
-    assert_eq!(rt; turns.number(0), Some(4));
-    assert_eq!(rt; turns.count(), 2);
+    same(&rt, turns.first(), Some(2));
+    same(&rt, turns.after(2), Some(0));
+    same(&rt, turns.number(0), Some(4));
+    same(&rt, turns.count(), 2);
     Ok(())
 }

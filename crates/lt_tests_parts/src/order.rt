@@ -1,5 +1,6 @@
-use super::{first_bad, ordered};
+use crate::telling::{holds, same};
 use lt_modes::{Command, Mode};
+use lt_order::{first_bad, ordered};
 use lt_script::Script;
 use std::test::Fail;
 
@@ -14,9 +15,9 @@ fn names_the_client_that_goes_against_the_order(rt: HostRuntime) -> Result<(), F
     let mode = Mode::Write;
     script.add_command(0, Command::Lock { set: 0, mode })?;
     script.add_command(0, Command::Unlock { set: 0, mode })?;
-    assert!(rt; ordered(&script));
+    holds(&rt, ordered(&script));
     script.add_command(1, Command::Lock { set: 1, mode })?;
     script.add_command(1, Command::Lock { set: 0, mode })?;
-    assert_eq!(rt; first_bad(&script), Some(1));
+    same(&rt, first_bad(&script), Some(1));
     Ok(())
 }
