@@ -1,15 +1,18 @@
 #!/bin/sh
 # Tries weakened definitions: tests/definitions/NAME.patch makes a definition say less, or other words, and changes what stands
-# on it as a careless hand would. The crates of the patch are to stay proved, and the law that it names is to refuse it. It
-# works on a copy of the laws and of all that they stand on, with what checks kept of it; first each law is proved there as it
-# is. It prints a line for each patch, and its status is 0 if each was refused by its law. Without names it tries all.
+# on it as a careless hand would. The crates of the patch are to stay proved, and the law that it names is to refuse it, at each
+# lemma that its line `refused` names. It works on a copy of the laws and of all that they stand on, with what checks kept of
+# it; first each law is proved there as it is. Patches of one law that fit together and name no lemma twice are tried at once,
+# so that what stands between is proved once for all of them; where that doesn't show of each that it is refused, and so of a
+# patch that names no lemma, it is tried alone. It prints a line for each patch, and its status is 0 if each was refused.
+# Without names it tries all.
 top=$(CDPATH='' cd -- "$(dirname -- "$0")/.." && pwd) || exit 1
 [ $# -gt 0 ] || set -- $(cd "$top/tests/definitions" && ls | sed -n 's/\.patch$//p')
 copy=$(mktemp -d) || exit 1
 trap 'rm -rf "$copy"' EXIT
 
-# the law that a patch names
-law_of() { sed -n 's/^law: //p' "$top/tests/definitions/$1.patch"; }
+# the words behind this one, `law` or `refused`, in a patch
+said() { sed -n "s/^$1: //p" "$top/tests/definitions/$2.patch"; }
 
 # copies a crate of the repository, and those that it stands on
 bring() {
@@ -18,29 +21,65 @@ bring() {
   for below in $(sed -n "s/^$1: //p" "$top/crates.txt"); do bring "$below"; done
 }
 
-laws=$(for name in "$@"; do law_of "$name"; done | sort -u)
+# checks a law in the copy
+check() { (cd "$copy/crates/$1" && rt check) > "$copy/log" 2>&1; }
+
+# does a patch in the copy, or what the flag says of it
+apply() { patch -s -p1 -d "$copy" $2 < "$top/tests/definitions/$1.patch" > "$copy/fit" 2>&1; }
+
+# whether each of the first words is among the others
+among() {
+  words=$1; shift
+  for word in $words; do case " $* " in *" $word "*) ;; *) return 1 ;; esac; done
+}
+
+# does these patches, which fit together, and checks their law; each that is refused is told, and the others are `left`
+try() {
+  law=$(said law "$1") undo='' left='' lemmas='' verdict=refused
+  for patch; do apply "$patch" && undo="$patch $undo" lemmas="$lemmas $(said refused "$patch")"; done
+  if check "$law"; then verdict=STANDS
+  elif grep -q 'did not build' "$copy/log"; then verdict="refused below $law: $(grep -m 1 'did not build' "$copy/log")"
+  elif ! grep -q '^logic=not-proved' "$copy/log"; then verdict="no verdict: $(tail -n 1 "$copy/log")"
+  fi
+  for patch in $undo; do apply "$patch" -R || exit 1; done
+  at=$(sed -n 's/.*error: `\([^`]*\)`: .*/\1/p' "$copy/log" | sort -u)
+  for patch; do
+    own=$(said refused "$patch")
+    if [ "$verdict" = refused ] && among "$own" $at && { [ $# = 1 ] || among "$at" $lemmas; }; then
+      refused=$((refused + 1))
+      echo "$patch: refused by $law, at" ${own:-$at}
+    elif [ $# -gt 1 ]; then left="$left $patch"
+    else echo "$patch: $verdict, at" $at
+    fi
+  done
+}
+
 mkdir "$copy/crates" && cp "$top/HANDLES" "$copy" || exit 1
+laws=$(for patch; do said law "$patch"; done | sort -u)
 for law in $laws; do bring "$law"; done
 while read -r line; do [ ! -d "$copy/crates/${line%%:*}" ] || echo "$line"; done < "$top/crates.txt" > "$copy/crates.txt"
 for law in $laws; do
-  (cd "$copy/crates/$law" && rt check) > "$copy/log" 2>&1 || { cat "$copy/log"; echo "$law isn't proved as it is"; exit 1; }
+  check "$law" || { cat "$copy/log"; echo "$law isn't proved as it is"; exit 1; }
 done
 
-tried=0 refused=0
-for name in "$@"; do
-  tried=$((tried + 1)) law=$(law_of "$name")
-  patch -s -p1 -d "$copy" < "$top/tests/definitions/$name.patch" || { echo "$name: the patch doesn't fit"; exit 1; }
-  if (cd "$copy/crates/$law" && rt check) > "$copy/log" 2>&1; then
-    echo "$name: STANDS"
-  elif grep -q 'did not build' "$copy/log"; then
-    echo "$name: refused below $law: $(grep 'did not build' "$copy/log")"
-  elif ! grep -q '^logic=not-proved' "$copy/log"; then
-    echo "$name: no verdict: $(tail -n 1 "$copy/log")"
-  else
-    refused=$((refused + 1))
-    echo "$name: refused by $law: $(grep -m 1 'error: ' "$copy/log" | cut -c1-120)"
-  fi
-  patch -s -R -p1 -d "$copy" < "$top/tests/definitions/$name.patch" || exit 1
+all=$# refused=0
+while [ $# -gt 0 ]; do
+  together='' undo='' lemmas='' later=''
+  for patch; do
+    own=$(said refused "$patch") free=1
+    [ -z "$together" ] || { [ -n "$own" ] && [ -n "$lemmas" ]; } || free=''
+    for lemma in $own; do ! among "$lemma" $lemmas || free=''; done
+    if [ -n "$free" ] && [ "$(said law "$patch")" = "$(said law "$1")" ] && apply "$patch" --dry-run; then
+      apply "$patch" && together="$together $patch" undo="$patch $undo" lemmas="$lemmas${own:+$own }"
+    else
+      later="$later $patch"
+    fi
+  done
+  for patch in $undo; do apply "$patch" -R || exit 1; done
+  [ -n "$together" ] || { echo "$1: the patch doesn't fit"; exit 1; }
+  try $together
+  for patch in $left; do try "$patch"; done
+  set -- $later
 done
-echo "$tried weakened definitions, $refused refused"
-[ "$refused" = "$tried" ]
+echo "$all weakened definitions, $refused refused"
+[ "$refused" = "$all" ]
