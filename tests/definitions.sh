@@ -45,11 +45,12 @@ try() {
   at=$(sed -n 's/.*error: `\([^`]*\)`: .*/\1/p' "$copy/log" | sort -u)
   for patch; do
     own=$(said refused "$patch")
-    if [ "$verdict" = refused ] && among "$own" $at && { [ $# = 1 ] || among "$at" $lemmas; }; then
+    if [ "$verdict" = refused ] && { [ $# = 1 ] || { among "$own" $at && among "$at" $lemmas; }; }; then
       refused=$((refused + 1))
-      echo "$patch: refused by $law, at" ${own:-$at}
+      [ $# -gt 1 ] || own=$at
+      echo "$patch: refused by $law, at" $own
     elif [ $# -gt 1 ]; then left="$left $patch"
-    else echo "$patch: $verdict, at" $at
+    else echo "$patch: $verdict"
     fi
   done
 }
