@@ -109,14 +109,14 @@ refused_reading limit outcome before after whole h = record {
   whole = λ read. whole.ended;
 }
 
-pub written_serves : {A S K : Type 0} (outcome : A → Outcome) (makes : Option (List ℕ) → List ℕ → Type 0) (refuses : Option (List ℕ) → A → Type 0) (limit : ℕ)
+pub written_serves : {A S K : Type 0} (outcome : A → Outcome) (makes : Option (List ℕ) → List ℕ → Type 0) (refuses : Option (List ℕ) → A → Type 0) (wants : SourceState → SourceState → Type 0) (limit : ℕ)
     (state : S → SourceState) (held : K → Option (List ℕ)) (write_faults : K → ℕ) (words : ℕ) (answer : A) (text : List ℕ)
     (before after : S) (sink sink_after : K) → words ≡ 0 → (outcome answer ≡ Done) ⊎ (outcome answer ≡ WriteFault)
     → makes (state before).left text → IsReadWhole limit (state before) (state after)
     → (outcome answer ≡ Done → Appends (held sink) (held sink_after) text) → (outcome answer ≡ WriteFault → AppendsPart (held sink) (held sink_after) text)
     → SaysOfSink (outcome answer) (write_faults sink) (write_faults sink_after)
-    → Serves outcome makes refuses limit state held write_faults words answer before after sink sink_after
-written_serves outcome makes refuses limit state held write_faults words answer text before after sink sink_after none told is whole all part writing =
+    → Serves outcome makes refuses wants limit state held write_faults words answer before after sink sink_after
+written_serves outcome makes refuses wants limit state held write_faults words answer text before after sink sink_after none told is whole all part writing =
     let written : HasWritten (outcome answer) = elim told [ inl e ↦ inl (subst IsEnding (sym e) tt) | inr e ↦ inr e ] in
     record {
       done = λ e. (text, is, all e);
@@ -126,9 +126,10 @@ written_serves outcome makes refuses limit state held write_faults words answer 
       no_words = λ some. absurd (omega (arith, none, some));
       unread = λ e. absurd (is_other (outcome answer) Usage written tt e);
       refused = λ h. absurd (never_written (outcome answer) written (refused_nothing (outcome answer) h));
+      memory = λ e. absurd (is_other (outcome answer) NoMemory written tt e);
       reading = λ other. written_reading limit (outcome answer) (state before) (state after) whole written;
       writing = writing;
-      complete = λ no_word good writes memory. elim told [
+      complete = λ no_word good writes other. elim told [
         | inl e ↦ e
         | inr e ↦ absurd (writes (rose 1 (write_faults sink) (write_faults sink_after) (writing.write_fault e)))
       ];
@@ -163,12 +164,12 @@ refusal_complete reason limit Stuck before after h says reads few fits memory = 
 refusal_complete reason limit WriteFault before after h says reads few fits memory = h
 refusal_complete reason limit Cut before after h says reads few fits memory = h
 
-pub refusal_serves : {A S K : Type 0} (outcome : A → Outcome) (makes : Option (List ℕ) → List ℕ → Type 0) (refuses : Option (List ℕ) → A → Type 0) (limit : ℕ)
+pub refusal_serves : {A S K : Type 0} (outcome : A → Outcome) (makes : Option (List ℕ) → List ℕ → Type 0) (refuses : Option (List ℕ) → A → Type 0) (wants : SourceState → SourceState → Type 0) (limit : ℕ)
     (state : S → SourceState) (held : K → Option (List ℕ)) (write_faults : K → ℕ) (words : ℕ) (answer : A)
     (before after : S) (sink : K) → words ≡ 0 → IsRefusal (refuses (state before).left answer) (outcome answer)
-    → SaysOfSource limit (outcome answer) (state before) (state after)
-    → Serves outcome makes refuses limit state held write_faults words answer before after sink sink
-refusal_serves outcome makes refuses limit state held write_faults words answer before after sink none refusal reading =
+    → SaysOfSource limit (outcome answer) (state before) (state after) → (outcome answer ≡ NoMemory → wants (state before) (state after))
+    → Serves outcome makes refuses wants limit state held write_faults words answer before after sink sink
+refusal_serves outcome makes refuses wants limit state held write_faults words answer before after sink none refusal reading memory =
     let reason = refuses (state before).left answer in
     record {
       done = λ e. absurd (subst (IsRefusal reason) e refusal);
@@ -178,19 +179,20 @@ refusal_serves outcome makes refuses limit state held write_faults words answer 
       no_words = λ some. absurd (omega (arith, none, some));
       unread = λ e. absurd (subst (IsRefusal reason) e refusal);
       refused = λ h. is_refused reason (outcome answer) refusal h;
+      memory = memory;
       reading = λ other. reading;
       writing = record {
         write_fault = λ e. absurd (subst (IsRefusal reason) e refusal);
         no_write_fault = λ other. refl;
       };
-      complete = λ no_word good writes memory. absurd (refusal_complete reason limit (outcome answer) (state before) (state after) refusal reading
-          good.no_read_fault good.not_too_long (good.none_refused answer) memory);
+      complete = λ no_word good writes other. absurd (refusal_complete reason limit (outcome answer) (state before) (state after) refusal reading
+          good.no_read_fault good.not_too_long (good.none_refused answer) other);
     }
 
-pub usage_serves : {A S K : Type 0} (outcome : A → Outcome) (makes : Option (List ℕ) → List ℕ → Type 0) (refuses : Option (List ℕ) → A → Type 0) (limit : ℕ)
+pub usage_serves : {A S K : Type 0} (outcome : A → Outcome) (makes : Option (List ℕ) → List ℕ → Type 0) (refuses : Option (List ℕ) → A → Type 0) (wants : SourceState → SourceState → Type 0) (limit : ℕ)
     (state : S → SourceState) (held : K → Option (List ℕ)) (write_faults : K → ℕ) (words : ℕ) (answer : A) (source : S) (sink : K) → 0 < words → outcome answer ≡ Usage
-    → Serves outcome makes refuses limit state held write_faults words answer source source sink sink
-usage_serves outcome makes refuses limit state held write_faults words answer source sink some is = record {
+    → Serves outcome makes refuses wants limit state held write_faults words answer source source sink sink
+usage_serves outcome makes refuses wants limit state held write_faults words answer source sink some is = record {
   done = λ e. absurd (other Done (λ h. cc h) e);
   write_fault = λ e. absurd (other WriteFault (λ h. cc h) e);
   unwritten = λ nothing. refl;
@@ -198,6 +200,7 @@ usage_serves outcome makes refuses limit state held write_faults words answer so
   no_words = λ h. is;
   unread = λ e. refl;
   refused = λ h. absurd (subst IsRefused is h);
+  memory = λ e. absurd (other NoMemory (λ h. cc h) e);
   reading = λ other. absurd (other is);
   writing = record { write_fault = λ e. absurd (other WriteFault (λ h. cc h) e); no_write_fault = λ h. refl };
   complete = λ none good writes memory. absurd (omega (arith, none, some));

@@ -12,9 +12,10 @@ pub record IsGood {A : Type 0} (outcome : A → Outcome) (refuses : Option (List
   pub not_too_long : RoseBy (limit + 1) before.given after.given → ⊥
   pub none_refused : (answer : A) → IsRefused (outcome answer) → refuses before.left answer → ⊥
 
--- the answer to so many words of a program that takes none, whose input may have so many bytes, where this is what may be made of
--- it, and these answers refuse it; and the source and the sink before and after, with what they tell of themselves
-pub record Serves {A S K : Type 0} (outcome : A → Outcome) (makes : Option (List ℕ) → List ℕ → Type 0) (refuses : Option (List ℕ) → A → Type 0) (limit : ℕ) (state : S → SourceState) (held : K → Option (List ℕ)) (write_faults : K → ℕ) (words : ℕ) (answer : A) (source_before source_after : S) (sink_before sink_after : K) : Type 0 where
+-- the answer to so many words of a program that takes none, whose input may have so many bytes, where this is what may
+-- be made of it, these answers refuse it, and memory may be wanting so; and the source and the sink before and after,
+-- with what they tell of themselves
+pub record Serves {A S K : Type 0} (outcome : A → Outcome) (makes : Option (List ℕ) → List ℕ → Type 0) (refuses : Option (List ℕ) → A → Type 0) (wants : SourceState → SourceState → Type 0) (limit : ℕ) (state : S → SourceState) (held : K → Option (List ℕ)) (write_faults : K → ℕ) (words : ℕ) (answer : A) (source_before source_after : S) (sink_before sink_after : K) : Type 0 where
   -- what is written, and of what a part is
   pub done : outcome answer ≡ Done → (text : List ℕ) × makes (state source_before).left text × Appends (held sink_before) (held sink_after) text
   pub write_fault : outcome answer ≡ WriteFault → (text : List ℕ) × makes (state source_before).left text × AppendsPart (held sink_before) (held sink_after) text
@@ -25,6 +26,8 @@ pub record Serves {A S K : Type 0} (outcome : A → Outcome) (makes : Option (Li
   pub unread : outcome answer ≡ Usage → source_after ≡ source_before
   -- what was read is refused
   pub refused : IsRefused (outcome answer) → refuses (state source_before).left answer
+  -- memory was wanting, and only where it may be
+  pub memory : outcome answer ≡ NoMemory → wants (state source_before) (state source_after)
   -- what the answer says of the source, and of the sink
   pub reading : outcome answer ≢ Usage → SaysOfSource limit (outcome answer) (state source_before) (state source_after)
   pub writing : SaysOfSink (outcome answer) (write_faults sink_before) (write_faults sink_after)

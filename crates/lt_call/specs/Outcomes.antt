@@ -1,6 +1,6 @@
 -- What an outcome says of reading and of writing, and with which exit status and which text.
 use Rattle.std.specs.Prelude.{◌≡◌, ◌≢◌, ◌≤◌, ◌+◌, Bool, true, false, ℕ, List, [], codes}
-use Rattle.lt_io.specs.Streams.{CountsFaults, SourceState}
+use Rattle.lt_io.specs.Streams.{CountsFaults, Rose, SourceState}
 use Rattle.lt_io.specs.declared.whole.ReadFailure.{ReadFailure}
 use Rattle.lt_io.specs.declared.whole.ReadFailure.TheVariants.{Memory, Failed, TooLong as Long}
 use Rattle.lt_call.specs.declared.outcome.Outcome.{Outcome}
@@ -107,6 +107,11 @@ pub record SaysOfSource (limit : ℕ) (outcome : Outcome) (before after : Source
   pub no_read_fault : outcome ≢ ReadFault → after.faults ≡ before.faults
   -- it came to its end
   pub whole : HasRead outcome → CountsFaults 1 before.ends after.ends
+
+-- bytes of the source came, and its end was not found
+pub record CameInPart (before after : SourceState) : Type 0 where
+  pub some : Rose before.given after.given
+  pub no_end : after.ends ≡ before.ends
 
 -- what it says of the sink's count of faults: one write failed, or none
 pub record SaysOfSink (outcome : Outcome) (before after : ℕ) : Type 0 where

@@ -20,7 +20,7 @@ pub fn program<W: Work, S: Source, K: Sink>(
     source: &mut S,
     sink: &mut K,
 ) -> W::Answer
-    ensures served { IfOk words.now (λ texts. Serves W.Answer.outcome (W.makes work.now) (W.refuses work.now) (W.limit work.now)
+    ensures served { IfOk words.now (λ texts. Serves W.Answer.outcome (W.makes work.now) (W.refuses work.now) (W.wants work.now) (W.limit work.now)
         S.state K.held K.faults (length texts.items) result source.old source.new sink.old sink.new) }
     ensures no_memory { IfErr words.now (λ error. error_kind error ≡ ErrorKind.OutOfMemory → W.Answer.outcome result ≡ Outcome.NoMemory) }
     ensures no_text { IfErr words.now (λ error. error_kind error ≢ ErrorKind.OutOfMemory → W.Answer.outcome result ≡ Outcome.Usage) }
@@ -43,7 +43,7 @@ pub fn answer<W: Work, S: Source, K: Sink>(
     source: &mut S,
     sink: &mut K,
 ) -> W::Answer
-    ensures { Serves W.Answer.outcome (W.makes work.now) (W.refuses work.now) (W.limit work.now)
+    ensures { Serves W.Answer.outcome (W.makes work.now) (W.refuses work.now) (W.wants work.now) (W.limit work.now)
         S.state K.held K.faults (length words.now) result source.old source.new sink.old sink.new }
 {
     if !words.is_empty() {

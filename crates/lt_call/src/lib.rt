@@ -6,6 +6,7 @@ mod calling;
 mod ending;
 mod outcome;
 mod reading;
+mod scripts;
 mod status;
 mod work;
 
@@ -13,5 +14,6 @@ pub use calling::{answer, program};
 pub use ending::{end_by, end_with, words};
 pub use outcome::Outcome;
 pub use reading::read_bytes;
+pub use scripts::read_script;
 pub use status::Status;
 pub use work::Work;

@@ -1,6 +1,6 @@
-ghost use Rattle.std.specs.Prelude.{◌≤◌, length, IfOk, OnOk, IfErr};
-ghost use Rattle.lt_io.specs.Streams.{Left, IsReadWhole};
-ghost use Rattle.lt_call.specs.Outcomes.{IsReadFailure, SaysOfSource};
+ghost use Rattle.std.specs.Prelude.{◌≡◌, ◌<◌, ◌≤◌, length, IfOk, OnOk, IfErr};
+ghost use Rattle.lt_io.specs.Streams.{Left, IsReadWhole, Rose};
+ghost use Rattle.lt_call.specs.Outcomes.{CameInPart, IsReadFailure, SaysOfSource};
 
 use crate::outcome::Outcome;
 use crate::status::Status;
@@ -18,6 +18,10 @@ pub fn read_bytes<A: Status, S: Source>(
     ensures whole { OnOk result (IsReadWhole limit (S.state source.old) (S.state source.new)) }
     ensures reading { IfErr result (λ status. SaysOfSource limit (A.outcome status) (S.state source.old) (S.state source.new)) }
     ensures refused { IfErr result (λ status. IsReadFailure (A.outcome status)) }
+    ensures came { IfOk result (λ bytes.
+        0 < length bytes.items → Rose (S.state source.old).given (S.state source.new).given) }
+    ensures memory { IfErr result (λ status.
+        A.outcome status ≡ Outcome.NoMemory → CameInPart (S.state source.old) (S.state source.new)) }
 {
     match read_all(alloc, source, limit) {
         Ok(bytes) => Ok(bytes),

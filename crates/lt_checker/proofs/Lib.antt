@@ -3,4 +3,5 @@ mod Moving
 mod LeftLines
 mod LastLines
 mod Feeding
+mod Wanting
 pub mod Inputs

@@ -1,5 +1,5 @@
 -- In which world a checked run ended.
-use Rattle.std.specs.Prelude.{◌≡◌, ℕ, List, Result, Ok, Err, Bool, true, false, Option, Some, None, ◌≢◌, [], option_map}
+use Rattle.std.specs.Prelude.{◌≡◌, ◌≤◌, ℕ, length, List, Result, Ok, Err, Bool, true, false, Option, Some, None, ◌≢◌, [], option_map}
 use Rattle.lt_modes.specs.Script.{ScriptData}
 use Rattle.lt_spec.specs.World.{Logged}
 use Rattle.lt_spec.specs.Script.{IsScript}
@@ -7,7 +7,7 @@ use Rattle.lt_spec.specs.declared.moves.TheConstants.{MAX_MOVES}
 use Rattle.lt_text.specs.Text.{is_line_end, HasNone}
 use Rattle.lt_merge.specs.Merging.{RunData}
 use Rattle.lt_journal.specs.declared.line.Line.{Line}
-use Rattle.lt_law_journals.specs.Checking.{IsFinished, Place, Reader, HasCome, Feed, new_feed, fed_piece}
+use Rattle.lt_law_journals.specs.Checking.{IsFinished, IsFirstBad, Place, Reader, HasCome, Feed, new_feed, fed_piece}
 use Rattle.lt_world.specs.Fields.{WorldData}
 use Rattle.lt_checker.specs.declared.error.ReplayError.{ReplayError}
 use Rattle.lt_checker.specs.declared.error.ReplayError.TheVariants.{Memory, Bad}
@@ -93,6 +93,10 @@ abbrev pub IsMemory : {T : Type 0} → Result T ReplayError → Type 0
 IsMemory (Ok told) = ⊥
 IsMemory (Err Memory) = Unit {0}
 IsMemory (Err (Bad line)) = ⊥
+
+-- of these lines of a journal none but the last is bad
+abbrev pub AreGoodToLast : ScriptData → List (List ℕ) → Type 0
+AreGoodToLast script all = (k : ℕ) → IsFirstBad script all k → length all ≤ k
 
 -- a line is read, which may take memory: no line was bad, and the piece ends one
 pub record MayReadOn (feed : Feed) (piece : List ℕ) : Type 0 where

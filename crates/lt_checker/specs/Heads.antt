@@ -1,12 +1,16 @@
 -- What is read of an input first, what comes after it, and how all of it is answered.
-use Rattle.std.specs.Prelude.{◌≡◌, ℕ, ◌+◌, ◌≤◌, List, [], ◌++◌, Option, Some, None, Result, Ok, Err, length}
+use Rattle.std.specs.Prelude.{◌≡◌, ℕ, ◌+◌, ◌≤◌, false, List, [], ◌++◌, Option, Some, None, Result, Ok, Err, length, take, drop}
+use Rattle.std.specs.List.{AllByRecursion}
 use Rattle.lt_io.specs.Streams.{SourceState, ReadsOn, ReadsOut, FailsBy}
 use Rattle.lt_io.specs.declared.whole.ReadFailure.{ReadFailure}
 use Rattle.lt_io.specs.declared.whole.ReadFailure.TheVariants.{Memory}
+use Rattle.lt_modes.specs.Script.{ScriptData}
+use Rattle.lt_text.specs.Text.{lines, is_line_end, HasNone}
+use Rattle.lt_journal.specs.Split.{is_journal_line, input_parts}
 use Rattle.lt_world.specs.Fields.{WorldData}
-use Rattle.lt_law_journals.specs.Checking.{IsSettled}
-use Rattle.lt_checker.specs.Checker.{CheckerData, StandsFor}
-use Rattle.lt_checker.specs.Input.{HasFaultBefore, IsBad, IsEndedRun}
+use Rattle.lt_law_journals.specs.Checking.{EndsLine, IsSettled, checked}
+use Rattle.lt_checker.specs.Checker.{CheckerData, StandsFor, IsWorldAnswer, IsMemory, AreGoodToLast}
+use Rattle.lt_checker.specs.Input.{HasFaultBefore, IsBad, IsEndedRun, MayWantMemory}
 use Rattle.lt_checker.specs.declared.error.ReplayError.{ReplayError}
 use Rattle.lt_checker.specs.declared.error.ReplayError.TheVariants.{Bad}
 use Rattle.lt_checker.specs.declared.error.InputError.{InputError}
@@ -14,10 +18,22 @@ use Rattle.lt_checker.specs.declared.error.InputError.TheVariants.{NoMemory, Ref
 use Rattle.lt_checker.specs.declared.input.EndedRun.{EndedRun}
 use Rattle.lt_checker.specs.declared.limits.TheConstants.{MAX_JOURNAL}
 
--- these bytes tell where the input is cut: there are no others, or whatever comes after them, it is cut where they are
+-- these bytes tell where the input is cut: there are no others, and nothing stands after a line `journal`; or whatever
+-- comes after them, it is cut where they are
 abbrev pub IsHeadCut : List ℕ → Option ℕ → Type 0
-IsHeadCut bytes None = Unit {0}
+IsHeadCut bytes None = drop (input_parts bytes).journal bytes ≡ []
 IsHeadCut bytes (Some room) = IsSettled bytes
+
+-- none of their lines is `journal`
+abbrev pub HasNoJournal : List ℕ → Type 0
+HasNoJournal bytes = AllByRecursion (λ line. is_journal_line line ≡ false) (lines bytes)
+
+-- the last line of the bytes begins at this place, it has no line end, and no line before it is `journal`
+pub record IsLastLine (bytes : List ℕ) (last : ℕ) : Type 0 where
+  pub within : last ≤ length bytes
+  pub begins : EndsLine (take last bytes)
+  pub no_end : HasNone is_line_end (drop last bytes)
+  pub no_journal : HasNoJournal (take last bytes)
 
 -- an input was read as far as these bytes: to its end, or so that so many more may come
 abbrev pub IsReadTo : List ℕ → Option ℕ → SourceState → SourceState → Type 0
@@ -49,9 +65,15 @@ abbrev pub IsLineOf : ℕ → Result WorldData ReplayError → Type 0
 IsLineOf size (Err (Bad line)) = line ≤ size + 1
 IsLineOf size told = Unit {0}
 
+-- what is said of these lines of a journal, and where memory was refused, that it may have been wanting
+pub record IsJournalAnswer (script : ScriptData) (all : List (List ℕ)) (told : Result WorldData ReplayError)
+    : Type 0 where
+  pub answer : IsWorldAnswer script (checked script all) told
+  pub memory : IsMemory told → AreGoodToLast script all
+
 -- these bytes were read whole, and this is why they say nothing
 abbrev pub FailsBytes : List ℕ → InputError → Type 0
-FailsBytes bytes NoMemory = Unit {0}
+FailsBytes bytes NoMemory = MayWantMemory bytes
 FailsBytes bytes (Refused fault) = HasFaultBefore (Some bytes) fault
 FailsBytes bytes (BadJournal line) = IsBad (Some bytes) line
 FailsBytes bytes other = ⊥

@@ -2,7 +2,7 @@ ghost use Rattle.std.specs.Prelude.{◌≡◌, ◌≢◌, [], ◌∷◌, ◌++�
 ghost use Rattle.lt_text.specs.Text.{lines, without_return, is_line_end, HasNone};
 ghost use Rattle.lt_modes.specs.Script.{ScriptData};
 ghost use Rattle.lt_law_journals.specs.Checking.{Reader as AnyReader, checked, read_on, Feed, new_feed, fed_piece, last_ended, ended};
-ghost use Rattle.lt_checker.specs.Checker.{CheckerData, StandsFor, IsAnswer, IsMemory, MayReadOn, MayReadLast, with_piece, spent, IsWorldAnswer};
+ghost use Rattle.lt_checker.specs.Checker.{AreGoodToLast, CheckerData, StandsFor, IsAnswer, IsMemory, MayReadOn, MayReadLast, with_piece, spent, IsWorldAnswer};
 
 use crate::error::ReplayError;
 use crate::reader::Reader;
@@ -82,7 +82,8 @@ impl Checker {
         Ok(self.end_world()?.into_run())
     }
 
-    /// The world in which the run ended whose journal the bytes are, or the first bad line.
+    /// The world in which the run ended whose journal the bytes are, or the first bad line. Memory is wanted of a last
+    /// line alone that has no line end.
     pub fn end_world(self) -> Result<World, ReplayError>
         ensures answers { (bytes : List ℕ) → StandsFor self bytes
             → IsWorldAnswer self.script (checked self.script (lines bytes)) result }
@@ -90,6 +91,8 @@ impl Checker {
             → IsWorldAnswer self.script (ended self.script feed) result }
         ensures refused { IsNone self.feed → result ≡ Err ReplayError.Memory }
         ensures cause { IsMemory result → IfSome self.feed MayReadLast }
+        ensures memory { IsMemory result → (bytes : List ℕ) → StandsFor self bytes
+            → AreGoodToLast self.script (lines bytes) }
     {
         let Checker {
             reader,

@@ -1,8 +1,9 @@
-ghost use Rattle.std.specs.Prelude.{◌≤◌, take, length, IfOk, IfErr, IfSome, IfNone, IsTrue};
-ghost use Rattle.lt_law_journals.specs.Checking.{EndsInLineFeed, EndsLine, HasJournal, IsSettled};
-ghost use Rattle.lt_io.specs.Streams.{FailsBy};
+ghost use Rattle.std.specs.Prelude.{◌≡◌, ◌≤◌, take, length, IfOk, IfErr, IfSome, IfNone, IsTrue, IsFalse};
+ghost use Rattle.lt_law_journals.specs.Checking.{HasJournal, IsSettled};
+ghost use Rattle.lt_io.specs.declared.whole.ReadFailure.TheVariants as failure;
+ghost use Rattle.lt_io.specs.Streams.{FailsBy, Rose};
 ghost use Rattle.lt_checker.specs.declared.limits.TheConstants.{MAX_JOURNAL};
-ghost use Rattle.lt_checker.specs.Heads.{IsHeadCut, IsReadTo, IsRoom};
+ghost use Rattle.lt_checker.specs.Heads.{HasNoJournal, IsHeadCut, IsLastLine, IsReadTo, IsRoom};
 
 use crate::limits::MAX_JOURNAL;
 use lt_io::{MAX_PIECE, ReadFailure, Source, read_piece};
@@ -25,6 +26,8 @@ pub(crate) fn read_head<S: Source>(alloc: Global, source: &mut S) -> Result<Head
     ensures room { IfOk result (λ head. IsRoom head.room) }
     ensures head { IfOk result (λ head. IsReadTo head.bytes.items head.room (S.state source.old) (S.state source.new)) }
     ensures err { IfErr result (λ why. FailsBy why MAX_JOURNAL (S.state source.old) (S.state source.new)) }
+    ensures memory { IfErr result (λ why.
+        why ≡ failure.Memory → Rose (S.state source.old).given (S.state source.new).given) }
 {
     let mut bytes = Vec::new(alloc);
     let mut buf = [0; MAX_PIECE];
@@ -52,9 +55,9 @@ pub(crate) fn read_head<S: Source>(alloc: Global, source: &mut S) -> Result<Head
 fn last_line(bytes: &[u8], seen: usize, line: usize) -> Option<usize>
     requires few { length bytes.now ≤ MAX_JOURNAL }
     requires places { (line ≤ seen) × (seen ≤ length bytes.now) }
-    requires line { EndsLine (take line bytes.now) }
+    requires line { IsLastLine (take seen bytes.now) line }
     ensures within { IfSome result (λ last. last ≤ length bytes.now) }
-    ensures line { IfSome result (λ last. EndsLine (take last bytes.now)) }
+    ensures line { IfSome result (IsLastLine bytes.now) }
     ensures settled { IfNone result (IsSettled bytes.now) }
 {
     law_settled();
@@ -73,7 +76,8 @@ fn last_line(bytes: &[u8], seen: usize, line: usize) -> Option<usize>
 // Whether the line is `journal`.
 fn has_journal(line: &[u8]) -> bool
     requires { length line.now ≤ MAX_JOURNAL }
-    ensures { IsTrue result → HasJournal line.now }
+    ensures yes { IsTrue result → HasJournal line.now }
+    ensures no { IsFalse result → HasNoJournal line.now }
 {
     let parts = split(line);
     parts.script < parts.journal

@@ -4,11 +4,10 @@ ghost use Rattle.lt_text.specs.Text.{lines};
 ghost use Rattle.lt_spec.specs.Script.{IsScript};
 ghost use Rattle.lt_script.specs.Reading.{read_of};
 ghost use Rattle.lt_journal.specs.Split.{input_parts};
-ghost use Rattle.lt_law_journals.specs.Checking.{checked};
 ghost use Rattle.lt_checker.specs.declared.limits.TheConstants.{MAX_JOURNAL};
-ghost use Rattle.lt_checker.specs.Checker.{StandsFor, IsWorldAnswer};
-ghost use Rattle.lt_checker.specs.Heads.{IsHeadCut, IsRest, FailsRest, IsRoom, IsLineOf, AnswersInput};
-ghost use Rattle.lt_checker.specs.Input.{IsEndedRun, FailsInput};
+ghost use Rattle.lt_checker.specs.Checker.{StandsFor};
+ghost use Rattle.lt_checker.specs.Heads.{IsHeadCut, IsRest, FailsRest, IsRoom, IsLineOf, IsJournalAnswer, AnswersInput};
+ghost use Rattle.lt_checker.specs.Input.{IsEndedRun, FailsInput, WantsMemory};
 
 use crate::checker::Checker;
 use crate::error::{InputError, ReplayError};
@@ -17,7 +16,7 @@ use crate::rest::{feed_rest, skip_rest};
 use lt_io::{ReadFailure, Source};
 use lt_journal::split;
 use lt_law_journals::law_means;
-use lt_script::{ReadError, Script, read};
+use lt_script::{Fault, ReadError, Script, ScriptFault, read};
 use lt_world::World;
 use std::alloc::{AllocError, Global};
 
@@ -29,14 +28,21 @@ pub struct EndedRun {
 }
 
 /// Reads a script and a journal, and checks the journal as it comes: the script, and the world in which the run ended
-/// that the journal tells.
+/// that the journal tells. Memory is wanted once a byte came.
 pub fn check_input<S: Source>(alloc: Global, source: &mut S) -> Result<EndedRun, InputError>
     ensures told { IfOk result (λ ended. IsEndedRun (S.state source.old).left ended.script ended.world) }
     ensures kept { IfOk result (λ ended. IsScript ended.script) }
     ensures whole { OnOk result (IsReadWhole MAX_JOURNAL (S.state source.old) (S.state source.new)) }
     ensures err { IfErr result (λ error. FailsInput error (S.state source.old) (S.state source.new)) }
+    ensures memory { OnOk result (WantsMemory (S.state source.old) (S.state source.new)) }
 {
     let head = read_head(alloc, source)?;
+    if head.bytes.is_empty() {
+        return Err(InputError::Refused(ScriptFault {
+            line: 1,
+            fault: Fault::Nodes,
+        }));
+    }
     judged(alloc, source, &head.bytes, head.room)?
 }
 
@@ -77,7 +83,9 @@ fn checked_journal<S: Source>(
     first: &[u8],
     room: Option<usize>,
 ) -> Result<Result<World, ReplayError>, ReadFailure>
-    ensures told { IfOk result (λ told. (rest : List ℕ) × IsWorldAnswer script.now (checked script.now (lines (first.now ++ rest))) told × IsRest room rest (S.state source.old) (S.state source.new)) }
+    ensures told { IfOk result (λ told. (rest : List ℕ)
+        × IsJournalAnswer script.now (lines (first.now ++ rest)) told
+        × IsRest room rest (S.state source.old) (S.state source.new)) }
     ensures err { IfErr result (λ why. FailsRest room why (S.state source.old) (S.state source.new)) }
 {
     let mut checker = begun(alloc, script, first)?;
@@ -105,7 +113,7 @@ fn answered(
     requires line { IsLineOf (2 * MAX_JOURNAL) told }
     requires kept { IsScript script }
     ensures answer { (bytes : List ℕ) → read_of (take (input_parts bytes).script bytes) ≡ Ok script → before ≡ (input_parts bytes).lines
-        → IsWorldAnswer script (checked script (lines (drop (input_parts bytes).journal bytes))) told → AnswersInput bytes result }
+        → IsJournalAnswer script (lines (drop (input_parts bytes).journal bytes)) told → AnswersInput bytes result }
     ensures script { IfOk result (λ ended. ended.script ≡ script) }
 {
     law_means();

@@ -1,5 +1,5 @@
 -- What `check` says of the small journals.
-use Rattle.std.proofs.Common.{◌≡◌, ℕ, List, [], ◌∷◌, ◌++◌, Ok, Err, Some, refl, ap, ap₂, subst, ◌∙◌, arith, ◌≢◌, ◌+◌, true, sym, subst₂, Result, take, codes, length, Option}
+use Rattle.std.proofs.Common.{◌≡◌, ℕ, List, [], ◌∷◌, ◌++◌, Ok, Err, Some, refl, ap, ap₂, subst, ◌∙◌, arith, inl, inr, drop, ◌≢◌, ◌+◌, true, sym, subst₂, Result, take, codes, length, Option}
 use Rattle.std.proofs.lemmas.Bool.{false≢true}
 use Rattle.lt_modes.specs.Script.{ScriptData}
 use Rattle.lt_modes.specs.Modes.{conflicts}
@@ -18,8 +18,9 @@ use Rattle.lt_journal.specs.Split as split
 use Rattle.lt_journal.specs.Split.{input_parts}
 use Rattle.lt_law_journals.specs.Checking.{checked, checked_input, counted_from, journal_in, lines_before, IsFirstBadIn, IsFinished}
 use Rattle.lt_law_journals.proofs.Answers.{accepted_input, refused_input}
+use Rattle.lt_law_journals.proofs.Inputs.{journal_part, lines_counted, no_lines}
 use Rattle.lt_law_journals.proofs.RowAnswers.{short_rows}
-use Rattle.lt_checker.specs.Input.{IsJournalOf, IsBad, HasFaultBefore}
+use Rattle.lt_checker.specs.Input.{IsJournalOf, IsBad, IsGoodToLast, HasFaultBefore, WantsMemory}
 use Rattle.lt_checker.specs.declared.limits.TheConstants.{MAX_JOURNAL}
 use Rattle.lt_call.specs.Outcomes.{IsEnding, SaysOfSource, SaysOfSink, WritesNothing}
 use Rattle.lt_call.specs.Scripts.{HasFault}
@@ -231,6 +232,33 @@ complete_so a before after first last at_first lastly none still h =
     subst₂ (λ (x y : SourceState). IsComplete (Some Check) a x y 0 0) at_first lastly
     (subst₂ (λ (x y : ℕ). IsComplete (Some Check) a before after x y) none still h)
 
+not_unread : (x y : SourceState) → x ≡ untouched (Some wrong_mode) → y ≡ read_whole wrong_mode → y ≡ x → ⊥
+not_unread x y at_first lastly same =
+    omega (arith, ap (λ (s : SourceState). s.ends) at_first, ap (λ (s : SourceState). s.ends) lastly, ap (λ (s : SourceState). s.ends) same)
+
+five_lines : length (lines (drop (input_parts wrong_mode).journal wrong_mode)) ≡ 5
+five_lines = ap (λ (all : List (List ℕ)). length all) (journal_part wrong_mode ∙ wrong_lines)
+
+-- the second line of its journal is the first bad one
+second_bad : (script : ScriptData) → IsScript script → read_of (take (input_parts wrong_mode).script wrong_mode) ≡ Ok script → IsFirstBadIn script 7 wrong_mode
+second_bad script is_script denoted =
+    (refused_input script wrong_mode 7 is_script).0
+    (subst (λ (s : ScriptData). checked_input s (lines wrong_mode) ≡ Err 7) (sym (one_script wrong_mode script wrong_before denoted)) wrong_answer)
+
+not_good : IsGoodToLast wrong_mode → ⊥
+not_good good =
+    let bad = second_bad good.script good.is_script good.denoted in
+    omega (arith, bad.1, lines_counted wrong_mode, wrong_count, good.last bad.0 bad.2, five_lines)
+
+not_wanted : WantsMemory (untouched (Some wrong_mode)) (read_whole wrong_mode) → ⊥
+not_wanted wants = elim wants.good [
+  | inl same ↦ omega (arith, same)
+  | inr may ↦ elim may [
+    | inl none ↦ omega (arith, five_lines, ap (λ (bytes : List ℕ). length (lines bytes)) none, ap (λ (all : List (List ℕ)). length all) no_lines)
+    | inr good ↦ not_good good
+  ]
+]
+
 pub serves_say : {S K : Type 0} (state : S → SourceState) (held : K → Option (List ℕ)) (faults : K → ℕ) → ServesSay state held faults
 serves_say state held faults = record {
   unwritten = λ answer s t k l h is. h.unwritten (subst (λ (a : Status). WritesNothing (outcome_of a)) (sym is) tt);
@@ -250,6 +278,14 @@ serves_say state held faults = record {
       is input before after h.did);
   bad = λ answer s t k l h line is input.
       check_says.bad line (subst₂ (λ (left : Option (List ℕ)) (a : Status). HasStatusCause (Some Check) left a) input is h.causes);
+  memory = λ answer s t k l h is at. elim (h.memory is refl) [
+    | inl same ↦ inl same
+    | inr rose ↦ inr (omega (arith, rose, ap (λ (x : SourceState). x.given) at))
+  ];
+  no_memory = λ answer s t k l h at_first lastly is. elim (h.memory is refl) [
+    | inl same ↦ absurd (not_unread (state s) (state t) at_first lastly (ap state same))
+    | inr wants ↦ not_wanted (subst₂ (λ (x y : SourceState). WantsMemory x y) at_first lastly wants)
+  ];
   wrong_words = λ answer s t k l h.
       let usage = h.causes.no_command refl in
       (usage, h.unread refl, h.unwritten (subst (λ (a : Status). WritesNothing (outcome_of a)) (sym usage) tt));

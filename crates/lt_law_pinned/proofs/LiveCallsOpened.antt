@@ -181,6 +181,7 @@ live_counts_told = record {
   too_long = λ c h. from_zero (MAX_INPUT + 1) c.source.given c.source_after.given h.counts.0 ((says_of c TooLong h).too_long refl).count;
   not_too_long = λ c h.
       subst (λ (n : ℕ). c.source_after.given ≤ n + MAX_INPUT) h.counts.0 ((says_of c NoMemory h).not_too_long (λ e. absurd (not_long e)));
+  memory = λ c h. let rose = h.serves.memory h.status_is in omega (arith, rose, h.counts.0);
   read_fault = λ c h. from_zero 1 c.source.faults c.source_after.faults h.counts.1 ((says_of c ReadFault h).read_fault refl).count;
   no_read_fault = λ c h. (says_of c NoMemory h).no_read_fault (λ e. absurd (not_failed e)) ∙ h.counts.1;
   whole_done = whole Done tt;

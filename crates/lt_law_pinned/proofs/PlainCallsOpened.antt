@@ -1,6 +1,6 @@
 -- Each field of what is said of the words, the source and the sink by a program that takes no words.
-use Rattle.std.proofs.Common.{◌≡◌, ◌≢◌, ◌<◌, ◌≤◌, ◌+◌, ◌++◌, ℕ, List, Option, Some, refl, sym, ap, subst, arith, ◌∙◌, take, codes, decimal}
-use Rattle.lt_io.specs.Streams.{count_after, AppendsPart, SourceState}
+use Rattle.std.proofs.Common.{◌≡◌, ◌≢◌, ◌<◌, ◌≤◌, ◌+◌, ◌++◌, ℕ, List, Option, Some, refl, sym, ap, subst, arith, ◌∙◌, ◌⊎◌, inl, inr, take, codes, decimal}
+use Rattle.lt_io.specs.Streams.{count_after, AppendsPart, CountsFaults, Rose, SourceState}
 use Rattle.std.proofs.lemmas.Fmt.{decimal_digit}
 use Rattle.std.specs.Io.KnownBytes.{Appends}
 use Rattle.lt_call.specs.declared.outcome.Outcome.{Outcome}
@@ -47,11 +47,11 @@ not_failed e = cc
 not_write : Done ≡ WriteFault → ⊥
 not_write e = cc
 
-module _ {A : Type 0} (outcome : A → Outcome) (makes : Option (List ℕ) → List ℕ → Type 0) (refuses : Option (List ℕ) → A → Type 0) (limit : ℕ) where
+module _ {A : Type 0} (outcome : A → Outcome) (makes : Option (List ℕ) → List ℕ → Type 0) (refuses : Option (List ℕ) → A → Type 0) (wants : SourceState → SourceState → Type 0) (limit : ℕ) where
   -- the call is one of this program
   abbrev pub IsPlain : PlainCall A → Type 0
   IsPlain c =
-      Serves outcome makes refuses limit (λ (s : SourceState). s) (λ (k : SinkTells). k.held) (λ (k : SinkTells). k.faults)
+      Serves outcome makes refuses wants limit (λ (s : SourceState). s) (λ (k : SinkTells). k.held) (λ (k : SinkTells). k.faults)
       c.words c.answer c.source c.source_after c.sink c.sink_after
 
   not_usage : (c : PlainCall A) → IsPlain c → c.words ≡ 0 → outcome c.answer ≢ Usage
@@ -68,14 +68,19 @@ module _ {A : Type 0} (outcome : A → Outcome) (makes : Option (List ℕ) → L
   leaves end nothing c h = h.serves.unwritten (subst (λ (o : Outcome). WritesNothing o) (sym h.end_is) nothing)
 
   pub plainly_told : (good : List ℕ) → count_after 0 (limit + 1) ≡ limit + 1 → ((answer : A) → IsRefused (outcome answer) → refuses (Some good) answer → ⊥)
+      → ((before after : SourceState) → wants before after → Rose before.given after.given ⊎ CountsFaults 1 before.ends after.ends)
       → PlainlyTold IsPlain outcome limit good
-  plainly_told good fits fine = record {
+  plainly_told good fits fine came = record {
     usage = usage;
     unread = λ c serves one. serves.unread (usage c serves one);
     unwritten = λ c serves one. serves.unwritten (subst (λ (o : Outcome). WritesNothing o) (sym (usage c serves one)) tt);
     no_usage = not_usage;
     too_long = λ c h. from_zero (limit + 1) c.source.given c.source_after.given h.counts.0 ((says_of c TooLong h).too_long refl).count ∙ fits;
     not_too_long = λ c h. omega (arith, h.counts.0, (says_of c NoMemory h).not_too_long (λ e. absurd (not_long e)));
+    memory = λ c h. elim (came c.source c.source_after (h.serves.memory h.end_is)) [
+      | inl rose ↦ inl (omega (arith, rose, h.counts.0))
+      | inr ended ↦ inr (from_zero 1 c.source.ends c.source_after.ends h.counts.2 ended.count)
+    ];
     read_fault = λ c h. from_zero 1 c.source.faults c.source_after.faults h.counts.1 ((says_of c ReadFault h).read_fault refl).count;
     no_read_fault = λ c h. (says_of c NoMemory h).no_read_fault (λ e. absurd (not_failed e)) ∙ h.counts.1;
     write_fault = λ c h. from_zero 1 c.sink.faults c.sink_after.faults h.writes (h.serves.writing.write_fault h.end_is).count;

@@ -1,5 +1,5 @@
 -- Each field of what is said of a report of who waits for whom.
-use Rattle.std.proofs.Common.{◌≡◌, ◌++◌, ℕ, List, [], Ok, Err, Option, Some, refl, sym, ap, ap₂, subst, ◌∙◌, Result, take, codes}
+use Rattle.std.proofs.Common.{◌≡◌, ◌++◌, ℕ, List, [], Ok, Err, Option, Some, refl, sym, ap, ap₂, subst, inl, ◌∙◌, Result, take, codes}
 use Rattle.std.specs.Io.KnownBytes.{Appends}
 use Rattle.lt_io.specs.Streams.{AppendsPart}
 use Rattle.lt_modes.specs.Script.{ScriptData}
@@ -13,7 +13,7 @@ use Rattle.lt_script.specs.Reading.{read_of}
 use Rattle.lt_journal.specs.Split.{input_parts}
 use Rattle.lt_law_journals.specs.Checking.{checked_input, IsFinished, IsFirstBadIn}
 use Rattle.lt_law_journals.proofs.Answers.{accepted_input, refused_input}
-use Rattle.lt_checker.specs.Input.{DenotesBefore, IsJournalOf, IsBad}
+use Rattle.lt_checker.specs.Input.{DenotesBefore, IsJournalOf, IsBad, WantsMemory}
 use Rattle.lt_waits.specs.declared.answer.Answer.{Answer}
 use Rattle.lt_waits.specs.declared.answer.Answer.TheVariants.{Done, Usage, Refused, TooLong, ReadFault, WriteFault, NoMemory, BadJournal}
 use Rattle.lt_waits.specs.Answers.{outcome_of}
@@ -175,4 +175,4 @@ none_refused WriteFault is h = h
 none_refused NoMemory is h = h
 
 pub report_plainly_told : PlainlyTold IsReportCall outcome_of 67108864 writers_apart
-report_plainly_told = plainly_told outcome_of IsReportOf IsUnfit 67108864 writers_apart refl none_refused
+report_plainly_told = plainly_told outcome_of IsReportOf IsUnfit WantsMemory 67108864 writers_apart refl none_refused (λ before after wants. inl wants.came)

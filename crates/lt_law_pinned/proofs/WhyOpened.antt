@@ -16,6 +16,7 @@ use Rattle.lt_call.specs.declared.outcome.Outcome.{Outcome}
 use Rattle.lt_call.specs.declared.outcome.Outcome.TheVariants.{Done, Refused, TooLong, ReadFault, WriteFault, NoMemory, BadJournal}
 use Rattle.lt_script.specs.Reading.{read_of}
 use Rattle.lt_journal.specs.Split.{input_parts}
+use Rattle.lt_checker.specs.Input.{WantsMemory}
 use Rattle.lt_waits.specs.declared.answer.Answer.{Answer}
 use Rattle.lt_waits.specs.declared.answer.Answer.TheVariants as answers
 use Rattle.lt_waits.specs.Answers.{outcome_of}
@@ -217,7 +218,7 @@ why_told = record {
 
 abbrev HasWords : PlainCall Answer → ℕ → Type 0
 HasWords c words =
-    Serves outcome_of IsWhyOf IsUnfit 67108864
+    Serves outcome_of IsWhyOf IsUnfit WantsMemory 67108864
     (λ (s : SourceState). s) (λ (k : SinkTells). k.held) (λ (k : SinkTells). k.faults)
     words c.answer c.source c.source_after c.sink c.sink_after
 
@@ -238,7 +239,7 @@ ends_like end c h = record {
 }
 
 told_like : PlainlyTold IsLikeReport outcome_of 67108864 writers_apart
-told_like = plainly_told outcome_of IsWhyOf IsUnfit 67108864 writers_apart refl none_refused
+told_like = plainly_told outcome_of IsWhyOf IsUnfit WantsMemory 67108864 writers_apart refl none_refused (λ before after wants. inl wants.came)
 
 pub why_plainly_told : PlainlyTold IsWhyCall outcome_of 67108864 writers_apart
 why_plainly_told = record {
@@ -248,6 +249,7 @@ why_plainly_told = record {
   no_usage = λ c call. told_like.no_usage c (like_report c call);
   too_long = λ c h. told_like.too_long c (ends_like TooLong c h);
   not_too_long = λ c h. told_like.not_too_long c (ends_like NoMemory c h);
+  memory = λ c h. told_like.memory c (ends_like NoMemory c h);
   read_fault = λ c h. told_like.read_fault c (ends_like ReadFault c h);
   no_read_fault = λ c h. told_like.no_read_fault c (ends_like NoMemory c h);
   write_fault = λ c h. told_like.write_fault c (ends_like WriteFault c h);

@@ -132,6 +132,8 @@ ReadsWhole status = (c : LiveCall) → Answers status c → c.source_after.ends 
 pub record LiveCountsTold : Type 0 where
   pub too_long : (c : LiveCall) → Answers TooLong c → c.source_after.given ≡ 1048577
   pub not_too_long : (c : LiveCall) → Answers NoMemory c → c.source_after.given ≤ 1048576
+  -- memory was wanting once bytes came
+  pub memory : (c : LiveCall) → Answers NoMemory c → 0 < c.source_after.given
   pub read_fault : (c : LiveCall) → Answers ReadFault c → c.source_after.faults ≡ 1
   pub no_read_fault : (c : LiveCall) → Answers NoMemory c → c.source_after.faults ≡ 0
   pub whole_done : ReadsWhole Done

@@ -76,6 +76,10 @@ one_waits_text =
 abbrev pub no_such_set : List ℕ
 no_such_set = codes "set s\n# p\np begin\np lock t read\n"
 
+-- its first line is refused
+abbrev pub refused_first : List ℕ
+refused_first = codes "p lock s read\nset s\n"
+
 pub record NestsTold : Type 0 where
   pub nothing_text : WritesNest [] (codes "end 0\n")
   pub each_text : WritesNest each_word each_word_text
@@ -86,3 +90,6 @@ pub record NestsTold : Type 0 where
   pub unknown_set : RefusesNest no_such_set 4
   pub begun_twice : RefusesNest (codes "set s\np begin\np begin\n") 3
   pub never_refused : (c : PlainCall Answer) (line : ℕ) → NestAnswered one_waits (Refused line) c → ⊥
+  -- where the source was found at its end, that is no want of memory
+  pub no_memory : (c : PlainCall Answer) → NestAnswered refused_first NoMemory c
+      → c.source.ends ≡ 0 → c.source_after.ends ≡ 1 → ⊥

@@ -1,5 +1,5 @@
 -- What the answers say that come before a run, those of `check` and `make`, and what each says of the source and the sink, in literals.
-use Rattle.std.specs.Prelude.{◌≡◌, ◌≤◌, false, ℕ, List, [], ◌∷◌, ◌++◌, Option, Some, None, codes, ◌≢◌, length, ◌⊎◌, ◌+◌}
+use Rattle.std.specs.Prelude.{◌≡◌, ◌<◌, ◌≤◌, false, ℕ, List, [], ◌∷◌, ◌++◌, Option, Some, None, codes, ◌≢◌, length, ◌⊎◌, ◌+◌}
 use Rattle.lt_modes.specs.declared.mode.Mode.TheVariants.{Read}
 use Rattle.lt_modes.specs.declared.command.Command.TheVariants.{Lock, Unlock}
 use Rattle.lt_modes.specs.Script.{ScriptData}
@@ -219,6 +219,12 @@ pub record ServesSay {S K : Type 0} (state : S → SourceState) (held : K → Op
   -- the bad line
   pub bad : OfAnswers state held faults MAX_MOVES (Some Check) (λ answer s t k l.
       (line : ℕ) → answer.status ≡ BadJournal line → (state s).left ≡ Some wrong_mode → line ≡ 7)
+  -- where memory was wanting nothing was read, or bytes came
+  pub memory : OfAnswers state held faults MAX_MOVES (Some SimFirst) (λ answer s t k l.
+      answer.status ≡ NoMemory → state s ≡ untouched (Some one_lock) → (t ≡ s) ⊎ (0 < (state t).given))
+  -- where all was read, a bad line before the last is no want of memory
+  pub no_memory : OfAnswers state held faults MAX_MOVES (Some Check) (λ answer s t k l.
+      state s ≡ untouched (Some wrong_mode) → state t ≡ read_whole wrong_mode → answer.status ≢ NoMemory)
   -- wrong words are told, and leave the source and the sink as they were
   pub wrong_words : OfAnswers state held faults MAX_MOVES None (λ answer s t k l. (answer.status ≡ Usage) × (t ≡ s) × (l ≡ k))
   -- a good journal that was read to its end is accepted, where no write failed and memory was there

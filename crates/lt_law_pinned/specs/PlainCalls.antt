@@ -1,5 +1,5 @@
 -- What the answer says of the words, the source and the sink, of a program that takes no words.
-use Rattle.std.specs.Prelude.{◌≡◌, ◌≢◌, ◌<◌, ◌≤◌, ◌+◌, ◌++◌, ℕ, List, Option, Some, length, take}
+use Rattle.std.specs.Prelude.{◌≡◌, ◌≢◌, ◌<◌, ◌≤◌, ◌⊎◌, ◌+◌, ◌++◌, ℕ, List, Option, Some, length, take}
 use Rattle.lt_io.specs.Streams.{SourceState}
 use Rattle.lt_call.specs.declared.outcome.Outcome.{Outcome}
 use Rattle.lt_call.specs.declared.outcome.Outcome.TheVariants.{Done, Usage, Refused, TooLong, ReadFault, WriteFault, NoMemory, BadJournal}
@@ -73,6 +73,8 @@ module _ {A : Type 0} (is_call : PlainCall A → Type 0) (outcome : A → Outcom
     -- what is counted
     pub too_long : (c : PlainCall A) → EndsIn TooLong c → c.source_after.given ≡ limit + 1
     pub not_too_long : (c : PlainCall A) → EndsIn NoMemory c → c.source_after.given ≤ limit
+    -- memory was wanting once bytes came, or once the source was found at its end
+    pub memory : (c : PlainCall A) → EndsIn NoMemory c → (0 < c.source_after.given) ⊎ (c.source_after.ends ≡ 1)
     pub read_fault : (c : PlainCall A) → EndsIn ReadFault c → c.source_after.faults ≡ 1
     pub no_read_fault : (c : PlainCall A) → EndsIn NoMemory c → c.source_after.faults ≡ 0
     pub write_fault : (c : PlainCall A) → EndsIn WriteFault c → c.sink_after.faults ≡ 1

@@ -1,6 +1,6 @@
 -- What an answer says: once the journal is written, where there is no run, and where there is a word.
-use Rattle.std.proofs.Common.{◌≡◌, ◌≢◌, ◌<◌, ◌+◌, ◌⊎◌, ℕ, List, Option, Some, None, Ok, [], refl, sym, ap, subst, arith, inl, inr}
-use Rattle.lt_io.specs.Streams.{SourceState, IsReadWhole}
+use Rattle.std.proofs.Common.{◌≡◌, ◌∙◌, ◌≢◌, ◌<◌, ◌+◌, ◌⊎◌, ℕ, List, Option, Some, None, Ok, [], refl, sym, ap, subst, arith, inl, inr}
+use Rattle.lt_io.specs.Streams.{Rose, SourceState, IsReadWhole}
 use Rattle.lt_call.specs.declared.outcome.Outcome.TheVariants as outcome
 use Rattle.lt_call.specs.Outcomes.{IsEnding, IsRefusal, WritesNothing, SaysOfSource, SaysOfSink}
 use Rattle.lt_call.proofs.Answering.{HasWritten, is_other, rose, written_reading}
@@ -85,6 +85,7 @@ written_serves state held write_faults words answer before after sink sink_after
       unread = λ e. absurd (is_other (outcome_of answer.status) outcome.Usage written tt (ap outcome_of e));
       refused = λ fault e. absurd (is_other (outcome_of answer.status) outcome.Refused written tt (ap outcome_of e));
       share = λ client e. absurd (is_other (outcome_of answer.status) outcome.Share written tt (ap outcome_of e));
+      memory = λ e. absurd (is_other (outcome_of answer.status) outcome.NoMemory written tt (ap outcome_of e));
       reading = λ other. written_reading MAX_INPUT (outcome_of answer.status) (state before) (state after) whole written;
       writing = writing;
       unwritten = unwritten;
@@ -129,8 +130,9 @@ refusal_complete WriteFault before after h tells good memory = absurd h
 -- where there is no run
 pub refusal_serves : {S K : Type 0} (state : S → SourceState) (held : K → Option (List ℕ)) (write_faults : K → ℕ) (words : ℕ) (answer : Served) (status : Status) (before after : S) (sink : K)
     → words ≡ 0 → answer.status ≡ status → answer.run.entries ≡ [] → answer.polled.items ≡ [] → Refuses (state before).left status
-    → SaysOfSource MAX_INPUT (outcome_of status) (state before) (state after) → Serves state held write_faults words answer before after sink sink
-refusal_serves state held write_faults words answer status before after sink none same no_run no_reply refused reading =
+    → SaysOfSource MAX_INPUT (outcome_of status) (state before) (state after) → (status ≡ NoMemory → Rose (state before).given (state after).given)
+    → Serves state held write_faults words answer before after sink sink
+refusal_serves state held write_faults words answer status before after sink none same no_run no_reply refused reading memory =
     let refusal = subst (Refuses (state before).left) (sym same) refused in
     let tells = subst (λ (s : Status). SaysOfSource MAX_INPUT (outcome_of s) (state before) (state after)) (sym same) reading in
     let did = refusal_did answer.status (state before).left answer.run.entries answer.polled.items (held sink) refusal no_run no_reply in
@@ -141,6 +143,7 @@ refusal_serves state held write_faults words answer status before after sink non
       unread = λ e. absurd (subst (Refuses (state before).left) e refusal);
       refused = λ fault e. subst (Refuses (state before).left) e refusal;
       share = λ client e. subst (Refuses (state before).left) e refusal;
+      memory = λ e. memory (sym same ∙ e);
       reading = λ other. tells;
       writing = record {
         write_fault = λ e. absurd (subst (IsRefusal (IsUnfit (state before).left answer.status)) e refusal);
@@ -161,6 +164,7 @@ usage_serves state held write_faults words answer source sink some is no_run no_
   unread = λ e. refl;
   refused = λ fault e. absurd (cc);
   share = λ client e. absurd (cc);
+  memory = λ e. absurd (cc);
   reading = λ other. absurd (other is);
   writing = record { write_fault = λ e. absurd (not_write (subst (λ (s : Status). outcome_of s ≡ outcome.WriteFault) is e)); no_write_fault = λ other. refl };
   unwritten = λ nothing. refl;

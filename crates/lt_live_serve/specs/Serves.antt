@@ -53,10 +53,10 @@ IsFirstOver script (Some client) = (client < length script.clients) × (is_over 
 
 -- Why an input is refused.
 
--- the bytes have this fault, or memory was wanting
+-- the bytes have this fault, or memory was wanting, which is so only where there are some
 abbrev pub IsFaultOf : List ℕ → Status → Type 0
 IsFaultOf bytes (Refused fault) = read_of bytes ≡ Err fault
-IsFaultOf bytes NoMemory = Unit {0}
+IsFaultOf bytes NoMemory = 0 < length bytes
 IsFaultOf bytes other = ⊥
 
 -- What came of a script: its run, and what the sessions polled.
@@ -155,6 +155,8 @@ pub record Serves {S K : Type 0} (state : S → SourceState) (held : K → Optio
   -- why there is no run
   pub refused : (fault : ScriptFault) → answer.status ≡ Refused fault → HasFault (state source_before).left fault
   pub share : (client : ℕ) → answer.status ≡ Share client → IsOverShare (state source_before).left client
+  -- memory was wanting once bytes had come, and not before
+  pub memory : answer.status ≡ NoMemory → Rose (state source_before).given (state source_after).given
   -- what the answer says of the source, and of the sink
   pub reading : answer.status ≢ Usage → SaysOfSource MAX_INPUT (outcome_of answer.status) (state source_before) (state source_after)
   pub writing : SaysOfSink (outcome_of answer.status) (write_faults sink_before) (write_faults sink_after)

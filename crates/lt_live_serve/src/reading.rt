@@ -1,5 +1,5 @@
-ghost use Rattle.std.specs.Prelude.{◌≡◌, ◌≤◌, Ok, None, length, IfOk, OnOk, IfErr};
-ghost use Rattle.lt_io.specs.Streams.{IsReadWhole};
+ghost use Rattle.std.specs.Prelude.{◌≡◌, ◌<◌, ◌≤◌, Ok, None, length, IfOk, OnOk, IfErr};
+ghost use Rattle.lt_io.specs.Streams.{IsReadWhole, Rose};
 ghost use Rattle.lt_call.specs.Outcomes.{IsRefusal, SaysOfSource};
 ghost use Rattle.lt_call.specs.Scripts.{Denotes};
 ghost use Rattle.lt_spec.specs.Script.{IsScript};
@@ -11,9 +11,9 @@ ghost use Rattle.lt_live_serve.specs.Status.{outcome_of};
 use crate::limits::MAX_INPUT;
 use crate::over::first_over;
 use crate::status::Status;
-use lt_call::read_bytes;
+use lt_call::{read_bytes, read_script};
 use lt_io::Source;
-use lt_script::{ReadError, Script, read};
+use lt_script::{ReadError, Script};
 use std::alloc::Global;
 
 /// Reads the source to its end, and the script that its bytes denote, in which no client has too many commands.
@@ -24,6 +24,9 @@ pub(crate) fn read_shared<S: Source>(alloc: Global, source: &mut S) -> Result<Sc
     ensures whole { OnOk result (IsReadWhole MAX_INPUT (S.state source.old) (S.state source.new)) }
     ensures reading { IfErr result (λ answer. SaysOfSource MAX_INPUT (outcome_of answer) (S.state source.old) (S.state source.new)) }
     ensures refused { IfErr result (λ answer. IsRefusal (IsUnfit (S.state source.old).left answer) (outcome_of answer)) }
+    ensures came { OnOk result (Rose (S.state source.old).given (S.state source.new).given) }
+    ensures memory { IfErr result (λ answer. answer ≡ Status.NoMemory
+        → Rose (S.state source.old).given (S.state source.new).given) }
 {
     let bytes = read_bytes::<Status, S>(alloc, source, MAX_INPUT)?;
     let script = script_of(alloc, &bytes)?;
@@ -38,9 +41,10 @@ fn script_of(alloc: Global, bytes: &[u8]) -> Result<Script, Status>
     requires few { length bytes.now ≤ MAX_INPUT }
     ensures script { IfOk result (λ script. read_of bytes.now ≡ Ok script) }
     ensures kept { IfOk result IsScript }
+    ensures some { OnOk result (0 < length bytes.now) }
     ensures refused { IfErr result (IsFaultOf bytes.now) }
 {
-    match read(alloc, bytes) {
+    match read_script(alloc, bytes) {
         Ok(script) => Ok(script),
         Err(ReadError::Fault(fault)) => Err(Status::Refused(fault)),
         Err(ReadError::Memory) => Err(Status::NoMemory),

@@ -1,5 +1,5 @@
 ghost use Rattle.std.specs.Prelude.{◌≡◌, ◌⊎◌, ℕ, [], List, Option, length, IfOk, IfErr, OnOk};
-ghost use Rattle.lt_io.specs.Streams.{IsReadWhole};
+ghost use Rattle.lt_io.specs.Streams.{IsReadWhole, Rose};
 ghost use Rattle.lt_call.specs.Outcomes.{IsEnding, IsRefusal, SaysOfSink, SaysOfSource, WritesNothing};
 ghost use Rattle.lt_live_serve.specs.declared.limits.TheConstants.{MAX_INPUT};
 ghost use Rattle.lt_live_serve.specs.Serves.{Journals, Serves, Did, IsUnfit};
@@ -49,6 +49,8 @@ fn make<R: Threads + Sync, S: Source, G: Gate>(
     ensures whole { OnOk result (IsReadWhole MAX_INPUT (S.state source.old) (S.state source.new)) }
     ensures reading { IfErr result (λ answer. SaysOfSource MAX_INPUT (outcome_of answer) (S.state source.old) (S.state source.new)) }
     ensures refused { IfErr result (λ answer. IsRefusal (IsUnfit (S.state source.old).left answer) (outcome_of answer)) }
+    ensures memory { IfErr result (λ answer. answer ≡ Status.NoMemory
+        → Rose (S.state source.old).given (S.state source.new).given) }
 {
     let script = read_shared(alloc, source)?;
     let Ok(live) = live_run(rt, alloc, &script, gate) else {

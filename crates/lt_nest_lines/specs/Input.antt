@@ -1,5 +1,5 @@
 -- The input that a text denotes, or the first line that is refused.
-use Rattle.std.specs.Prelude.{◌≡◌, ◌≤◌, ◌<◌, ℕ, ◌+◌, Bool, true, false, not, ◌||◌, ◌&&◌, nat_lt, is_some, List, [], ◌∷◌, ◌++◌, All, Option, Some, None, Result, Ok, Err, length, position, codes, if◌then◌else◌, bytes_eq}
+use Rattle.std.specs.Prelude.{◌≡◌, ◌≤◌, ◌<◌, ℕ, ◌+◌, Bool, true, false, not, ◌||◌, ◌&&◌, nat_lt, is_some, IsSomeAnd, List, [], ◌∷◌, ◌++◌, All, Option, Some, None, Result, Ok, Err, length, position, codes, if◌then◌else◌, bytes_eq}
 use Rattle.lt_modes.specs.declared.mode.Mode.{Mode}
 use Rattle.lt_modes.specs.Modes.{mode_of}
 use Rattle.lt_text.specs.Text.{lines, words}
@@ -138,6 +138,19 @@ abbrev pub ReadsInput : Result InputData ReadError → Result InputData ℕ → 
 ReadsInput (Ok d) found = found ≡ Ok d
 ReadsInput (Err (errors.Refused line)) found = found ≡ Err line
 ReadsInput (Err errors.Memory) found = Unit {0}
+
+-- these lines begin with good ones, one of which isn't skipped
+pub record BeginsWell (all : List (List ℕ)) : Type 0 where
+  pub first : List (List ℕ)
+  pub later : List (List ℕ)
+  pub read : InputData
+  pub parts : all ≡ first ++ later
+  pub good : read_lines_from first 1 no_input ≡ Ok read
+  pub some : 0 < line_count read
+
+-- the line is good, and isn't skipped
+abbrev pub IsAdded : Option InputData → Type 0
+IsAdded step = IsSomeAnd step (λ next. 0 < line_count next)
 
 -- the order asks for a lock in one of so many sets, or for none
 abbrev pub AsksWithin : ℕ → Order → Type 0

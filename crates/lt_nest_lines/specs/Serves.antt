@@ -1,8 +1,10 @@
 -- Worked rows, byte for byte.
-use Rattle.std.specs.Prelude.{◌≡◌, ℕ, List, Result, Ok, Err, codes, Option, Some, None}
-use Rattle.lt_io.specs.Streams.{SourceState}
+use Rattle.std.specs.Prelude.{◌≡◌, ◌⊎◌, ℕ, List, Result, Ok, Err, IsOk, codes, Option, Some, None, IfSome}
+use Rattle.lt_io.specs.Streams.{SourceState, IsReadWhole}
+use Rattle.lt_text.specs.Text.{lines}
 use Rattle.lt_call.specs.Calls.{Serves}
-use Rattle.lt_nest_lines.specs.Input.{InputData, input_of}
+use Rattle.lt_call.specs.Outcomes.{CameInPart}
+use Rattle.lt_nest_lines.specs.Input.{BeginsWell, InputData, input_of}
 use Rattle.lt_nest_lines.specs.Written.{report_text}
 use Rattle.lt_nest_lines.specs.declared.limits.TheConstants.{MAX_INPUT}
 use Rattle.lt_nest_lines.specs.declared.answer.Answer.{Answer}
@@ -75,13 +77,23 @@ abbrev pub IsUnfit : Option (List ℕ) → Answer → Type 0
 IsUnfit left (Refused line) = IsRefusedAt left line
 IsUnfit left other = ⊥
 
--- this line of the bytes is the first that is refused, or memory ran out
+-- no line of the bytes is refused, or a line before it is good and isn't skipped: so memory may be wanting
+abbrev pub LinesMayWantMemory : List ℕ → Type 0
+LinesMayWantMemory bytes = IsOk (input_of bytes) ⊎ BeginsWell (lines bytes)
+
+-- this line of the bytes is the first that is refused, or memory was wanting
 abbrev pub IsInputFault : List ℕ → Answer → Type 0
 IsInputFault bytes (Refused line) = input_of bytes ≡ Err line
-IsInputFault bytes NoMemory = Unit {0}
+IsInputFault bytes NoMemory = LinesMayWantMemory bytes
 IsInputFault bytes other = ⊥
+
+-- where memory may be wanting: bytes came, but the end was not found; or all was read, and if it is known, its first line
+-- that isn't skipped is not refused
+abbrev pub LinesWantMemory : SourceState → SourceState → Type 0
+LinesWantMemory before after =
+    CameInPart before after ⊎ (IsReadWhole MAX_INPUT before after × IfSome before.left LinesMayWantMemory)
 
 -- the answer to so many words; and the source and the sink before and after, with what they tell of themselves
 abbrev pub ServesLines : {S K : Type 0} → (S → SourceState) → (K → Option (List ℕ)) → (K → ℕ) → ℕ → Answer → S → S → K → K → Type 0
 ServesLines state held write_faults words answer before after sink sink_after =
-    Serves outcome_of IsWritten IsUnfit MAX_INPUT state held write_faults words answer before after sink sink_after
+    Serves outcome_of IsWritten IsUnfit LinesWantMemory MAX_INPUT state held write_faults words answer before after sink sink_after

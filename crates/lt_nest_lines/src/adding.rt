@@ -1,8 +1,8 @@
-ghost use Rattle.std.specs.Prelude.{◌≡◌, ◌<◌, length, IfOk, IfSome};
+ghost use Rattle.std.specs.Prelude.{◌≡◌, ◌<◌, length, IfOk, IfSome, IsErr};
 ghost use Rattle.std.specs.Option.{ForSome};
 ghost use Rattle.lt_modes.specs.Modes.{mode_of};
 ghost use Rattle.lt_nest_lines.specs.Forms.{form_data};
-ghost use Rattle.lt_nest_lines.specs.Input.{AsksWithin, AddsLine, line_count, place_of, set_line, begin_line, order_line, begin_in, commit_order, abort_order, lock_order, try_order, input_after_form};
+ghost use Rattle.lt_nest_lines.specs.Input.{AsksWithin, AddsLine, IsAdded, line_count, place_of, set_line, begin_line, order_line, begin_in, commit_order, abort_order, lock_order, try_order, input_after_form};
 ghost use Rattle.lt_nest_lines.specs.declared.limits.TheConstants.{MAX_LINES};
 
 use crate::form::Form;
@@ -12,10 +12,12 @@ use crate::order::Order;
 use lt_modes::Mode;
 use std::alloc::{AllocError, Global};
 
-/// Adds what a line of this form says, and tells whether it may be said.
+/// Adds what a line of this form says, and tells whether it may be said. Memory is wanted only of a line that may.
 pub(crate) fn add(input: &mut Input, alloc: Global, form: Form<'_>) -> Result<bool, AllocError>
     requires { line_count input.old < MAX_LINES }
-    ensures { IfOk result (λ taken. AddsLine taken input.new (input_after_form input.old (form_data form.entry))) }
+    ensures taken { IfOk result (λ taken.
+        AddsLine taken input.new (input_after_form input.old (form_data form.entry))) }
+    ensures memory { IsErr result → IsAdded (input_after_form input.old (form_data form.entry)) }
 {
     match form {
         Form::Set { set } => add_set(input, alloc, set),
@@ -56,7 +58,8 @@ pub(crate) fn add(input: &mut Input, alloc: Global, form: Form<'_>) -> Result<bo
 
 fn add_set(input: &mut Input, alloc: Global, name: &[u8]) -> Result<bool, AllocError>
     requires { line_count input.old < MAX_LINES }
-    ensures { IfOk result (λ taken. AddsLine taken input.new (set_line input.old name.now)) }
+    ensures taken { IfOk result (λ taken. AddsLine taken input.new (set_line input.old name.now)) }
+    ensures memory { IsErr result → IsAdded (set_line input.old name.now) }
 {
     if !input.is_new(name) || usize::from(input.sets()) >= MAX_SETS {
         return Ok(false);
@@ -74,7 +77,8 @@ fn add_begin(
 ) -> Result<bool, AllocError>
     requires lines { line_count input.old < MAX_LINES }
     requires within { ForSome order (AsksWithin (length input.old.sets)) }
-    ensures { IfOk result (λ taken. AddsLine taken input.new (begin_line input.old name.now order)) }
+    ensures taken { IfOk result (λ taken. AddsLine taken input.new (begin_line input.old name.now order)) }
+    ensures memory { IsErr result → IsAdded (begin_line input.old name.now order) }
 {
     let Some(order) = order else {
         return Ok(false);
@@ -90,7 +94,8 @@ fn add_begin(
 fn add_order(input: &mut Input, order: Option<Order>) -> Result<bool, AllocError>
     requires lines { line_count input.old < MAX_LINES }
     requires within { ForSome order (AsksWithin (length input.old.sets)) }
-    ensures { IfOk result (λ taken. AddsLine taken input.new (order_line input.old order)) }
+    ensures taken { IfOk result (λ taken. AddsLine taken input.new (order_line input.old order)) }
+    ensures memory { IsErr result → IsAdded (order_line input.old order) }
 {
     let Some(order) = order else {
         return Ok(false);

@@ -1,6 +1,6 @@
 ghost use Rattle.std.specs.Prelude.{◌≤◌, length, IfOk, IfErr};
 ghost use Rattle.lt_nest_lines.specs.declared.limits.TheConstants.{MAX_INPUT};
-ghost use Rattle.lt_nest_lines.specs.Serves.{IsTextOf, IsWritten, IsUnfit, IsInputFault};
+ghost use Rattle.lt_nest_lines.specs.Serves.{IsTextOf, IsWritten, IsUnfit, IsInputFault, LinesWantMemory};
 
 use crate::answer::Answer;
 use crate::limits::MAX_INPUT;
@@ -21,6 +21,8 @@ impl Work for Nested {
     ghost makes = { λ _ left text. IsWritten left text };
 
     ghost refuses = { λ _ left answer. IsUnfit left answer };
+
+    ghost wants = { λ _ before after. LinesWantMemory before after };
 
     fn make<S: Source>(&self, alloc: Global, source: &mut S) -> Result<Vec<u8>, Answer> {
         let bytes = read_bytes::<Answer, S>(alloc, source, MAX_INPUT)?;

@@ -1,7 +1,8 @@
-ghost use Rattle.std.specs.Prelude.{◌≡◌, ◌<◌, ◌-◌, ◌^◌, length, IfOk};
-ghost use Rattle.lt_text.specs.Text.{words};
+ghost use Rattle.std.specs.Prelude.{◌≡◌, ◌<◌, ◌-◌, ◌^◌, length, IfOk, IfErr, IsErr};
+ghost use Rattle.lt_text.specs.Text.{lines, words};
 ghost use Rattle.lt_script.specs.Reading.{says_nothing};
-ghost use Rattle.lt_nest_lines.specs.Input.{AddsLine, ReadsInput, input_after_line, input_of};
+ghost use Rattle.lt_nest_lines.specs.Input.{AddsLine, BeginsWell, IsAdded, ReadsInput, input_after_line, input_of};
+ghost use Rattle.lt_nest_lines.specs.declared.reading.ReadError.TheVariants as errors;
 
 use crate::adding::add;
 use crate::form::form_of;
@@ -42,7 +43,8 @@ impl Error for ReadError {}
 /// word begins with `#`. The first line that is refused decides.
 pub fn read(alloc: Global, bytes: &[u8]) -> Result<Input, ReadError>
     requires { length bytes.now < 2 ^ 32 - 1 }
-    ensures { ReadsInput result (input_of bytes.now) }
+    ensures read { ReadsInput result (input_of bytes.now) }
+    ensures memory { IfErr result (λ error. error ≡ errors.Memory → BeginsWell (lines bytes.now)) }
 {
     let mut input = Input::new(alloc);
     let mut rest = bytes;
@@ -60,10 +62,11 @@ pub fn read(alloc: Global, bytes: &[u8]) -> Result<Input, ReadError>
     Ok(input)
 }
 
-// Adds what the line says, and tells whether it may be said.
+// Adds what the line says, and tells whether it may be said. Memory is wanted only of a line that may.
 #[tactic(auto, unfolding(crate::specs::Input::input_after_line))]
 fn read_line(alloc: Global, input: &mut Input, line: &[u8]) -> Result<bool, AllocError>
-    ensures { IfOk result (λ taken. AddsLine taken input.new (input_after_line input.old line.now)) }
+    ensures taken { IfOk result (λ taken. AddsLine taken input.new (input_after_line input.old line.now)) }
+    ensures memory { IsErr result → IsAdded (input_after_line input.old line.now) }
 {
     if is_skipped(line) {
         return Ok(true);

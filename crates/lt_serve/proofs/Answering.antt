@@ -23,7 +23,7 @@ use Rattle.lt_call.proofs.Answering.{HasWritten, is_other, rose, written_reading
 use Rattle.lt_call.specs.Outcomes.{IsEnding, WritesNothing, SaysOfSource, SaysOfSink}
 use Rattle.lt_serve.specs.declared.status.Status.{Status}
 use Rattle.lt_serve.specs.declared.status.Status.TheVariants.{Stuck, Done, Usage, Refused, TooLong, ReadFault, WriteFault, NoMemory, Cut, BadJournal}
-use Rattle.lt_serve.specs.Causes.{HasStatusCause, MayGetStuck, CanBeMade, IsRefusal, IsUnordered, reads, limit_of}
+use Rattle.lt_serve.specs.Causes.{HasStatusCause, MayGetStuck, CanBeMade, IsRefusal, IsUnordered, WantsToRead, reads, limit_of}
 use Rattle.lt_serve.specs.Status.{outcome_of}
 use Rattle.lt_serve.specs.Endings.{EndsAs, RanTo, status_of_end}
 use Rattle.lt_serve.specs.TopCall.{Journals, JournalsBy, DidOf}
@@ -221,13 +221,15 @@ pub refusal_serves : {S K : Type 0} (state : S → SourceState) (held : K → Op
     → asked ≡ Some command → answer.status ≡ status → answer.run.entries ≡ [] → IsRefusal command (state before).left status
     → (reads (Some command) ≡ true → SaysOfSource (limit_of (Some command)) (outcome_of status) (state before) (state after))
     → (reads (Some command) ≡ false → after ≡ before)
+    → (status ≡ NoMemory → reads (Some command) ≡ true → WantsToRead (Some command) (state before) (state after))
     → Serves state held write_faults moves asked answer before after sink sink
-refusal_serves state held write_faults moves asked command answer status before after sink is same none refused reading unread =
+refusal_serves state held write_faults moves asked command answer status before after sink is same none refused reading unread memory =
     let refusal = subst (λ (s : Status). IsRefusal command (state before).left s) (sym same) refused in
     let read = subst (λ (s : Status). reads (Some command) ≡ true → SaysOfSource (limit_of (Some command)) (outcome_of s) (state before) (state after)) (sym same) reading in
     subst (λ (a : Option Command). Serves state held write_faults moves a answer before after sink sink) (sym is) (record {
       did = refusal_did moves command answer.status (state before).left answer.run.entries (held sink) refusal none;
       causes = refused_causes (Some command) command (state before).left answer.status refl refusal;
+      memory = λ e asks. inr (memory (sym same ∙ e) asks);
       reading = read;
       unread = unread;
       writing = record {
@@ -254,6 +256,7 @@ written_serves state held write_faults moves asked command answer before after s
       did = told;
       causes = written_causes (Some command) command (state before).left answer.status refl written
           (stuck_cause moves command answer.status (state before).left answer.run.entries (held sink) (held sink_after) told);
+      memory = λ e asks. absurd (is_other (outcome_of answer.status) outcome.NoMemory written tt (ap outcome_of e));
       reading = λ read. written_reading (limit_of (Some command)) (outcome_of answer.status) (state before) (state after) (whole read) written;
       unread = unread;
       writing = writing;

@@ -12,11 +12,11 @@ use Rattle.lt_spec.specs.Promised.{Promised}
 use Rattle.lt_checker.specs.declared.limits.TheConstants.{MAX_JOURNAL}
 use Rattle.lt_checker.specs.declared.error.InputError.{InputError}
 use Rattle.lt_checker.specs.declared.error.InputError.TheVariants as error
-use Rattle.lt_checker.specs.Input.{IsJournalOf, IsEndedRun, FailsInput}
+use Rattle.lt_checker.specs.Input.{IsJournalOf, IsEndedRun, FailsInput, WantsMemory}
 use Rattle.lt_law_journals.specs.Checking.{IsFinished}
 use Rattle.lt_words.specs.declared.command.Command.TheVariants.{Check}
 use Rattle.lt_serve.specs.declared.made.Made.{Made}
-use Rattle.lt_serve.specs.declared.status.Status.TheVariants.{Done}
+use Rattle.lt_serve.specs.declared.status.Status.TheVariants.{Done, NoMemory}
 use Rattle.lt_serve.specs.Causes.{IsRefusal, status_of_input}
 use Rattle.lt_serve.specs.Status.{outcome_of}
 use Rattle.lt_serve.specs.TopCall.{Checks, ok_text}
@@ -53,6 +53,14 @@ fails_refused error.TooLong before after fails = refl
 fails_refused error.NoMemory before after fails = tt
 fails_refused (error.Refused fault) before after fails = (refl, fails.0)
 fails_refused (error.BadJournal line) before after fails = (refl, refl, fails.0)
+
+-- and where memory was wanting
+pub fails_wants : (e : InputError) (before after : SourceState) → FailsInput e before after → status_of_input e ≡ NoMemory → WantsMemory before after
+fails_wants error.NoMemory before after fails is = fails.2
+fails_wants error.ReadFault before after fails is = absurd (cc)
+fails_wants error.TooLong before after fails is = absurd (cc)
+fails_wants (error.Refused fault) before after fails is = absurd (cc)
+fails_wants (error.BadJournal line) before after fails is = absurd (cc)
 
 -- memory was refused once all was read
 pub memory_says : (before after : SourceState) → IsReadWhole MAX_JOURNAL before after → SaysOfSource MAX_JOURNAL outcome.NoMemory before after

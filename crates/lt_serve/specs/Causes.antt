@@ -1,5 +1,6 @@
 -- Why an answer comes, and what it says of the source and the sink.
 use Rattle.std.specs.Prelude.{◌≡◌, Bool, true, false, ℕ, Option, Some, None, IfSome, Ok, List}
+use Rattle.lt_io.specs.Streams.{Rose, SourceState}
 use Rattle.lt_script.specs.declared.fault.ScriptFault.{ScriptFault}
 use Rattle.lt_script.specs.Reading.{read_of}
 use Rattle.lt_spec.specs.Script.{IsOrdered}
@@ -10,7 +11,7 @@ use Rattle.lt_modes.specs.Script.{ScriptData}
 use Rattle.lt_checker.specs.declared.limits.TheConstants.{MAX_JOURNAL}
 use Rattle.lt_checker.specs.declared.error.InputError.{InputError}
 use Rattle.lt_checker.specs.declared.error.InputError.TheVariants as error
-use Rattle.lt_checker.specs.Input.{HasFaultBefore, IsBad}
+use Rattle.lt_checker.specs.Input.{HasFaultBefore, IsBad, WantsMemory}
 use Rattle.lt_serve.specs.declared.limits.TheConstants.{MAX_INPUT}
 use Rattle.lt_serve.specs.TopCall.{greatest_script}
 use Rattle.lt_gen.specs.Sizes.{can_make}
@@ -57,6 +58,11 @@ pub record HasStatusCause (asked : Option Command) (left : Option (List ℕ)) (a
   -- these come of reading alone
   pub read_fault : answer ≡ ReadFault → reads asked ≡ true
   pub too_long : answer ≡ TooLong → reads asked ≡ true
+
+-- where memory may be wanting, once a command reads: bytes came, and of what `check` read this is known
+abbrev pub WantsToRead : Option Command → SourceState → SourceState → Type 0
+WantsToRead (Some Check) before after = WantsMemory before after
+WantsToRead other before after = Rose before.given after.given
 
 -- why a command came to no end
 abbrev pub IsRefusal : Command → Option (List ℕ) → Status → Type 0

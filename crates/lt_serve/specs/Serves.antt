@@ -1,5 +1,5 @@
 -- What a command answers where nothing goes wrong.
-use Rattle.std.specs.Prelude.{◌≡◌, ◌≢◌, true, ℕ, ◌+◌, Option, Some, ◌⊎◌, List, Err, false}
+use Rattle.std.specs.Prelude.{◌≡◌, ◌≢◌, ◌<◌, true, ℕ, ◌+◌, length, Option, Some, ◌⊎◌, List, Err, false}
 use Rattle.lt_spec.specs.Script.{IsOrdered}
 use Rattle.lt_io.specs.Streams.{Rose, RoseBy, SourceState}
 use Rattle.lt_script.specs.declared.fault.ScriptFault.{ScriptFault}
@@ -11,7 +11,7 @@ use Rattle.lt_call.specs.Outcomes.{IsEnding, SaysOfSource, SaysOfSink, WritesNot
 use Rattle.lt_call.specs.Scripts.{DenotesOrdered}
 use Rattle.lt_serve.specs.declared.status.Status.{Status}
 use Rattle.lt_serve.specs.declared.status.Status.TheVariants.{Done, NoMemory, Stuck, Cut, Refused}
-use Rattle.lt_serve.specs.Causes.{HasFirstFault, reads, limit_of, HasStatusCause}
+use Rattle.lt_serve.specs.Causes.{HasFirstFault, reads, limit_of, HasStatusCause, WantsToRead}
 use Rattle.lt_serve.specs.Status.{outcome_of}
 use Rattle.lt_serve.specs.TopCall.{greatest_script, Did}
 use Rattle.lt_serve.specs.declared.serving.Served.{Served}
@@ -66,10 +66,10 @@ pub record Ends (asked : Option Command) (answer : Status) (before after : Sourc
 
 -- What was read of an input, and why it is refused.
 
--- the bytes have this fault, or memory was wanting
+-- the bytes have this fault, or memory was wanting, which is so only where there are some
 abbrev pub IsFaultOf : List ℕ → Status → Type 0
 IsFaultOf bytes (Refused fault) = read_of bytes ≡ Err fault
-IsFaultOf bytes NoMemory = Unit {0}
+IsFaultOf bytes NoMemory = 0 < length bytes
 IsFaultOf bytes other = ⊥
 
 -- All that the top call says of an answer.
@@ -81,6 +81,9 @@ pub record Serves {S K : Type 0} (state : S → SourceState) (held : K → Optio
   pub did : Did moves asked answer.status (state source_before).left answer.run.entries (held sink_before) (held sink_after)
   -- why the answer comes
   pub causes : HasStatusCause asked (state source_before).left answer.status
+  -- memory was wanting: for the words, before anything was read, or where it may be for a command that reads
+  pub memory : answer.status ≡ NoMemory → reads asked ≡ true
+      → (source_after ≡ source_before) ⊎ WantsToRead asked (state source_before) (state source_after)
   -- what it says of the source, and of the sink
   pub reading : reads asked ≡ true → SaysOfSource (limit_of asked) (outcome_of answer.status) (state source_before) (state source_after)
   pub unread : reads asked ≡ false → source_after ≡ source_before

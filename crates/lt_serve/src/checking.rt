@@ -3,6 +3,7 @@ ghost use Rattle.std.specs.Fmt.{decimal};
 ghost use Rattle.std.specs.String.{string_bytes};
 ghost use Rattle.lt_call.specs.Outcomes.{SaysOfSource};
 ghost use Rattle.lt_io.specs.Streams.{IsReadWhole};
+ghost use Rattle.lt_checker.specs.Input.{WantsMemory};
 ghost use Rattle.lt_checker.specs.declared.limits.TheConstants.{MAX_JOURNAL};
 ghost use Rattle.lt_words.specs.declared.command.Command.TheVariants as command;
 ghost use Rattle.lt_serve.specs.Causes.{IsRefusal};
@@ -19,12 +20,14 @@ use std::alloc::{AllocError, Global};
 use std::fmt::Write;
 
 /// Reads a script and a journal, and says whether the journal is that of a run of the script.
-#[tactic(auto, using(crate::proofs::Checked::fails_says, crate::proofs::Checked::fails_refused, crate::proofs::Checked::memory_says))]
+#[tactic(auto, using(crate::proofs::Checked::fails_says, crate::proofs::Checked::fails_refused, crate::proofs::Checked::fails_wants, crate::proofs::Checked::memory_says))]
 pub(crate) fn checked<S: Source>(alloc: Global, source: &mut S) -> Result<Made, Status>
     ensures does { IfOk result (λ made. Checks made.ending (S.state source.old).left made.run.entries made.text.items) }
     ensures whole { OnOk result (IsReadWhole MAX_JOURNAL (S.state source.old) (S.state source.new)) }
     ensures reading { IfErr result (λ answer. SaysOfSource MAX_JOURNAL (outcome_of answer) (S.state source.old) (S.state source.new)) }
     ensures refused { IfErr result (IsRefusal command.Check (S.state source.old).left) }
+    ensures memory { IfErr result (λ answer. answer ≡ Status.NoMemory
+        → WantsMemory (S.state source.old) (S.state source.new)) }
 {
     law_promised();
     let ended = check_input(alloc, source)?;

@@ -1,6 +1,6 @@
 ghost use Rattle.std.specs.Prelude.{◌≡◌, IfOk, IfErr, OnOk};
 ghost use Rattle.lt_call.specs.Outcomes.{SaysOfSource};
-ghost use Rattle.lt_io.specs.Streams.{IsReadWhole};
+ghost use Rattle.lt_io.specs.Streams.{IsReadWhole, Rose};
 ghost use Rattle.lt_spec.specs.Script.{first_bad};
 ghost use Rattle.lt_words.specs.declared.command.Command.TheVariants as command;
 ghost use Rattle.lt_serve.specs.declared.limits.TheConstants.{MAX_INPUT};
@@ -23,6 +23,8 @@ pub(crate) fn order_told<S: Source>(alloc: Global, source: &mut S) -> Result<Mad
     ensures whole { OnOk result (IsReadWhole MAX_INPUT (S.state source.old) (S.state source.new)) }
     ensures reading { IfErr result (λ answer. SaysOfSource MAX_INPUT (outcome_of answer) (S.state source.old) (S.state source.new)) }
     ensures refused { IfErr result (IsRefusal command.Order (S.state source.old).left) }
+    ensures memory { IfErr result (λ answer. answer ≡ Status.NoMemory
+        → Rose (S.state source.old).given (S.state source.new).given) }
 {
     let script = read_script(alloc, source)?;
     match order_answer(alloc, &script) {

@@ -6,7 +6,7 @@ ghost use Rattle.lt_spec.specs.declared.moves.TheConstants.{MAX_MOVES};
 ghost use Rattle.lt_mail.specs.declared.opening.TheConstants.{MAX_CAPACITY};
 ghost use Rattle.lt_threads.specs.declared.sharing.TheConstants.{MAX_WORKERS};
 ghost use Rattle.lt_words.specs.Grammar.{command_of};
-ghost use Rattle.lt_serve.specs.Causes.{IsRefusal, CanBeMade, reads, limit_of};
+ghost use Rattle.lt_serve.specs.Causes.{IsRefusal, CanBeMade, WantsToRead, reads, limit_of};
 ghost use Rattle.lt_serve.specs.Status.{outcome_of};
 ghost use Rattle.lt_serve.specs.Serves.{Ends, Serves};
 ghost use Rattle.lt_serve.specs.declared.serving.TheConstants.{USUAL};
@@ -162,6 +162,8 @@ fn make<R: Threads + Sync, S: Source, G: Gate>(
     ensures whole { OnOk result (reads (Some command) ≡ true → IsReadWhole (limit_of (Some command)) (S.state source.old) (S.state source.new)) }
     ensures reading { IfErr result (λ answer. reads (Some command) ≡ true → SaysOfSource (limit_of (Some command)) (outcome_of answer) (S.state source.old) (S.state source.new)) }
     ensures refused { IfErr result (IsRefusal command (S.state source.old).left) }
+    ensures memory { IfErr result (λ answer. answer ≡ Status.NoMemory → reads (Some command) ≡ true
+        → WantsToRead (Some command) (S.state source.old) (S.state source.new)) }
     ensures unread { reads (Some command) ≡ false → source.new ≡ source.old }
 {
     match command {

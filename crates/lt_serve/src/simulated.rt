@@ -1,6 +1,6 @@
 ghost use Rattle.std.specs.Prelude.{◌≡◌, ◌<◌, ◌≤◌, IfOk, IfErr, OnOk};
 ghost use Rattle.lt_call.specs.Outcomes.{SaysOfSource};
-ghost use Rattle.lt_io.specs.Streams.{IsReadWhole};
+ghost use Rattle.lt_io.specs.Streams.{IsReadWhole, Rose};
 ghost use Rattle.lt_spec.specs.Script.{IsScript};
 ghost use Rattle.lt_journal.specs.RunLines.{text_of};
 ghost use Rattle.lt_spec.specs.declared.moves.TheConstants.{MAX_MOVES};
@@ -54,6 +54,8 @@ pub(crate) fn simulated<S: Source>(
     ensures whole { OnOk result (IsReadWhole MAX_INPUT (S.state source.old) (S.state source.new)) }
     ensures reading { IfErr result (λ answer. SaysOfSource MAX_INPUT (outcome_of answer) (S.state source.old) (S.state source.new)) }
     ensures refused { IfErr result (IsRefusal command.SimFirst (S.state source.old).left) }
+    ensures memory { IfErr result (λ answer. answer ≡ Status.NoMemory
+        → Rose (S.state source.old).given (S.state source.new).given) }
 {
     let script = read_script(alloc, source)?;
     match scheduled_journal(alloc, &script, moves, schedule) {

@@ -1,6 +1,6 @@
 ghost use Rattle.std.specs.Prelude.{◌≡◌, ◌<◌, ◌≤◌, IfOk, IfErr, OnOk};
 ghost use Rattle.lt_call.specs.Outcomes.{SaysOfSource};
-ghost use Rattle.lt_io.specs.Streams.{IsReadWhole};
+ghost use Rattle.lt_io.specs.Streams.{IsReadWhole, Rose};
 ghost use Rattle.lt_spec.specs.Script.{IsScript};
 ghost use Rattle.lt_merge.specs.Merging.{AreRising};
 ghost use Rattle.lt_journal.specs.RunLines.{text_of};
@@ -100,6 +100,8 @@ pub(crate) fn threaded<R: Threads + Sync, S: Source, G: Gate>(
     ensures whole { OnOk result (IsReadWhole MAX_INPUT (S.state source.old) (S.state source.new)) }
     ensures reading { IfErr result (λ answer. SaysOfSource MAX_INPUT (outcome_of answer) (S.state source.old) (S.state source.new)) }
     ensures refused { IfErr result (IsRefusal (command.Run) (S.state source.old).left) }
+    ensures memory { IfErr result (λ answer. answer ≡ Status.NoMemory
+        → Rose (S.state source.old).given (S.state source.new).given) }
 {
     let script = read_script(alloc, source)?;
     match threads_journal(rt, alloc, &script, setup, gate) {

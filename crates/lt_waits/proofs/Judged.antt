@@ -11,7 +11,7 @@ use Rattle.lt_world.specs.Fields.{WorldData, world_of}
 use Rattle.lt_checker.specs.declared.limits.TheConstants.{MAX_JOURNAL}
 use Rattle.lt_checker.specs.declared.error.InputError.{InputError}
 use Rattle.lt_checker.specs.declared.error.InputError.TheVariants as error
-use Rattle.lt_checker.specs.Input.{IsEndedRun, FailsInput}
+use Rattle.lt_checker.specs.Input.{IsEndedRun, FailsInput, WantsMemory}
 use Rattle.lt_waits.specs.declared.answer.Answer.{Answer}
 use Rattle.lt_waits.specs.Answers.{answer_of_input, outcome_of}
 use Rattle.lt_waits.specs.Serves.{Explains, waits_text, IsReportOf, IsWhyOf, IsUnfit}
@@ -42,6 +42,17 @@ pub unfit_refusal : (answer : Answer) (e : InputError) (before after : SourceSta
     → IsRefusal (IsUnfit before.left answer) (outcome_of answer)
 unfit_refusal answer e before after is fails =
     subst (λ (a : Answer). IsRefusal (IsUnfit before.left a) (outcome_of a)) (sym is) (fails_refusal e before after fails)
+
+fails_wants : (e : InputError) (before after : SourceState) → FailsInput e before after → outcome_of (answer_of_input e) ≡ outcome.NoMemory → WantsMemory before after
+fails_wants error.NoMemory before after fails is = fails.2
+fails_wants error.ReadFault before after fails is = absurd (cc)
+fails_wants error.TooLong before after fails is = absurd (cc)
+fails_wants (error.Refused fault) before after fails is = absurd (cc)
+fails_wants (error.BadJournal line) before after fails is = absurd (cc)
+
+pub unfit_wants : (answer : Answer) (e : InputError) (before after : SourceState) → answer ≡ answer_of_input e → FailsInput e before after
+    → outcome_of answer ≡ outcome.NoMemory → WantsMemory before after
+unfit_wants answer e before after is fails none = fails_wants e before after fails (sym (ap outcome_of is) ∙ none)
 
 -- the report of the world in which the run ended is that of the run
 pub reported : (left : Option (List ℕ)) (script : ScriptData) (world : WorldData) (text : List ℕ) → IsEndedRun left script world

@@ -10,7 +10,7 @@ use Rattle.lt_io.specs.Streams.{SourceState}
 use Rattle.lt_text.specs.Text.{spaced, text}
 use Rattle.lt_law_journals.specs.Checking.{IsFinished}
 use Rattle.lt_checker.specs.declared.limits.TheConstants.{MAX_JOURNAL}
-use Rattle.lt_checker.specs.Input.{DenotesBefore, HasFaultBefore, IsJournalOf, IsBad}
+use Rattle.lt_checker.specs.Input.{DenotesBefore, HasFaultBefore, IsJournalOf, IsBad, WantsMemory}
 use Rattle.lt_call.specs.Calls.{Serves}
 use Rattle.lt_waits.specs.declared.answer.Answer.{Answer}
 use Rattle.lt_waits.specs.declared.answer.Answer.TheVariants.{Refused, BadJournal}
@@ -116,10 +116,12 @@ IsUnfit left other = ⊥
 -- tell of themselves
 abbrev pub ServesReport : {S K : Type 0} → (S → SourceState) → (K → Option (List ℕ)) → (K → ℕ) → ℕ → Answer → S → S → K → K → Type 0
 ServesReport state held write_faults words answer before after sink sink_after =
-    Serves outcome_of IsReportOf IsUnfit MAX_JOURNAL state held write_faults words answer before after sink sink_after
+    Serves outcome_of IsReportOf IsUnfit WantsMemory MAX_JOURNAL state held write_faults words answer
+    before after sink sink_after
 
 -- the answer to the word `why`; and the source and the sink before and after, with what they tell of themselves
 abbrev pub ServesWhy : {S K : Type 0} → (S → SourceState) → (K → Option (List ℕ)) → (K → ℕ)
     → Answer → S → S → K → K → Type 0
 ServesWhy state held write_faults answer before after sink sink_after =
-    Serves outcome_of IsWhyOf IsUnfit MAX_JOURNAL state held write_faults 0 answer before after sink sink_after
+    Serves outcome_of IsWhyOf IsUnfit WantsMemory MAX_JOURNAL state held write_faults 0 answer
+    before after sink sink_after

@@ -1,3 +1,4 @@
+ghost use Rattle.lt_checker.specs.Input.{WantsMemory};
 ghost use Rattle.lt_checker.specs.declared.limits.TheConstants.{MAX_JOURNAL};
 ghost use Rattle.lt_waits.specs.Serves.{IsWhyOf, IsUnfit};
 
@@ -19,6 +20,8 @@ impl Work for Reasons {
     ghost makes = { λ _ left text. IsWhyOf left text };
 
     ghost refuses = { λ _ left answer. IsUnfit left answer };
+
+    ghost wants = { λ _ before after. WantsMemory before after };
 
     fn make<S: Source>(&self, alloc: Global, source: &mut S) -> Result<Vec<u8>, Answer> {
         let ended = match check_input(alloc, source) {

@@ -1,3 +1,4 @@
+ghost use Rattle.lt_checker.specs.Input.{WantsMemory};
 ghost use Rattle.lt_checker.specs.declared.limits.TheConstants.{MAX_JOURNAL};
 ghost use Rattle.lt_waits.specs.Serves.{IsReportOf, IsUnfit};
 
@@ -20,6 +21,8 @@ impl Work for Waits {
     ghost makes = { λ _ left text. IsReportOf left text };
 
     ghost refuses = { λ _ left answer. IsUnfit left answer };
+
+    ghost wants = { λ _ before after. WantsMemory before after };
 
     fn make<S: Source>(&self, alloc: Global, source: &mut S) -> Result<Vec<u8>, Answer> {
         let ended = match check_input(alloc, source) {

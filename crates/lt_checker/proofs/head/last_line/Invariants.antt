@@ -1,10 +1,10 @@
--- A line begins at the place where the last one begins.
+-- The last line of the bytes that were seen begins at its place, and no line before it is `journal`.
 use Rattle.std.proofs.Common.{◌≤◌, take}
-use Rattle.lt_law_journals.specs.Checking.{EndsLine}
+use Rattle.lt_checker.specs.Heads.{IsLastLine}
 use Rattle.lt_checker.proofs.head.last_line.Given as goal
 
 abbrev pub invariant-loop-k : goal.invariant-loop-k
 invariant-loop-k l = record {
   place : l.last ≤ l.k;
-  line : EndsLine (take l.last l.bytes);
+  line : IsLastLine (take l.k l.bytes) l.last;
 }

@@ -1,7 +1,7 @@
 -- What was read so far is what the source gave, and the last line in it begins at its place.
-use Rattle.std.proofs.Common.{◌≤◌, ◌-◌, take, vec_len}
+use Rattle.std.proofs.Common.{◌≤◌, ◌-◌, vec_len}
 use Rattle.lt_io.specs.Streams.{ReadsOn}
-use Rattle.lt_law_journals.specs.Checking.{EndsLine}
+use Rattle.lt_checker.specs.Heads.{IsLastLine}
 use Rattle.lt_checker.specs.declared.limits.TheConstants.{MAX_JOURNAL}
 use Rattle.lt_checker.proofs.head.read_head.Given as goal
 
@@ -10,7 +10,7 @@ invariant-loop-bytes g l = record {
   read : ReadsOn l.bytes.items (g.S.Source.state l.initial.source) (g.S.Source.state l.source);
   no_longer : vec_len l.bytes ≤ MAX_JOURNAL;
   place : l.line ≤ vec_len l.bytes;
-  line : EndsLine (take l.line l.bytes.items);
+  line : IsLastLine l.bytes.items l.line;
 }
 
 abbrev pub decreases-loop-bytes : goal.decreases-loop-bytes

@@ -3,8 +3,7 @@ use Rattle.lt_text.specs.Text.{lines}
 use Rattle.lt_script.specs.Reading.{read_of}
 use Rattle.lt_journal.specs.declared.splitting.Parts.{Parts}
 use Rattle.lt_journal.specs.Split.{input_parts}
-use Rattle.lt_law_journals.specs.Checking.{checked}
-use Rattle.lt_checker.specs.Checker.{IsWorldAnswer}
+use Rattle.lt_checker.specs.Heads.{IsJournalAnswer}
 use Rattle.lt_checker.specs.declared.limits.TheConstants.{MAX_JOURNAL}
 use Rattle.lt_checker.proofs.Moving.{journal_few, line_within, lines_few, same_parts}
 use Rattle.lt_checker.proofs.input.judged.Goals as goal
@@ -22,7 +21,7 @@ returns-clause-answer g c =
     c.split_at.ensures.back ∙ ap (λ (p : Parts). drop p.journal bytes) parts in (
       rest,
       c.answered.ensures.answer (bytes ++ rest) (ap read_of same.script ∙ read) (ap (λ (p : Parts). p.lines) (parts ∙ sym same.parts))
-          (subst (λ (b : List ℕ). IsWorldAnswer script (checked script (lines b)) c.in_ok-told.told)
+          (subst (λ (b : List ℕ). IsJournalAnswer script (lines b) c.in_ok-told.told)
           (ap (λ (b : List ℕ). b ++ rest) journal ∙ sym same.journal) heard.1),
       heard.2,
     )
@@ -34,5 +33,5 @@ pub answered-requires-clause-line : goal.answered-requires-clause-line
 answered-requires-clause-line g c =
     let heard = c.in_ok-told.ensures.told in
     let few = journal_few c.args.bytes.now heard.0 c.split-parts.result.journal c.args.room _ _ c.requires.few c.requires.room heard.2 in
-    line_within c.in-Ok.script (c.split_at.result.1.now ++ heard.0) c.in_ok-told.told (2 * MAX_JOURNAL) heard.1
+    line_within c.in-Ok.script (c.split_at.result.1.now ++ heard.0) c.in_ok-told.told (2 * MAX_JOURNAL) heard.1.answer
     (subst (λ (first : List ℕ). length (first ++ heard.0) ≤ 2 * MAX_JOURNAL) (sym c.split_at.ensures.back) few)

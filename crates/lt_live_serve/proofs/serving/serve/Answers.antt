@@ -15,7 +15,7 @@ returns-in-Err g c =
     let none : length c.args.words.now ≡ 0 = search rules in
     refusal_serves g.S.Source.state g.K.Sink.held g.K.Sink.faults (length c.args.words.now) c.without_run-in-Err.result c.in-Err.status
     c.args.source.now c.make.new.source c.args.sink.now none c.without_run-in-Err.ensures.status c.without_run-in-Err.ensures.run
-    c.without_run-in-Err.ensures.polled c.in-Err.ensures.refused c.in-Err.ensures.reading
+    c.without_run-in-Err.ensures.polled c.in-Err.ensures.refused c.in-Err.ensures.reading c.in-Err.ensures.memory
 
 pub returns-then-not-is_empty : goal.returns-then-not-is_empty
 returns-then-not-is_empty g c =

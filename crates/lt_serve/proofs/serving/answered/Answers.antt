@@ -22,3 +22,4 @@ returns-in-Err-make-clause-served g c =
     refusal_serves g.S.Source.state g.K.Sink.held g.K.Sink.faults c.args.setup.moves _
     c.in-Ok-Some.command c.without_run-in-Err-make.result c.in-Err-make.status c.args.source.now c.make.new.source c.args.sink.now is
     c.without_run-in-Err-make.ensures.status c.without_run-in-Err-make.ensures.run c.in-Err-make.ensures.refused c.in-Err-make.ensures.reading c.make.ensures.unread
+    c.in-Err-make.ensures.memory

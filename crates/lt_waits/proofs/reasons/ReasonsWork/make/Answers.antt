@@ -1,4 +1,4 @@
-use Rattle.lt_waits.proofs.Judged.{unfit_says, unfit_refusal, said_why}
+use Rattle.lt_waits.proofs.Judged.{unfit_says, unfit_refusal, unfit_wants, said_why}
 use Rattle.lt_waits.proofs.reasons.ReasonsWork.make.Goals as goal
 
 pub returns-in-Err-clause-reading : goal.returns-in-Err-clause-reading
@@ -8,6 +8,10 @@ returns-in-Err-clause-reading g c =
 pub returns-in-Err-clause-refused : goal.returns-in-Err-clause-refused
 returns-in-Err-clause-refused g c =
     unfit_refusal c.from.result c.in-Err.error (g.S.Source.state c.args.source.now) (g.S.Source.state c.check_input.new.source) c.from.ensures c.in-Err.ensures.err
+
+pub returns-in-Err-clause-memory : goal.returns-in-Err-clause-memory
+returns-in-Err-clause-memory g c =
+    unfit_wants c.from.result c.in-Err.error (g.S.Source.state c.args.source.now) (g.S.Source.state c.check_input.new.source) c.from.ensures c.in-Err.ensures.err
 
 pub why-requires : goal.why-requires
 why-requires g c = c.in-Ok.ensures.told.script_is
