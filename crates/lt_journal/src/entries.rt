@@ -14,7 +14,7 @@ use lt_script::Script;
 use std::alloc::AllocError;
 
 /// Writes the line of a move: `move CLOCK NODE act CLIENT` or `move CLOCK NODE take FROM`.
-pub fn move_line(text: &mut Text, wording: &Wording, made: Move) -> Result<(), AllocError>
+pub(crate) fn move_line(text: &mut Text, wording: &Wording, made: Move) -> Result<(), AllocError>
     ensures { OnOk result (text.new ≡ text.old ++ line_text wording.now (MoveLine made.stamp.clock made.stamp.node made.step)) }
 {
     text.first_word("move")?;

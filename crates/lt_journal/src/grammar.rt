@@ -5,6 +5,7 @@ ghost use Rattle.lt_journal.specs.Grammar.{read_line, line_of_two, line_of_four,
 
 use crate::line::Line;
 use crate::meaning::{bool_of, lock, modes, node, step};
+use crate::moves::{after_move, move_line};
 use lt_modes::{Event, Mode};
 use lt_script::Script;
 use lt_tally::Holding;
@@ -25,6 +26,9 @@ pub fn read_line(script: &Script, line: &[u8]) -> Line
 fn line_of(script: &Script, line: &[u8]) -> Option<Line>
     ensures { unwrap_or result Bad ≡ read_line script.now line.now }
 {
+    if let Some(words) = after_move(line) {
+        return move_line(script, words);
+    }
     let (word, rest) = next_field(line);
     let (a, rest) = next_field(rest?);
     let Some(rest) = rest else {

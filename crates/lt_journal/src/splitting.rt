@@ -1,8 +1,9 @@
-ghost use Rattle.std.specs.Prelude.{◌≡◌, ◌<◌, ◌^◌, length, position};
-ghost use Rattle.lt_text.specs.Text.{is_line_end};
+ghost use Rattle.std.specs.Prelude.{◌≡◌, ◌<◌, ◌^◌, length, position, IfSome};
+ghost use Rattle.lt_text.specs.Text.{lines, is_line_end, first_and, LeavesLess};
 ghost use Rattle.lt_journal.specs.Split.{is_journal_line, after_first_line, input_parts};
 
-use lt_text::{is, next_line, next_word};
+use lt_text::{is, next_word, trim_return};
+use memchr::memchr;
 
 /// Where an input is cut into a script and a journal.
 ///
@@ -23,8 +24,7 @@ pub fn split(bytes: &[u8]) -> Parts
 {
     let mut rest = bytes;
     let mut lines: u32 = 0;
-    while let Some((line, _)) = next_line(rest) {
-        let after = after_line(rest);
+    while let Some((line, after)) = first_line(rest) {
         if is_journal_line(line) {
             return Parts {
                 script: (bytes.len() - rest.len()) as u32,
@@ -43,26 +43,39 @@ pub fn split(bytes: &[u8]) -> Parts
     }
 }
 
-// Whether `journal` is the only word of the line.
+// Whether `journal` is the only word of the line. Most lines are told apart by their first byte.
 fn is_journal_line(line: &[u8]) -> bool
     ensures { result ≡ is_journal_line line.now }
 {
+    if line.is_empty() {
+        return false;
+    }
+    let first = line[0];
+    if first != b'j' && first != b' ' && first != b'\t' {
+        return false;
+    }
     let Some((word, rest)) = next_word(line) else {
         return false;
     };
     is(word, "journal") && next_word(rest).is_none()
 }
 
-// What stands after the first line with its line end.
-fn after_line(bytes: &[u8]) -> &[u8]
-    ensures { result.now ≡ after_first_line bytes.now }
+// The first line without its line end, and what stands after that; none of no bytes.
+fn first_line(bytes: &[u8]) -> Option<(&[u8], &[u8])>
+    ensures lines { lines bytes.now ≡ first_and lines result }
+    ensures shorter { LeavesLess bytes.now result }
+    ensures after { IfSome result (λ found. found.1.now ≡ after_first_line bytes.now) }
 {
+    if bytes.is_empty() {
+        return None;
+    }
     match line_end(bytes) {
         Some(end) => {
-            let (_, rest) = bytes.split_at(end + 1);
-            rest
+            let (line, _) = bytes.split_at(end);
+            let (_, after) = bytes.split_at(end + 1);
+            Some((trim_return(line), after))
         }
-        None => &[],
+        None => Some((trim_return(bytes), &[])),
     }
 }
 
@@ -70,5 +83,5 @@ fn after_line(bytes: &[u8]) -> &[u8]
 fn line_end(bytes: &[u8]) -> Option<usize>
     ensures { result ≡ position is_line_end bytes.now }
 {
-    bytes.iter().position(|byte| *byte == b'\n')
+    memchr(b'\n', bytes)
 }

@@ -31,29 +31,31 @@ pub(crate) struct LockWords {
 /// A script with its names as a journal has them, so that they are written fast. Each entry says what it is of: one
 /// that stands at another place is passed over, and the name is taken from the script.
 #[derive(Drop)]
-pub(crate) struct Wording<'a> {
-    script: &'a Script,
+pub struct Wording {
+    script: Script,
     clients: Vec<ClientWord>,
     locks: Vec<LockWords>,
 }
 
-impl<'a> Model for Wording<'a> {
+impl Model for Wording {
     ghost use Rattle.lt_modes.specs.Script.{ScriptData};
     ghost use Rattle.lt_journal.specs.Wording.{AreClientWords, AreLockWords};
 
     ghost Value = { ScriptData };
 
-    ghost view = { λ s. s.script.now };
+    ghost view = { λ s. s.script };
 
-    ghost invariant = { λ s. AreClientWords s.script.now s.clients.items × AreLockWords s.script.now s.locks.items };
+    ghost invariant = { λ s. AreClientWords s.script s.clients.items × AreLockWords s.script s.locks.items };
 }
 
-impl<'a> Wording<'a> {
-    pub fn new(alloc: Global, script: &'a Script) -> Result<Wording<'a>, AllocError>
+impl Wording {
+    /// The names of the script, of which it keeps a copy.
+    pub fn new(alloc: Global, script: &Script) -> Result<Wording, AllocError>
         ensures { IfOk result (λ s. s ≡ script.now) }
     {
         let clients = client_words(alloc, script)?;
         let locks = lock_words(alloc, script)?;
+        let script = script.copy(alloc)?;
         Ok(Wording {
             script,
             clients,
@@ -64,41 +66,41 @@ impl<'a> Wording<'a> {
     pub fn script(&self) -> &Script
         ensures { result.now ≡ self.now }
     {
-        self.script
+        &self.script
     }
 
     /// Writes the client's name as a later word of a line.
     #[inline(always)]
-    pub fn client(&self, text: &mut Text, client: u16) -> Result<(), AllocError>
+    pub(crate) fn client(&self, text: &mut Text, client: u16) -> Result<(), AllocError>
         ensures { OnOk result (text.new ≡ text.old ++ after_space (client_name self.now client)) }
     {
         match self.word_of_client(client) {
             Some(word) => text.padded(word),
-            None => text.word(client_name(self.script, client)),
+            None => text.word(client_name(&self.script, client)),
         }
     }
 
     /// Writes the client's name as the last word of a line, with the line end.
     #[inline(always)]
-    pub fn last_client(&self, text: &mut Text, client: u16) -> Result<(), AllocError>
+    pub(crate) fn last_client(&self, text: &mut Text, client: u16) -> Result<(), AllocError>
         ensures { OnOk result (text.new ≡ text.old ++ after_space (client_name self.now client) ++ 10 ∷ []) }
     {
         if let Some(word) = self.word_of_client(client) {
             return text.padded_line(word);
         }
-        text.word(client_name(self.script, client))?;
+        text.word(client_name(&self.script, client))?;
         text.end_line()
     }
 
     /// Writes the set and the mode as the last words of a line, with the line end.
-    pub fn last_lock(&self, text: &mut Text, set: u8, mode: Mode) -> Result<(), AllocError>
+    pub(crate) fn last_lock(&self, text: &mut Text, set: u8, mode: Mode) -> Result<(), AllocError>
         ensures { OnOk result (text.new ≡ text.old
             ++ after_space (set_name self.now set) ++ after_space (word_of mode) ++ 10 ∷ []) }
     {
         if let Some(words) = self.words_of_lock(set, mode) {
             return text.padded_line(words);
         }
-        text.word(set_name(self.script, set))?;
+        text.word(set_name(&self.script, set))?;
         text.word(mode.word().as_bytes())?;
         text.end_line()
     }

@@ -17,19 +17,19 @@ loop-line-init c = record {
 pub overflow_sub-result-then-is_journal_line : goal.overflow_sub-result-then-is_journal_line
 overflow_sub-result-then-is_journal_line c =
     let first = first_line c.loop-line.rest.now _ _ c.in-Some.ensures.lines in
-    omega (arith, first.shorter, c.loop-line.invariant.few, ap (λ (bytes : List ℕ). length bytes) c.after_line-after.ensures)
+    omega (arith, first.shorter, c.loop-line.invariant.few, ap (λ (bytes : List ℕ). length bytes) c.in-Some.ensures.after)
 
 pub loop-line-smaller : goal.loop-line-smaller
 loop-line-smaller c =
     let first = first_line c.loop-line.rest.now _ _ c.in-Some.ensures.lines in
-    omega (arith, first.shorter, ap (λ (bytes : List ℕ). length bytes) c.after_line-after.ensures)
+    omega (arith, first.shorter, ap (λ (bytes : List ℕ). length bytes) c.in-Some.ensures.after)
 
 pub loop-line-preserved : goal.loop-line-preserved
 loop-line-preserved c =
     let n = c.loop-line.lines in
-    let after = c.after_line-after.ensures in
+    let after = c.in-Some.ensures.after in
     let first = first_line c.loop-line.rest.now _ _ c.in-Some.ensures.lines in
-    let lines_are : lines c.loop-line.rest.now ≡ c.in-Some.line.now ∷ lines c.after_line-after.result.now =
+    let lines_are : lines c.loop-line.rest.now ≡ c.in-Some.line.now ∷ lines c.in-Some.after.now =
     c.in-Some.ensures.lines ∙ ap (λ (ls : List (List ℕ)). c.in-Some.line.now ∷ ls) (sym (ap lines after ∙ first.others)) in
     let one : suc n ≡ n + 1 = omega arith in
     let other : is_journal_line c.in-Some.line.now ≡ false = sym c.is_journal_line.ensures ∙ c.if-is_journal_line.false in

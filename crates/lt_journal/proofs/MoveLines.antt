@@ -1,0 +1,140 @@
+-- A line that begins with the word `move` and two numbers.
+use Rattle.std.proofs.Common.{◌≡◌, ◌∙◌, ℕ, zero, suc, ◌+◌, ◌-◌, ◌*◌, ◌<◌, ◌≤◌, ◌^◌, ◌==◌, ◌&&◌, not, nat_lt, nat_le, Bool, true, false, cond, List, [], ◌∷◌, ◌++◌, codes, length, take, drop, get_or, Option, Some, None, refl, sym, ap, subst, arith, take-append-drop, length-take-le, lt-ltb, le-leb, leb-true, ne_eqb}
+use denote.Ref.{Bor}
+use Rattle.std.specs.Char.{is_ascii_digit}
+use Rattle.std.specs.Str.Parse.{digits_value}
+use Rattle.std.proofs.Math.Seq.{split_at}
+use Rattle.std.proofs.lemmas.Bool.{and_parts, false≢true}
+use Rattle.std.proofs.lemmas.List.{take_more}
+use Rattle.std.proofs.lemmas.Int.Digits.{digits_value_more}
+use Rattle.std.proofs.lemmas.Str.{digit_value_digit}
+use Rattle.lt_text.specs.Text.{fields, is_space, HasNone}
+use Rattle.lt_text.specs.Number.{are_digits, has_leading_zero, exact_number}
+use Rattle.lt_text.proofs.TextLemmas.{field_piece}
+use Rattle.lt_text.proofs.NumberLemmas.{few_digits}
+use Rattle.lt_modes.specs.Script.{ScriptData}
+use Rattle.lt_spec.specs.Holdings.{Holding}
+use Rattle.lt_journal.specs.declared.line.Line.{Line}
+use Rattle.lt_journal.specs.declared.line.Line.TheVariants.{Bad}
+use Rattle.lt_journal.specs.Grammar.{lock_of, lock_line, line_of, move_of, step_line, BeginsWithNumber}
+
+-- the word `move` is the first field
+pub move_first : (line : List ℕ) → take 5 line ≡ codes "move " → fields line ≡ codes "move" ∷ fields (drop 5 line)
+move_first line first =
+    ap fields (sym (take-append-drop 5 line) ∙ ap (λ (front : List ℕ). front ++ drop 5 line) first)
+    ∙ field_piece (codes "move") 32 (drop 5 line) (refl, (refl, (refl, (refl, tt)))) refl
+
+-- What a number's digits are, one by one.
+
+digits_push : (front : List ℕ) (byte : ℕ) → are_digits front ≡ true → is_ascii_digit byte ≡ true → are_digits (front ++ byte ∷ []) ≡ true
+digits_push [] byte digits digit = rw digit refl
+digits_push (x ∷ front) byte digits digit =
+    let parts = and_parts (is_ascii_digit x) (are_digits front) digits in
+    rw (parts.0, digits_push front byte parts.1 digit) refl
+
+no_spaces : (front : List ℕ) → are_digits front ≡ true → HasNone is_space front
+no_spaces [] digits = tt
+no_spaces (x ∷ front) digits =
+    let parts = and_parts (is_ascii_digit x) (are_digits front) digits in
+    (not_space x parts.0, no_spaces front parts.1)
+  where
+    not_space : (x : ℕ) → is_ascii_digit x ≡ true → is_space x ≡ false
+    not_space x digit = ne_eqb x 32 (λ space. let h : is_ascii_digit 32 ≡ true = subst (λ (n : ℕ). is_ascii_digit n ≡ true) space digit in cc)
+
+-- the first bytes are the digits of this number
+pub record IsNumberSoFar (words : List ℕ) (k value : ℕ) : Type 0 where
+  pub digits : are_digits (take k words) ≡ true
+  pub value_is : value ≡ digits_value 10 (take k words)
+  pub few : k ≤ 9
+  pub inside : k ≤ length words
+
+pub no_digits : (words : List ℕ) → IsNumberSoFar words 0 0
+no_digits [] = record { digits = refl; value_is = refl; few = omega arith; inside = omega arith }
+no_digits (x ∷ words) = record { digits = refl; value_is = refl; few = omega arith; inside = omega arith }
+
+pub small_value : (words : List ℕ) (k value : ℕ) → IsNumberSoFar words k value → k < 9 → value < 10 ^ 8
+small_value words k value is few =
+    omega (arith, is.value_is, few_digits (take k words) 8 is.digits (omega (arith, few, length-take-le k words is.inside)))
+
+pub digit_more : (words : List ℕ) (k value : ℕ) → IsNumberSoFar words k value → k < length words → k < 9 → is_ascii_digit (get_or words k 0) ≡ true
+    → IsNumberSoFar words (k + 1) (value * 10 + (get_or words k 0 - 48))
+digit_more words k value is inside few digit =
+    let parts = and_parts (nat_le 48 (get_or words k 0)) (nat_le (get_or words k 0) 57) digit in
+    record {
+      digits = ap are_digits (take_more words k 0 inside) ∙ digits_push (take k words) (get_or words k 0) is.digits digit;
+      value_is = omega (arith, is.value_is, digits_value_more 10 words k inside,
+          digit_value_digit (get_or words k 0) (leb-true 48 (get_or words k 0) parts.0, leb-true (get_or words k 0) 57 parts.1));
+      few = omega (arith, few);
+      inside = omega (arith, inside);
+    }
+
+leading : (words : List ℕ) (k : ℕ) → (1 < k → get_or words 0 0 ≡ 48 → ⊥) → has_leading_zero (take k words) ≡ false
+leading [] zero other = refl
+leading [] (suc k) other = refl
+leading (x ∷ words) zero other = refl
+leading (x ∷ words) (suc zero) other = refl
+leading (x ∷ words) (suc (suc k)) other = rw (ne_eqb x 48 (other (omega arith))) (and_false (nat_lt 1 (length (x ∷ take (suc k) words))))
+  where
+    and_false : (b : Bool) → (b && false) ≡ false
+    and_false true = refl
+    and_false false = refl
+
+exact_short : (word : List ℕ) → 0 < length word → length word ≤ 9 → are_digits word ≡ true → has_leading_zero word ≡ false
+    → exact_number word ≡ Some (digits_value 10 word)
+exact_short word some few digits none =
+    rw (
+      lt-ltb 0 (length word) some,
+      le-leb (length word) 10 (omega (arith, few)),
+      digits,
+      none,
+      lt-ltb (digits_value 10 word) (2 ^ 32) (omega (arith, few_digits word 9 digits few)),
+    ) refl
+
+-- the number ends at a space
+pub number_first : (words : List ℕ) (k : ℕ) (found : ℕ × Bor (List ℕ)) → IsNumberSoFar words k found.0 → k < length words → get_or words k 0 ≡ 32
+    → (k ≡ 0 → ⊥) → (1 < k → get_or words 0 0 ≡ 48 → ⊥) → found.1.now ≡ drop (k + 1) words → BeginsWithNumber (fields words) (Some found)
+number_first words k found is inside space some other rest =
+    let word = take k words in
+    let size = length-take-le k words is.inside in
+    let next : suc k ≡ k + 1 = omega arith in
+    let parts : words ≡ word ++ 32 ∷ found.1.now =
+    split_at words k 0 inside
+    ∙ (ap (λ (byte : ℕ). word ++ byte ∷ drop (suc k) words) space
+    ∙ (ap (λ (n : ℕ). word ++ 32 ∷ drop n words) next ∙ ap (λ (bytes : List ℕ). word ++ 32 ∷ bytes) (sym rest))) in
+    let cut : fields words ≡ word ∷ fields found.1.now = ap fields parts ∙ field_piece word 32 found.1.now (no_spaces word is.digits) refl in
+    let exact : exact_number word ≡ Some found.0 =
+    exact_short word (omega (arith, size, some)) (omega (arith, size, is.few)) is.digits (leading words k other) ∙ ap (λ (n : ℕ). Some n) (sym is.value_is) in
+    subst (λ (ws : List (List ℕ)). BeginsWithNumber ws (Some found)) (sym cut) (exact, refl)
+
+-- What a line of the word `move` says.
+
+pub says_move : (script : ScriptData) (words : List (List ℕ)) → line_of script (codes "move" ∷ words) ≡ move_of script words
+says_move script [] = refl
+says_move script (a ∷ []) = refl
+says_move script (a ∷ b ∷ []) = refl
+says_move script (a ∷ b ∷ c ∷ []) = by_lock (lock_of script a b c)
+  where
+    by_lock : (lock : Option Holding) → lock_line (codes "move") lock ≡ Bad
+    by_lock None = refl
+    by_lock (Some lock) = refl
+says_move script (a ∷ b ∷ c ∷ d ∷ []) = refl
+says_move script (a ∷ b ∷ c ∷ d ∷ e ∷ later) = refl
+
+two_numbers : (script : ScriptData) (a b : List ℕ) (clock node : ℕ) (words : List (List ℕ)) → exact_number a ≡ Some clock → exact_number b ≡ Some node
+    → move_of script (a ∷ b ∷ words) ≡ step_line script clock node words
+two_numbers script a b clock node [] is also = refl
+two_numbers script a b clock node (c ∷ []) is also = refl
+two_numbers script a b clock node (c ∷ d ∷ []) is also = rw (is, also) refl
+two_numbers script a b clock node (c ∷ d ∷ e ∷ later) is also = refl
+
+pub numbers_first : (script : ScriptData) (a : List ℕ) (words : List (List ℕ)) (clock node : ℕ × Bor (List ℕ)) → BeginsWithNumber (a ∷ words) (Some clock)
+    → BeginsWithNumber (fields clock.1.now) (Some node) → move_of script (a ∷ words) ≡ step_line script clock.0 node.0 (fields node.1.now)
+numbers_first script a [] clock node first second = absurd (first)
+numbers_first script a (b ∷ later) clock node first second =
+    by_later later first.0 (subst (λ (ws : List (List ℕ)). BeginsWithNumber ws (Some node)) first.1 second)
+  where
+    by_later : (later : List (List ℕ)) → exact_number a ≡ Some clock.0 → BeginsWithNumber (b ∷ later) (Some node)
+        → move_of script (a ∷ b ∷ later) ≡ step_line script clock.0 node.0 (fields node.1.now)
+    by_later [] is next = absurd (next)
+    by_later (c ∷ later) is next =
+        two_numbers script a b clock.0 node.0 (c ∷ later) is next.0 ∙ ap (step_line script clock.0 node.0) (sym next.1)
