@@ -9,8 +9,11 @@ use Rattle.lt_serve.specs.declared.status.Status.{Status}
 use Rattle.lt_serve.specs.declared.status.Status.TheVariants.{NoMemory}
 use Rattle.lt_serve.specs.Serves.{GoesWell}
 use Rattle.lt_live_serve.specs.declared.status.Status.TheVariants as live
+use Rattle.lt_script.specs.Reading.{read_of}
+use Rattle.lt_live_serve.specs.Serves.{IsFirstOver, IsOverShare}
 use Rattle.lt_law_pinned.specs.EndCalls.{OrderEnds, LiveOrderEnds, DenoteOrdered}
 use Rattle.lt_law_pinned.specs.OtherAnswers.{untouched}
+use Rattle.lt_law_pinned.proofs.TwoWritersSay.{same_script}
 use Rattle.lt_law_pinned.proofs.CheckAnswers.{goes_well}
 use Rattle.lt_law_pinned.proofs.LiveCallsOpened.{goes_well as live_goes_well, did_read, live_so}
 
@@ -51,4 +54,8 @@ live_order_ends = record {
       reads.serves.ends.ordered
       (live_goes_well c bytes script (record { read = so.read; fit = none }) reads fine)
       (denotes c.source.left bytes script reads.input so);
+  share = λ c bytes script client reads read e.
+      let over = subst (λ (left : Option (List ℕ)). IsOverShare left client) reads.input (reads.serves.share client e) in
+      subst (λ (s : ScriptData). IsFirstOver s (Some client))
+      (same_script over.0 script (read_of bytes) over.1 read) over.2;
 }

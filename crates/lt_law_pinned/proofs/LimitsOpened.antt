@@ -14,7 +14,7 @@ use Rattle.lt_script.specs.Printing as printing
 use Rattle.lt_script.specs.declared.fault.ScriptFault.{ScriptFault}
 use Rattle.lt_script.specs.Reading.{read_of}
 use Rattle.lt_script.specs.Reading as reading
-use Rattle.lt_gen.specs.Generator.{script_of}
+use Rattle.lt_gen.specs.Generator.{script_of, seeded}
 use Rattle.lt_gen.specs.Generator as generator
 use Rattle.lt_words.specs.declared.command.Command.{Command}
 use Rattle.lt_words.specs.declared.command.Command.TheVariants.{Run, SimFirst, Sim, Soak}
@@ -28,12 +28,15 @@ use Rattle.lt_checker.specs.Input.{IsJournalOf}
 use Rattle.lt_serve.specs.declared.status.Status.{Status}
 use Rattle.lt_serve.specs.declared.status.Status.TheVariants.{Stuck, Cut, Done}
 use Rattle.lt_serve.specs.Endings.{RanTo, StopsInTime}
-use Rattle.lt_serve.specs.TopCall.{Journals, JournalsBy, Checks, greatest_script}
+use Rattle.lt_serve.specs.declared.schedule.Schedule.{Schedule}
+use Rattle.lt_serve.specs.declared.schedule.Schedule.TheVariants.{First, Drawn}
+use Rattle.lt_serve.specs.Schedules.{AreInOrder}
+use Rattle.lt_serve.specs.TopCall.{Journals, JournalsInOrder, JournalsBy, Checks, greatest_script}
 use Rattle.lt_serve.proofs.NeverCut.{never_cut}
 use Rattle.lt_law_pinned.specs.Worlds.{made_from_233, made_text}
 use Rattle.lt_law_pinned.specs.Whole.{DrawnIs}
 use Rattle.lt_law_pinned.proofs.Numbers.{zero_text, one_text, two_text}
-use Rattle.lt_law_pinned.specs.Told.{WordsAre, OpensRun, RunsTold, TimesTold, two_writers, two_writers_script, both_moves, two_nodes, two_nodes_script, unlocks, four_moves, one_each, one_and_two, WithinTold, FarTold, EachTimeTold, IsNeverCut, EndsTold, SoakTold, CheckedRun, CheckTold, MakeTold, checked_writers, letter_first}
+use Rattle.lt_law_pinned.specs.Told.{WordsAre, OpensRun, RunsTold, OrdersTold, TimesTold, two_writers, two_writers_script, both_moves, two_nodes, two_nodes_script, unlocks, four_moves, one_each, one_and_two, WithinTold, FarTold, EachTimeTold, IsNeverCut, EndsTold, SoakTold, CheckedRun, CheckTold, MakeTold, checked_writers, letter_first}
 
 made : script_of 2 3 20 233 ≡ made_from_233
 unfolding generator.clients_of generator.requests_in generator.draw_of generator.seeded seeds.pcg32_seed steps.word_bytes steps.u32_at
@@ -97,6 +100,26 @@ runs_told = record {
   first = opened SimFirst (Some two_writers) two_writers_script (λ moves ending run text j. ran_so moves ending run text j.journals);
   drawn = λ seed. opened (Sim seed) (Some two_writers) two_writers_script (λ moves ending run text j. ran_so moves ending run text j.journals);
   threads = opened Run (Some two_writers) two_writers_script (λ moves ending run text j. ran_so moves ending run text j.journals);
+}
+
+in_order : (schedule : Schedule) (moves : ℕ) (ending : Status) (bytes : List ℕ) (script : ScriptData) (run : List Logged)
+    (text : List ℕ) → read_of bytes ≡ Ok script → JournalsInOrder schedule moves ending (Some bytes) run text
+    → AreInOrder schedule script run
+in_order schedule moves ending bytes script run text read j =
+    subst (λ (s : ScriptData). AreInOrder schedule s run)
+    (same_script j.journals.script script (read_of bytes) j.journals.denoted read) j.in_order
+
+pub orders_told : OrdersTold
+orders_told = record {
+  first_done = λ moves bytes script run read t. in_order First moves Done bytes script run t.0 read t.1;
+  first_stuck = λ moves bytes script run read t. in_order First moves Stuck bytes script run t.0 read t.1;
+  first_cut = λ node moves bytes script run read t. in_order First moves (Cut node) bytes script run t.0 read t.1;
+  drawn_done = λ seed moves bytes script run read t.
+      in_order (Drawn (seeded seed)) moves Done bytes script run t.0 read t.1;
+  drawn_stuck = λ seed moves bytes script run read t.
+      in_order (Drawn (seeded seed)) moves Stuck bytes script run t.0 read t.1;
+  drawn_cut = λ seed node moves bytes script run read t.
+      in_order (Drawn (seeded seed)) moves (Cut node) bytes script run t.0 read t.1;
 }
 
 pub some_none : (node : ℕ) → Some node ≡ None → ⊥

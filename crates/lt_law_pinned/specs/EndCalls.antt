@@ -12,7 +12,7 @@ use Rattle.lt_serve.specs.Causes.{HasStatusCause}
 use Rattle.lt_serve.specs.Serves.{GoesWell, Ends}
 use Rattle.lt_serve.specs.TopCall.{greatest_script}
 use Rattle.lt_live_serve.specs.declared.status.Status.TheVariants as live
-use Rattle.lt_live_serve.specs.Serves.{NoneIsOver}
+use Rattle.lt_live_serve.specs.Serves.{IsFirstOver, NoneIsOver}
 use Rattle.lt_law_pinned.specs.LiveCalls.{LiveCall, ReadsBytes, IsUntroubled}
 use Rattle.lt_law_pinned.specs.OtherAnswers.{untouched}
 
@@ -65,3 +65,6 @@ pub record LiveOrderEnds : Type 0 where
   -- where no client has too many commands
   pub done : (c : LiveCall) (bytes : List ℕ) (script : ScriptData) → ReadsBytes bytes c → IsUntroubled c
       → DenoteOrdered bytes script → NoneIsOver script (length script.clients) → c.answer.status ≡ live.Done
+  -- the client that is named as one that has too many is the least
+  pub share : (c : LiveCall) (bytes : List ℕ) (script : ScriptData) (client : ℕ) → ReadsBytes bytes c
+      → read_of bytes ≡ Ok script → c.answer.status ≡ live.Share client → IsFirstOver script (Some client)

@@ -1,5 +1,5 @@
 -- What an answer says of the run that a command made.
-use Rattle.std.specs.Prelude.{◌≡◌, Bool, true, false, ℕ, List, [], ◌∷◌, Option, Some, None, codes, ◌<◌, count_by, ◌≤◌, ◌++◌}
+use Rattle.std.specs.Prelude.{◌≡◌, Bool, true, false, ℕ, List, [], ◌∷◌, Option, Some, None, Ok, codes, ◌<◌, count_by, ◌≤◌, ◌++◌}
 use Rattle.lt_modes.specs.declared.mode.Mode.TheVariants.{Write, Read}
 use Rattle.lt_modes.specs.declared.command.Command.TheVariants.{Lock, Unlock}
 use Rattle.lt_modes.specs.declared.event.Event.TheVariants.{Grant, Wait, NotHeld}
@@ -7,6 +7,8 @@ use Rattle.lt_modes.specs.Script.{ScriptData}
 use Rattle.lt_spec.specs.World.{Logged, world_after, is_at_rest, anyone_waits, IsRun, full_node, is_of_node, can_move}
 use Rattle.lt_spec.specs.Promised.{Promised}
 use Rattle.lt_text.specs.Text.{lines}
+use Rattle.lt_gen.specs.Generator.{seeded}
+use Rattle.lt_script.specs.Reading.{read_of}
 use Rattle.lt_words.specs.declared.command.Command.{Command}
 use Rattle.lt_words.specs.declared.command.Command.TheVariants.{Run, SimFirst, Sim, Soak, Check, Make, Order}
 use Rattle.lt_words.specs.Grammar.{command_of}
@@ -15,6 +17,9 @@ use Rattle.lt_law_examples.specs.Worked.{declared_set, declared_client, act, tak
 use Rattle.lt_law_journals.specs.Checking.{journal_in, journal_lines}
 use Rattle.lt_serve.specs.declared.status.Status.{Status}
 use Rattle.lt_serve.specs.declared.status.Status.TheVariants.{Done, Stuck, Cut}
+use Rattle.lt_serve.specs.declared.schedule.Schedule.{Schedule}
+use Rattle.lt_serve.specs.declared.schedule.Schedule.TheVariants.{First, Drawn}
+use Rattle.lt_serve.specs.Schedules.{AreInOrder}
 use Rattle.lt_serve.specs.TopCall.{Did, greatest_script}
 use Rattle.lt_serve.specs.declared.serving.TheConstants.{USUAL}
 use Rattle.lt_law_pinned.specs.Worlds.{made_text}
@@ -72,6 +77,21 @@ pub record RunsTold : Type 0 where
 pub record TimesTold : Type 0 where
   pub first : IsNeverTold 1 SimFirst Stuck (Some two_writers) both_moves
   pub drawn : (seed : ℕ) → IsNeverTold 1 (Sim seed) Stuck (Some two_writers) both_moves
+
+-- the moves of the runs of any input that are told so come in the order of this schedule
+abbrev pub IsInOrderOf : Schedule → Command → Status → Type 0
+IsInOrderOf schedule command status =
+    (moves : ℕ) (bytes : List ℕ) (script : ScriptData) (run : List Logged) → read_of bytes ≡ Ok script
+    → SaysOf moves command status (Some bytes) run → AreInOrder schedule script run
+
+-- however a run ended, each of its moves is the one that comes first, or that the seed draws
+pub record OrdersTold : Type 0 where
+  pub first_done : IsInOrderOf First SimFirst Done
+  pub first_stuck : IsInOrderOf First SimFirst Stuck
+  pub first_cut : (node : ℕ) → IsInOrderOf First SimFirst (Cut node)
+  pub drawn_done : (seed : ℕ) → IsInOrderOf (Drawn (seeded seed)) (Sim seed) Done
+  pub drawn_stuck : (seed : ℕ) → IsInOrderOf (Drawn (seeded seed)) (Sim seed) Stuck
+  pub drawn_cut : (seed node : ℕ) → IsInOrderOf (Drawn (seeded seed)) (Sim seed) (Cut node)
 
 -- What an answer says of how far each node went, in runs that go too far or not far enough.
 

@@ -1,5 +1,7 @@
 -- A script that is made from a seed.
-use Rattle.std.specs.Prelude.{[], ◌∷◌, ◌++◌, ℕ, List, codes, ◌≡◌, ◌<◌, Some, length, take, Contains, IsTrue, ◌==◌, ◌&&◌, if◌then◌else◌, slice_index_or, IsFalse, false, true}
+use Rattle.std.specs.Prelude.{[], ◌∷◌, ◌++◌, ℕ, List, codes, ◌≡◌, ◌<◌, Some, length, take, Contains, IsTrue, ◌==◌, ◌&&◌, if◌then◌else◌, slice_index_or, slice_get, IsFalse, Bool, false, true, ◌↔◌}
+use Rattle.lt_modes.specs.declared.event.Event.TheVariants.{Try as TryLine}
+use Rattle.lt_modes.specs.declared.mode.Mode.{Mode}
 use Rattle.lt_modes.specs.declared.mode.Mode.TheVariants.{IntentionRead, Read, Upgrade, IntentionWrite, Write}
 use Rattle.lt_modes.specs.declared.command.Command.TheVariants.{Lock, Try, Unlock, Change}
 use Rattle.lt_modes.specs.Script.{ScriptData}
@@ -7,9 +9,11 @@ use Rattle.lt_modes.specs.declared.ask.Ask.{Ask}
 use Rattle.lt_modes.specs.declared.parts.Row.{Row}
 use Rattle.lt_modes.specs.declared.moves.Step.{Step}
 use Rattle.lt_modes.specs.State.{Desk, SetState, Body, Letter, Parked, AskBody, CopyBody, TokenBody, ParkedAsk}
-use Rattle.lt_modes.specs.Freezing.{frozen_by}
+use Rattle.lt_modes.specs.Freezing.{can_grant, frozen_by}
 use Rattle.lt_modes.specs.Modes.{conflicts}
 use Rattle.lt_modes.specs.Serving.{ask_at}
+use Rattle.lt_spec.specs.Holdings.{WaitsFor, lines_of, HasOpenWait, IsBarredByLines}
+use Rattle.lt_spec.specs.NodeMove.{home}
 use Rattle.lt_spec.specs.Facts.{state_at, IsLedToQueue, token_count, place_count, IsFirstWaiter}
 use Rattle.lt_spec.specs.World.{Logged, World, world_after, is_at_rest, is_enabled, move_stamp}
 use Rattle.lt_spec.specs.Promised.{sets_of_step, ServesInTurn, Promised, Service, services, before_end, IsInTurn, AsksStandOnce, IsFrozenByQueue}
@@ -93,7 +97,24 @@ made_text =
 abbrev pub OfPromised : (ScriptData → World → Type 0) → Type 0
 OfPromised fact = (script : ScriptData) (run : List Logged) → Promised script run → (k : ℕ) → fact script (world_after script (take k run))
 
+-- a fact of the first entries
+abbrev pub OfPromisedMoves : (ScriptData → List Logged → Type 0) → Type 0
+OfPromisedMoves fact = (script : ScriptData) (run : List Logged) → Promised script run → (k : ℕ) → fact script (take k run)
+
 pub record PromisedOpens : Type 0 where
+  -- in each set a client has an open `wait` line exactly where an unanswered ask of it wants the mode
+  pub waits : OfPromisedMoves (λ script run. (client s : ℕ) (mode : Mode) → client < length script.clients
+      → s < length script.sets
+      → HasOpenWait client s mode (lines_of run) ↔ WaitsFor script (world_after script run) client s mode)
+  -- each `try` of any set is answered as the client's own node could grant before the move
+  pub tries : (script : ScriptData) (run : List Logged) → Promised script run → (k client s : ℕ) (entry : Logged)
+      (mode : Mode) (got : Bool) → slice_get run k ≡ Some entry → Contains entry.events (TryLine client s mode got)
+      → got
+      ≡ can_grant (home script client) (state_at (world_after script (take k run)) s (home script client)) client mode
+  -- at rest the first who waits in a set conflicts with a lock that another client holds
+  pub first : OfPromisedMoves (λ script run. (s : ℕ) (ask : Ask) → IsTrue (is_at_rest script (world_after script run))
+      → s < length script.sets → IsFirstWaiter script (world_after script run) s ask
+      → IsBarredByLines script (lines_of run) s ask)
   -- each enabled move serves in turn each set that it touches
   pub in_turn : OfPromised (λ script w. (s q : ℕ) (step : Step) → IsTrue (is_enabled script w q step)
       → Contains (sets_of_step script w q step) s → ServesInTurn script w q step s)

@@ -1,7 +1,7 @@
 ghost use Rattle.lt_law_pinned.specs.Locks.{LocksExcluded, PlacesExcluded, WaitsExcluded, RestsExcluded, TriesExcluded};
 ghost use Rattle.lt_law_pinned.specs.Worlds.{PromisedOpens, CountsExcluded, StandingExcluded, TurnsExcluded};
 ghost use Rattle.lt_law_pinned.specs.Whole.{WholeIs, DrawnIs};
-ghost use Rattle.lt_law_pinned.specs.Told.{WordsAre, RunsTold, TimesTold, SoakTold, CheckTold, MakeTold, WithinTold, FarTold, EachTimeTold, EndsTold};
+ghost use Rattle.lt_law_pinned.specs.Told.{WordsAre, RunsTold, OrdersTold, TimesTold, SoakTold, CheckTold, MakeTold, WithinTold, FarTold, EachTimeTold, EndsTold};
 
 use lt_law_ends::law_never_cut;
 
@@ -39,6 +39,7 @@ pub fn law_texts()
 pub fn law_told()
     ensures words { WordsAre }
     ensures runs { RunsTold }
+    ensures orders { OrdersTold }
     ensures times { TimesTold }
     ensures each_time { EachTimeTold }
     ensures within { WithinTold }

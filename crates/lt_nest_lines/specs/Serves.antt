@@ -96,4 +96,5 @@ LinesWantMemory before after =
 -- the answer to so many words; and the source and the sink before and after, with what they tell of themselves
 abbrev pub ServesLines : {S K : Type 0} → (S → SourceState) → (K → Option (List ℕ)) → (K → ℕ) → ℕ → Answer → S → S → K → K → Type 0
 ServesLines state held write_faults words answer before after sink sink_after =
-    Serves outcome_of IsWritten IsUnfit LinesWantMemory MAX_INPUT state held write_faults words answer before after sink sink_after
+    Serves outcome_of IsWritten IsUnfit LinesWantMemory MAX_INPUT state held write_faults words answer
+    before after sink sink_after

@@ -1,4 +1,4 @@
-use Rattle.lt_law_pinned.proofs.LimitsOpened.{words_are, runs_told, times_told, soak_told, check_told, make_told, within_told, far_told, each_time_told, ends_told}
+use Rattle.lt_law_pinned.proofs.LimitsOpened.{words_are, runs_told, orders_told, times_told, soak_told, check_told, make_told, within_told, far_told, each_time_told, ends_told}
 use Rattle.lt_law_pinned.proofs.laws.law_told.Goals as goal
 
 pub returns-clause-words : goal.returns-clause-words
@@ -6,6 +6,9 @@ returns-clause-words c = words_are
 
 pub returns-clause-runs : goal.returns-clause-runs
 returns-clause-runs c = runs_told
+
+pub returns-clause-orders : goal.returns-clause-orders
+returns-clause-orders c = orders_told
 
 pub returns-clause-times : goal.returns-clause-times
 returns-clause-times c = times_told
