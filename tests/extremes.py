@@ -48,6 +48,19 @@ SCRIPTS = {
 RING = ['nodes 16'] + [f'set s{k}' for k in range(8)] + [f'client c{k} at {2 * k}' for k in range(8)]
 RING += [f'c{k} lock s{k} write' for k in range(8)] + [f'c{k} lock s{(k + 1) % 8} write' for k in range(8)]
 
+# A ring of all clients: in each set two hold locks that don't conflict, and each of these is in the way of one ask alone. What
+# is given back before they ask is held by nobody: it lets all take their locks first, and the even clients ask first.
+LONG_RING = ['nodes 1'] + [f'set s{k}' for k in range(8)] + [f'client c{k} at 0' for k in range(16)]
+LONG_RING += [f'c{k} lock s{k // 2} {"read" if k % 2 == 0 else "upgrade"}' for k in range(16)]
+LONG_RING += [f'c{k} unlock s0 write' for k in range(16) for _ in range(60 if k % 2 else 30)]
+LONG_RING += [f'c{k} lock s{k // 2} upgrade' for k in range(0, 16, 2)]
+LONG_RING += [f'c{k} lock s{(k + 1) // 2 % 8} intention_write' for k in range(1, 16, 2)]
+
+# A client that is declared first waits for two others, who wait for each other.
+OUTSIDE = ['nodes 1', 'set s', 'client z at 0', 'client a at 0', 'client b at 0', 'a lock s read', 'b lock s read']
+OUTSIDE += ['a unlock s write', 'b unlock s write'] * 20 + ['z unlock s write'] * 60
+OUTSIDE += ['a change s read write', 'b change s read write', 'z lock s write']
+
 # The most clients ask for one set, and none gives it back.
 QUEUE = ['version 2', 'nodes 64', 'set s'] + [f'client c{k} at {k % 64}' for k in range(256)]
 QUEUE += [f'c{k} lock s write' for k in range(256)]
@@ -141,6 +154,8 @@ for name, data in SCRIPTS.items():
         is_so(name, f'{words}: somebody waits', call(name, WAITS, [], whole) == b'no cycle\n')
 for name, words, lines, last in [
     ('a ring', ['sim', '0'], RING, b'cycle ' + b' '.join(b'c%d' % k for k in range(8))),
+    ('a long ring', ['sim', '0'], LONG_RING, b'cycle ' + b' '.join(b'c%d' % k for k in range(16))),
+    ('a ring from outside', ['sim', '0'], OUTSIDE, b'cycle a b'),
     ('the longest queue', ['sim', 'first'], QUEUE, b'ends c255 c0'),
 ]:
     journal = call(name, RUN, words, text_of(lines), 3)

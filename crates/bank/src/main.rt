@@ -13,12 +13,14 @@ use accounts::Bank;
 use anyhow::{Result, bail};
 use caller::{BankCaller, callers_of};
 use lt_checker::check_input;
-use lt_io::{ReaderSource, read_all};
-use lt_live_callers::{Called, Caller, serve_callers};
+use lt_io::{ReaderSource, Source, read_all};
+use lt_live_callers::{Called, Caller, Served, serve_callers};
 use lt_script::Script;
+use std::alloc::Global;
 use std::io::Print;
 use std::str;
 use std::sync::atomic::Ordering;
+use std::thread::Threads;
 
 // The most bytes of a script, the most moves of a node, the threads of callers, with as many of stations, and the most
 // rounds.
@@ -53,17 +55,31 @@ fn look_at(callers: &[Called<BankCaller<'_>>]) -> Result<()> {
     Ok(())
 }
 
+fn script_of<S: Source>(alloc: Global, source: &mut S) -> Result<Script> {
+    let text = read_all(alloc, source, MOST_BYTES)?;
+    Ok(lt_script::read(alloc, &text)?)
+}
+
+// The script and the journal of the run, once all callers came to their end.
+fn text_of(alloc: Global, served: &Served<BankCaller<'_>>) -> Result<Vec<u8>> {
+    look_at(&served.callers)?;
+    Ok(served.text(alloc)?)
+}
+
+// Lets the clerks and the auditor work: the script and the journal of the run.
+fn work<R: Threads + Sync>(rt: &R, alloc: Global, script: &Script, bank: &Bank) -> Result<Vec<u8>> {
+    let callers = callers_of(alloc, script, bank)?;
+    let served = serve_callers(rt, alloc, script, callers, MOST_MOVES, THREADS, ROUNDS)?;
+    text_of(alloc, &served)
+}
+
 fn main(rt: HostRuntime) -> Result<()> {
     let alloc = rt.alloc();
-    let text = read_all(alloc, &mut ReaderSource::new(rt.stdin()), MOST_BYTES)?;
-    let script = lt_script::read(alloc, &text)?;
+    let script = script_of(alloc, &mut ReaderSource::new(rt.stdin()))?;
     let bank = Bank::new(alloc, &script)?;
-    let callers = callers_of(alloc, &script, &bank)?;
-    let served = serve_callers(&rt, alloc, &script, callers, MOST_MOVES, THREADS, ROUNDS)?;
-    look_at(&served.callers)?;
-    print_accounts(&rt, &served.script, &bank)?;
+    let text = work(&rt, alloc, &script, &bank)?;
+    print_accounts(&rt, &script, &bank)?;
     println!(rt; "all together: {}", bank.sum())?;
-    let text = served.text(alloc)?;
     if check_input(alloc, &mut ReaderSource::new(text.as_slice())).is_err() {
         bail!("the journal isn't one of a run");
     }

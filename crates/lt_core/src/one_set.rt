@@ -86,7 +86,7 @@ impl Core {
         };
         Ok(Core {
             set,
-            held: Held::new(alloc)?,
+            held: Held::new(alloc),
             charge: ModeSet::empty(),
             frozen: ModeSet::empty(),
             number: 0,

@@ -8,7 +8,7 @@ ghost use Rattle.lt_journal.specs.Wording.{AreClientWords, AreLockWords};
 use crate::names::{client_name, set_name};
 use crate::padded::Padded;
 use crate::text::Text;
-use lt_modes::{MODES, Mode};
+use lt_modes::{MODES, Mode, place};
 use lt_script::Script;
 use std::alloc::{AllocError, Global};
 use std::marker::Model;
@@ -124,7 +124,7 @@ impl Wording {
     fn words_of_lock(&self, set: u8, mode: Mode) -> Option<&Padded>
         ensures { IfSome result (λ words. words.now ≡ after_space (set_name self.now set) ++ after_space (word_of mode)) }
     {
-        let place = usize::from(set) * MODES.len() + place_of(mode);
+        let place = usize::from(set) * MODES.len() + place(mode);
         if place >= self.locks.len() {
             return None;
         }
@@ -133,20 +133,6 @@ impl Wording {
             Some(words) if own.set == set && own.mode == mode => Some(words),
             _ => None,
         }
-    }
-}
-
-// The place of a mode among all.
-fn place_of(mode: Mode) -> usize
-    ensures { result < 6 }
-{
-    match mode {
-        Mode::IntentionRead => 0,
-        Mode::Read => 1,
-        Mode::Upgrade => 2,
-        Mode::IntentionWrite => 3,
-        Mode::ReadIntentionWrite => 4,
-        Mode::Write => 5,
     }
 }
 

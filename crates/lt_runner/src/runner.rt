@@ -5,7 +5,7 @@ ghost use Rattle.lt_runner.specs.declared.choice.Choice.TheVariants as choices;
 ghost use Rattle.lt_runner.specs.declared.turning.Turned.TheVariants as turns;
 ghost use Rattle.lt_runner.specs.declared.turning.Worked.TheVariants as answers;
 ghost use Rattle.lt_runner.specs.Choices.{next_choice};
-ghost use Rattle.lt_runner.specs.Kept.{RunnerInvariant, AsSeen, Grew, TurnEnds, WorkEnds};
+ghost use Rattle.lt_runner.specs.Kept.{RunnerInvariant, AsSeen, IsFlushed, Grew, TurnEnds, WorkEnds};
 ghost use Rattle.lt_runner.specs.Ready.{StartsWith};
 
 use crate::gate::Gate;
@@ -84,6 +84,7 @@ impl Runner {
     pub fn work_until_sent<G: Gate>(&mut self, gate: &G) -> Worked
         ensures grew { Grew self.old self.new }
         ensures ends { WorkEnds result 0 self.new }
+        ensures flushed { result ≡ answers.Idle → IsFlushed self.new }
     {
         self.parts.as_mut().work_until_sent(gate)
     }
@@ -91,7 +92,8 @@ impl Runner {
     /// The nodes that letters went to since this was last asked, bit q % 64 for node q: a hint where to look for moves.
     #[tactic(auto, using(crate::proofs::KeptLemmas::kept_asked, crate::proofs::KeptLemmas::seen_asked))]
     pub fn reached(&mut self) -> u64
-        ensures { AsSeen self.old self.new }
+        ensures seen { AsSeen self.old self.new }
+        ensures flushed { IsFlushed self.old → IsFlushed self.new }
     {
         let parts = self.parts.as_mut();
         let reached = parts.reached;

@@ -139,6 +139,7 @@ impl Parts {
         ensures grew { Grew self.old self.new }
         ensures moved { IsTrue result → MovedOne self.old self.new }
         ensures none { IsFalse result → AsSeen self.old self.new × CouldMove self.new }
+        ensures full { HasMemoryFor choice self.old → IsTrue result }
     {
         if self.reserve(choice).is_err() {
             return false;
@@ -180,6 +181,7 @@ impl Parts {
         ensures kept { RunnerInvariant self.new }
         ensures grew { Grew self.old self.new }
         ensures ends { WorkEnds result 0 self.new }
+        ensures flushed { result ≡ answers.Idle → IsFlushed self.new }
     {
         while self.reached == 0 {
             match self.find() {

@@ -1,3 +1,5 @@
+ghost use Rattle.lt_nest.specs.Kept.{Kept};
+
 use crate::telling::holds;
 use lt_modes::Mode;
 use lt_nest::{Asked, BeginError, Ended, Nest};
@@ -58,4 +60,36 @@ fn abort_ends_the_subtree(rt: HostRuntime) {
     holds(&rt, nest.waiting(2) == None);
     holds(&rt, nest.begin(Some(2)) == Err(BeginError::NoParent));
     holds(&rt, nest.begin(Some(0)) == Ok(4));
+}
+
+// What `is_kept` says is all that is kept.
+fn kept(nest: &Nest)
+    ensures { Kept nest.now }
+{
+    nest.is_kept();
+}
+
+// As many transactions begin as there are numbers.
+#[test]
+fn the_most_begin(rt: HostRuntime) {
+    let mut nest = Nest::new(rt.alloc(), 1).expect(&rt, "memory");
+    for number in 0..65_535 {
+        holds(&rt, nest.begin(None) == Ok(number));
+    }
+    holds(&rt, nest.begin(None) == Err(BeginError::Full));
+    kept(&nest);
+}
+
+// A child of the writer needn't wait behind four readers, who do.
+#[test]
+fn a_child_passes_who_waits(rt: HostRuntime) {
+    let mut nest = Nest::new(rt.alloc(), 1).expect(&rt, "memory");
+    holds(&rt, nest.begin(None) == Ok(0));
+    holds(&rt, nest.lock(0, 0, Mode::Write) == Ok(Asked::Granted));
+    holds(&rt, nest.begin(Some(0)) == Ok(1));
+    for reader in 2..6 {
+        holds(&rt, nest.begin(None) == Ok(reader));
+        holds(&rt, nest.lock(reader, 0, Mode::IntentionRead) == Ok(Asked::Waits));
+    }
+    holds(&rt, nest.lock(1, 0, Mode::IntentionRead) == Ok(Asked::Granted));
 }

@@ -73,7 +73,7 @@ fn what_is_counted_is_what_a_walk_finds(rt: HostRuntime) -> Result<(), Fail> {
         queue: Queue::new(rt.alloc(), 12)?,
         table: Table::new(rt.alloc(), 4)?,
         asks: Vec::new(rt.alloc()),
-        held: Held::new(rt.alloc())?,
+        held: Held::new(rt.alloc()),
     };
     for turn in 0..4000 {
         change(&mut both, &mut draws, turn)?;

@@ -90,6 +90,7 @@ fn three_letters_in_a_ring_for_one(rt: HostRuntime) -> Result<(), Fail> {
     two.send(7)?;
     same(&rt, two.take(), None);
     two.flush();
+    two.sender.reserve(200)?;
     same(&rt, two.take_known(), None);
     same(&rt, two.take(), Some(5));
     same(&rt, two.take(), None);

@@ -75,6 +75,7 @@ fn engage(
     workers: u8,
 ) -> Result<Vec<Worker>, AllocError>
     requires { (first.old ≡ new_badge pool.now 0) × (workers ≤ MAX_WORKERS) }
+    ensures count { IfOk result (λ hands. length hands.items ≡ workers) }
     ensures free { IfOk result (λ hands. AreFree pool.now hands.items) }
     ensures first { IfOk result (λ hands. LeadsPool pool.now (length hands.items) first.new) }
 {

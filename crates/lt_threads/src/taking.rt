@@ -1,9 +1,10 @@
 // A visit for letters alone.
-ghost use Rattle.std.specs.Prelude.{◌≡◌, None, IfSome};
+ghost use Rattle.std.specs.Prelude.{◌≡◌, ◌≢◌, None, IfSome};
 ghost use Rattle.lt_runner.specs.declared.choice.Choice.TheVariants as choices;
+ghost use Rattle.lt_runner.specs.declared.turning.Turned.TheVariants as turns;
 ghost use Rattle.lt_runner.specs.declared.turning.Worked.TheVariants as answers;
 ghost use Rattle.lt_runner.specs.Choices.{next_choice};
-ghost use Rattle.lt_runner.specs.Kept.{AsSeen, CouldMove, Grew, WorkEnds};
+ghost use Rattle.lt_runner.specs.Kept.{AsSeen, CouldMove, Grew, IsFlushed, WorkEnds};
 ghost use Rattle.lt_threads.specs.Taking.{MovedWithin, TakeEnds};
 
 use lt_runner::{Choice, Found, Gate, Runner, Turned, Worked};
@@ -15,6 +16,7 @@ use lt_runner::{Choice, Found, Gate, Runner, Turned, Worked};
 pub(crate) fn take_letters<G: Gate>(runner: &mut Runner, gate: &G) -> (u64, Worked)
     ensures grew { Grew runner.old runner.new }
     ensures ends { WorkEnds result.1 0 runner.new }
+    ensures flushed { result.1 ≡ answers.Idle → IsFlushed runner.new }
 {
     loop {
         if let Some(ended) = take_one(runner, gate) {
@@ -29,6 +31,7 @@ fn take_one<G: Gate>(runner: &mut Runner, gate: &G) -> Option<(u64, Worked)>
     ensures grew { Grew runner.old runner.new }
     ensures moved { result ≡ None → MovedWithin runner.old runner.new }
     ensures ends { IfSome result (λ ended. WorkEnds ended.1 0 runner.new) }
+    ensures flushed { IfSome result (λ ended. ended.1 ≡ answers.Idle → IsFlushed runner.new) }
 {
     match turn_by_mail(runner, gate) {
         Turned::Moved => send_on(runner),
@@ -42,6 +45,7 @@ fn take_one<G: Gate>(runner: &mut Runner, gate: &G) -> Option<(u64, Worked)>
 fn send_on(runner: &mut Runner) -> Option<(u64, Worked)>
     ensures seen { AsSeen runner.old runner.new }
     ensures ends { IfSome result (λ ended. ended.1 ≡ answers.Idle) }
+    ensures flushed { IfSome result (λ _. IsFlushed runner.new) }
 {
     let reached = runner.reached();
     if reached == 0 {
@@ -55,6 +59,7 @@ fn send_on(runner: &mut Runner) -> Option<(u64, Worked)>
 fn turn_by_mail<G: Gate>(runner: &mut Runner, gate: &G) -> Turned
     ensures grew { Grew runner.old runner.new }
     ensures ends { TakeEnds result runner.old runner.new }
+    ensures flushed { result ≡ turns.Quiet → IsFlushed runner.new }
 {
     match runner.find() {
         Found::Move(Choice::Take) => take_in_hand(runner, gate),
@@ -69,6 +74,7 @@ fn take_in_hand<G: Gate>(runner: &mut Runner, gate: &G) -> Turned
     requires could { CouldMove runner.old }
     ensures grew { Grew runner.old runner.new }
     ensures ends { TakeEnds result runner.old runner.new }
+    ensures tried { result ≢ turns.Quiet }
 {
     if runner.reserve(Choice::Take).is_err() {
         return Turned::NoMemory;

@@ -1,6 +1,7 @@
 // What a worker does on its thread.
 ghost use Rattle.std.specs.Prelude.{◌≡◌, ◌<◌, ◌≤◌, ◌+◌, ◌-◌, ◌*◌, length};
-ghost use Rattle.lt_runner.specs.Kept.{Grew, WorkEnds};
+ghost use Rattle.lt_runner.specs.declared.turning.Worked.TheVariants as answers;
+ghost use Rattle.lt_runner.specs.Kept.{Grew, IsFlushed, WorkEnds};
 ghost use Rattle.lt_threads.specs.Workers.{IsFree};
 ghost use Rattle.lt_threads.specs.Visits.{after_moves, most_idle, most_moved, HaveRoom, MadeVisit, FewRefused};
 
@@ -88,6 +89,7 @@ fn work_on<G: Gate>(runner: &mut Runner, by_mail: bool, gate: &G) -> Visit
     ensures grew { Grew runner.old runner.new }
     ensures moves { result.moves ≡ length runner.new.log.entries - length runner.old.log.entries }
     ensures ends { WorkEnds result.worked 0 runner.new }
+    ensures flushed { result.worked ≡ answers.Idle → IsFlushed runner.new }
 {
     let before = runner.moves();
     let (reached, worked) = work(runner, by_mail, gate);
@@ -103,6 +105,7 @@ fn work_on<G: Gate>(runner: &mut Runner, by_mail: bool, gate: &G) -> Visit
 fn work<G: Gate>(runner: &mut Runner, by_mail: bool, gate: &G) -> (u64, Worked)
     ensures grew { Grew runner.old runner.new }
     ensures ends { WorkEnds result.1 0 runner.new }
+    ensures flushed { result.1 ≡ answers.Idle → IsFlushed runner.new }
 {
     if by_mail {
         take_letters(runner, gate)
@@ -115,6 +118,7 @@ fn work<G: Gate>(runner: &mut Runner, by_mail: bool, gate: &G) -> (u64, Worked)
 fn work_until_sent<G: Gate>(runner: &mut Runner, gate: &G) -> (u64, Worked)
     ensures grew { Grew runner.old runner.new }
     ensures ends { WorkEnds result.1 0 runner.new }
+    ensures flushed { result.1 ≡ answers.Idle → IsFlushed runner.new }
 {
     let worked = runner.work_until_sent(gate);
     (runner.reached(), worked)

@@ -6,14 +6,16 @@
 
 use anyhow::{Result, bail};
 use lt_checker::check_input;
-use lt_io::{ReaderSource, WriterSink, read_all, write_all};
+use lt_io::{ReaderSource, Source, WriterSink, read_all, write_all};
 use lt_live::Reply;
-use lt_live_callers::{Caller, serve_callers};
+use lt_live_callers::{Caller, Served, serve_callers};
 use lt_modes::{Command, Mode};
 use lt_script::Script;
 use std::alloc::Global;
+use std::env;
 use std::io::Print;
 use std::sync::atomic::{AtomicU64, Ordering};
+use std::thread::Threads;
 
 // The most bytes of a script, the most moves of a node, the threads of callers, with as many of nodes, and the most
 // rounds.
@@ -151,30 +153,46 @@ fn print_stock<R: Print>(rt: &R, shop: &Shop) -> Result<()> {
     Ok(())
 }
 
-fn main(rt: HostRuntime) -> Result<()> {
-    let alloc = rt.alloc();
-    let input = read_all(alloc, &mut ReaderSource::new(rt.stdin()), MOST_BYTES)?;
-    let script = lt_script::read(alloc, &input)?;
-    let shop = shop_of(alloc, &script)?;
-    let buyers = (0..script.clients())
-        .map(|client| Buyer::new(&shop, client))
-        .collect(alloc)?;
-    let served = serve_callers(&rt, alloc, &script, buyers, MOST_MOVES, THREADS, ROUNDS)?;
+fn script_of<S: Source>(alloc: Global, source: &mut S) -> Result<Script> {
+    let text = read_all(alloc, source, MOST_BYTES)?;
+    Ok(lt_script::read(alloc, &text)?)
+}
+
+fn text_of(alloc: Global, served: &Served<Buyer<'_>>) -> Result<Vec<u8>> {
     if !served.callers.iter().all(|called| called.caller.is_done()) {
         bail!("a caller gave up");
     }
-    let text = served.text(alloc)?;
-    if std::env::args(&rt)?
-        .skip(1)
-        .any(|word| word.as_str() == "journal")
-    {
-        write_all(&mut WriterSink::new(rt.stdout()), &text)?;
-        return Ok(());
-    }
-    print_stock(&rt, &shop)?;
-    if check_input(alloc, &mut ReaderSource::new(text.as_slice())).is_err() {
+    Ok(served.text(alloc)?)
+}
+
+// Lets a buyer for each client buy: the script and the journal of the run.
+fn sell<R: Threads + Sync>(rt: &R, alloc: Global, script: &Script, shop: &Shop) -> Result<Vec<u8>> {
+    let buyers = (0..script.clients())
+        .map(|client| Buyer::new(shop, client))
+        .collect(alloc)?;
+    let served = serve_callers(rt, alloc, script, buyers, MOST_MOVES, THREADS, ROUNDS)?;
+    text_of(alloc, &served)
+}
+
+fn print_sale<R: Print>(rt: &R, alloc: Global, shop: &Shop, text: &[u8]) -> Result<()> {
+    print_stock(rt, shop)?;
+    if check_input(alloc, &mut ReaderSource::new(text)).is_err() {
         bail!("the journal isn't one of a run");
     }
     println!(rt; "the journal is accepted")?;
     Ok(())
+}
+
+fn main(rt: HostRuntime) -> Result<()> {
+    let alloc = rt.alloc();
+    let asks_journal = env::args(&rt)?
+        .skip(1)
+        .any(|word| word.as_str() == "journal");
+    let script = script_of(alloc, &mut ReaderSource::new(rt.stdin()))?;
+    let shop = shop_of(alloc, &script)?;
+    let text = sell(&rt, alloc, &script, &shop)?;
+    if asks_journal {
+        return Ok(write_all(&mut WriterSink::new(rt.stdout()), &text)?);
+    }
+    print_sale(&rt, alloc, &shop, &text)
 }

@@ -34,15 +34,18 @@ fn input_of(alloc: Global, script: &str, journal: &[u8]) -> Result<String, Fail>
     Ok(input)
 }
 
-// A ring holds one letter, and the threads make no move, so that each is made between two rounds.
+// A ring holds one letter, or as many as it may, and the threads make no move, so that each is made between two rounds.
 #[test]
 fn three_readers_on_threads(rt: HostRuntime) -> Result<(), Fail> {
-    let setup = Setup {
+    let mut setup = Setup {
         moves: 1_000,
-        capacity: 1,
+        capacity: 1_024,
         patience: 0,
         workers: 8,
     };
+    let (status, _) = served(&rt, rt.alloc(), setup, "run", THREE_READERS)?;
+    same(&rt, status, Status::Done);
+    setup.capacity = 1;
     let (status, journal) = served(&rt, rt.alloc(), setup, "run", THREE_READERS)?;
     same(&rt, status, Status::Done);
     let input = input_of(rt.alloc(), THREE_READERS, &journal)?;
