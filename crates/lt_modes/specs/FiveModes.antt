@@ -3,7 +3,7 @@ use Rattle.std.specs.Prelude.{ℕ, ◌≡◌, ◌+◌, ◌<◌, ◌≤◌, ◌^�
 use Rattle.std.proofs.Common.{arith, inl, inr, subst}
 use Rattle.std.proofs.lemmas.Bool.{and_parts, cases_lt, eqb-true}
 use Rattle.lt_modes.specs.declared.mode.Mode.{Mode}
-use Rattle.lt_modes.specs.Modes.{Modes, has, modes_by, with_mode, same_mode, modes_in_order, conflicts, excludes_itself, any_mode, one, bars, is_within, covers, has_none, same_modes}
+use Rattle.lt_modes.specs.Modes.{Modes, has, modes_by, same_mode, modes_in_order, conflicts, excludes_itself, any_mode, one, bars, is_within, covers, has_none, same_modes}
 use Rattle.lt_modes.specs.declared.mode.Mode.TheVariants.{IntentionRead, Read, Upgrade, IntentionWrite, ReadIntentionWrite, Write}
 
 -- the mode's place among all modes
@@ -30,10 +30,9 @@ IsShifted counts from to mode count = count + count_if (has mode from) ≡ mode_
 abbrev pub modes_beyond : List ℕ → Modes → Modes → Modes
 modes_beyond counts a b = modes_by (λ mode. nat_lt (count_if (has mode a) + count_if (has mode b)) (mode_count mode counts))
 
--- the set, and the mode where more sets have it than these two make up
-abbrev pub with_beyond : List ℕ → Modes → Mode → Modes → Modes → Modes
-with_beyond counts all mode a b =
-    if nat_lt (count_if (has mode a) + count_if (has mode b)) (mode_count mode counts) then with_mode all mode else all
+-- the modes that more than n sets have
+abbrev pub modes_over : ℕ → List ℕ → Modes
+modes_over n counts = modes_by (λ mode. nat_lt n (mode_count mode counts))
 
 -- The five modes without `read_intention_write`, which are those of version 1 of a script: what the sixth one leaves as it is.
 
@@ -136,6 +135,12 @@ bit_if held bit = if held then bit else 0
 -- the mask of a set
 abbrev pub mask_of : Modes → ℕ
 mask_of s = bit_if s.intention_read 1 + bit_if s.read 2 + bit_if s.upgrade 4 + bit_if s.intention_write 8 + bit_if s.read_intention_write 16 + bit_if s.write 32
+
+-- the set has the mode, and what is left of it are its other modes
+pub record IsSplit (s : Modes) (mode : Mode) (rest : Modes) : Type 0 where
+  pub first : has mode s ≡ true
+  pub others : rest ≡ modes_by (λ m. has m s && not (same_mode mode m))
+  pub less : mask_of rest < mask_of s
 
 -- the test passes at each number below n
 unfoldable pub all_below : ℕ → (ℕ → Bool) → Bool

@@ -1,8 +1,8 @@
-ghost use Rattle.std.specs.Prelude.{◌≡◌};
-ghost use Rattle.lt_modes.specs.Modes.{Modes, no_modes, one, with_mode, union, has, bars, covers, has_none, is_within, same_modes};
-ghost use Rattle.lt_modes.specs.FiveModes.{five_of, bit_of};
+ghost use Rattle.std.specs.Prelude.{◌≡◌, true, ◌&&◌, not, if◌then◌else◌, IfNone, IfSome};
+ghost use Rattle.lt_modes.specs.Modes.{Modes, no_modes, one, with_mode, union, has, bars, covers, has_none, is_within, same_modes, modes_by, same_mode};
+ghost use Rattle.lt_modes.specs.FiveModes.{five_of, bit_of, IsSplit};
 
-use crate::mode::Mode;
+use crate::mode::{MODES, Mode};
 use std::marker::Model;
 
 /// A set of modes.
@@ -66,35 +66,39 @@ impl ModeSet {
     }
 
     /// The modes that conflict with a member.
-    #[tactic(auto, unfolding(crate::specs::Modes::conflicts))]
     pub fn bars(self) -> ModeSet
         ensures { result ≡ bars self }
     {
-        let mut mask = 0;
-        if self.has(Mode::IntentionRead) {
-            mask |= bit(Mode::Write);
+        let lower = BARRED_BY_LOWER >> (8 * u32::from(self.mask & 7));
+        let upper = BARRED_BY_UPPER >> (8 * u32::from(self.mask >> 3));
+        ModeSet {
+            mask: ((lower | upper) & u64::from(ALL)) as u8,
         }
-        if self.has(Mode::Read) {
-            mask |= bit(Mode::IntentionWrite) | bit(Mode::ReadIntentionWrite) | bit(Mode::Write);
-        }
-        if self.has(Mode::Upgrade) {
-            mask |= bit(Mode::Upgrade)
-                | bit(Mode::IntentionWrite)
-                | bit(Mode::ReadIntentionWrite)
-                | bit(Mode::Write);
-        }
-        if self.has(Mode::IntentionWrite) {
-            mask |= bit(Mode::Read)
-                | bit(Mode::Upgrade)
-                | bit(Mode::ReadIntentionWrite)
-                | bit(Mode::Write);
-        }
-        if self.has(Mode::ReadIntentionWrite) {
-            mask |= ALL ^ bit(Mode::IntentionRead);
-        }
-        if self.has(Mode::Write) {
-            mask |= ALL;
-        }
+    }
+
+    /// The modes that conflict with this one.
+    #[tactic(auto, unfolding(crate::specs::Modes::conflicts))]
+    pub fn barred_by(mode: Mode) -> ModeSet
+        ensures { result ≡ bars (one mode) }
+    {
+        let mask = match mode {
+            Mode::IntentionRead => bit(Mode::Write),
+            Mode::Read => bit(Mode::IntentionWrite) | bit(Mode::ReadIntentionWrite) | bit(Mode::Write),
+            Mode::Upgrade => {
+                bit(Mode::Upgrade)
+                    | bit(Mode::IntentionWrite)
+                    | bit(Mode::ReadIntentionWrite)
+                    | bit(Mode::Write)
+            }
+            Mode::IntentionWrite => {
+                bit(Mode::Read)
+                    | bit(Mode::Upgrade)
+                    | bit(Mode::ReadIntentionWrite)
+                    | bit(Mode::Write)
+            }
+            Mode::ReadIntentionWrite => ALL ^ bit(Mode::IntentionRead),
+            Mode::Write => ALL,
+        };
         ModeSet { mask }
     }
 
@@ -102,7 +106,46 @@ impl ModeSet {
     pub fn covers(self, mode: Mode) -> bool
         ensures { result ≡ covers self mode }
     {
-        ModeSet::one(mode).bars().is_within(self.bars())
+        ModeSet::barred_by(mode).is_within(self.bars())
+    }
+
+    // The set with the mode, or without it.
+    pub(crate) fn with_if(self, mode: Mode, there: bool) -> ModeSet
+        ensures { result ≡ modes_by (λ m. if same_mode mode m then there else has m self) }
+    {
+        let others = self.without(ModeSet::one(mode));
+        if there { others.with(mode) } else { others }
+    }
+
+    // The set without the members of the other.
+    pub(crate) fn without(self, other: ModeSet) -> ModeSet
+        ensures { result ≡ modes_by (λ m. has m self && not (has m other)) }
+    {
+        ModeSet {
+            mask: self.mask & (ALL ^ other.mask),
+        }
+    }
+
+    // The modes that both sets have.
+    pub(crate) fn common(self, other: ModeSet) -> ModeSet
+        ensures { result ≡ modes_by (λ m. has m self && has m other) }
+    {
+        ModeSet {
+            mask: self.mask & other.mask,
+        }
+    }
+
+    // Takes the first mode out.
+    pub(crate) fn pop(&mut self) -> Option<Mode>
+        ensures none { IfNone result (has_none self.old ≡ true) }
+        ensures some { IfSome result (λ mode. IsSplit self.old mode self.new) }
+    {
+        if self.mask == 0 {
+            return None;
+        }
+        let mode = MODES[self.mask.trailing_zeros() as usize];
+        self.mask &= self.mask - 1;
+        Some(mode)
     }
 
     pub fn is_empty(self) -> bool
@@ -131,12 +174,18 @@ impl ModeSet {
     pub fn same(self, other: ModeSet) -> bool
         ensures { result ≡ same_modes self other }
     {
-        self.is_within(other) && other.is_within(self)
+        self.mask == other.mask
     }
 }
 
 // The mask of all modes.
 const ALL: u8 = 63;
+
+// Byte k is the mask of what the set with mask k bars, for sets of the first three modes.
+const BARRED_BY_LOWER: u64 = 0x3c3c_3c3c_3838_2000;
+
+// Byte k is the mask of what the set with mask 8 k bars, for sets of the last three modes.
+const BARRED_BY_UPPER: u64 = 0x3f3f_3f3f_3e3e_3600;
 
 // The mask of all modes but `ReadIntentionWrite`.
 const FIVE: u8 = 47;

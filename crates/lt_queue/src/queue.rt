@@ -76,6 +76,20 @@ impl Queue {
         self.asks[k as usize]
     }
 
+    /// The asks, in order.
+    pub fn asks(&self) -> &[Ask]
+        ensures { result.now ≡ self.now.asks }
+    {
+        &self.asks
+    }
+
+    /// The modes that the asks want.
+    pub fn modes(&self) -> ModeSet
+        ensures { result ≡ modes_of_asks self.now.asks }
+    {
+        self.asked.beyond(ModeSet::empty(), ModeSet::empty())
+    }
+
     /// Takes the ask at place k away.
     #[tactic(auto, using(crate::proofs::AskedLemmas::may_go))]
     #[inline(always)]
@@ -117,7 +131,6 @@ impl Queue {
     }
 
     /// Puts a new ask at its place.
-    #[tactic(auto, using(crate::proofs::AskedLemmas::may_come, crate::proofs::AskedLemmas::one_came))]
     #[inline(always)]
     pub fn insert(&mut self, ask: Ask)
         requires { length self.old.asks < self.old.room }
@@ -163,7 +176,7 @@ impl Queue {
     pub fn frozen(&self) -> ModeSet
         ensures { result ≡ frozen_by self.now.asks }
     {
-        self.asked.beyond(ModeSet::empty(), ModeSet::empty()).bars()
+        self.modes().bars()
     }
 }
 

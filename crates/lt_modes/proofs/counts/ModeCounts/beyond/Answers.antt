@@ -1,22 +1,12 @@
-use Rattle.std.proofs.Common.{◌≡◌, ◌∙◌, ap, sym, ℕ, arith, get_or, take, fold}
-use Rattle.std.proofs.lemmas.List.Sums.{fold_more}
-use Rattle.lt_modes.specs.declared.mode.Mode.{Mode}
-use Rattle.lt_modes.specs.declared.mode.Mode.TheVariants.{IntentionRead}
-use Rattle.lt_modes.specs.declared.mode.TheConstants.{MODES}
-use Rattle.lt_modes.specs.Modes.{Modes, no_modes}
-use Rattle.lt_modes.specs.FiveModes.{with_beyond}
-use Rattle.lt_modes.proofs.PlaceLemmas.{all_beyond}
+use Rattle.std.proofs.Common.{◌∙◌, ap, rules, ◌≡◌}
+use Rattle.lt_modes.specs.FiveModes.{modes_beyond}
+use Rattle.lt_modes.proofs.PlaceLemmas.{beyond_is, found_beyond}
 use Rattle.lt_modes.proofs.counts.ModeCounts.beyond.Goals as goal
-
-pub loop-mode-preserved : goal.loop-mode-preserved
-loop-mode-preserved c =
-    let add = λ (all : Modes) (mode : Mode). with_beyond c.args.self.now all mode c.args.a c.args.b in
-    let k = c.loop-mode.mode-index in
-    c.with_beyond-all.ensures
-    ∙ (ap (λ (all : Modes). add all (get_or MODES k IntentionRead)) c.loop-mode.invariant ∙ sym (fold_more add no_modes MODES k IntentionRead (omega arith)))
 
 pub returns : goal.returns
 returns c =
-    let add = λ (all : Modes) (mode : Mode). with_beyond c.args.self.now all mode c.args.a c.args.b in
-    let all : c.loop-mode.mode-index ≡ 6 = omega arith in
-    c.loop-mode.invariant ∙ (ap (λ (n : ℕ). fold add no_modes (take n MODES)) all ∙ all_beyond c.args.self.now c.args.a c.args.b)
+    let all = c.self.inside in
+    let found : c.union-3.result ≡ found_beyond all.over_none all.over_one all.over_two c.args.a c.args.b = search rules in
+    found
+    ∙ beyond_is all.by_mode all.over_none all.over_one all.over_two c.args.a c.args.b c.self.invariant.0 c.self.invariant.1.0 c.self.invariant.1.1
+    ∙ ap (λ counts. modes_beyond counts c.args.a c.args.b) c.self.view_is
