@@ -1,2 +1,1 @@
 mod TreeLemmas
-mod NextLemmas

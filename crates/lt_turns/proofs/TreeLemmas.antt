@@ -1,202 +1,43 @@
--- The first turns of a tree, as one of them changes, and the first turn of all.
-use Rattle.std.proofs.Common.{◌≡◌, ◌≢◌, ℕ, zero, suc, ◌+◌, ◌-◌, ◌*◌, ◌/◌, ◌<◌, ◌≤◌, ◌==◌, ◌&&◌, Bool, true, false, nat_lt, List, [], ◌∷◌, length, Option, Some, None, inl, inr, ◌⊎◌, refl, sym, ap, ap₂, ◌∙◌, subst, arith, length-set, get_or-set_same, get_or-set_other, if◌then◌else◌, count_by, is_some, option_map, slice_index_or, slice_set, lt-ltb, ltb-true, le-ltb, eqb-true, eq-eqb}
-use Rattle.std.proofs.lemmas.List.{get_or_past, get_or_default}
-use Rattle.std.proofs.lemmas.List.Sums.{sum_by-set, get_or-le-sum_by, sum_by-cons}
-use Rattle.std.proofs.lemmas.Bool.{cases_eq, cases_lt, cases_order, or_cases, or_left, or_right, and_parts, and_from, false≢true}
-use Rattle.lt_turns.specs.declared.tree.Turn.{Turn}
-use Rattle.lt_turns.specs.Turns.{number_at, IsFirst, comes_before, earlier_turn, turn_at, winner_at, AreWon, AreWonBut, IsTree, NoneBefore, IsTurn, IsAfter}
+-- The ranks of a tree, as one of them changes, and the first turn of all.
+use Rattle.std.proofs.Common.{◌≡◌, ℕ, zero, suc, ◌+◌, ◌-◌, ◌*◌, ◌/◌, ◌%◌, ◌^◌, ◌<◌, ◌≤◌, Bool, true, false, List, [], ◌∷◌, length, Option, Some, None, inl, inr, ◌⊎◌, refl, sym, ap, ◌∙◌, subst, arith, if◌then◌else◌, count_by, is_some, eq-eqb, nat_lt, ◌&&◌, ltb-true, lt-ltb}
+use Rattle.std.proofs.lemmas.List.{get_or_past}
+use Rattle.std.proofs.lemmas.List.Sums.{sum_by-cons}
+use Rattle.std.proofs.lemmas.Bool.{cases_eq, cases_lt, ne_eqb, and_parts, and_from, false≢true}
+use Rattle.lt_turns.specs.Turns.{number_at, IsFirst, IsAfter, IsNext, rank_of, player_of, rank_at, AreLeast, IsLeaf, IsFirstAfter, nearest, IsTree}
 
--- where no player can act
-none_wins : (numbers : List (Option ℕ)) (winners : List (Option Turn)) (node : ℕ) → ((p : ℕ) → number_at numbers p ≡ None)
-    → ((p : ℕ) → slice_index_or winners p None ≡ None) → winner_at numbers winners node ≡ None
-none_wins numbers winners node none nobody = by_test (nat_lt node (length winners))
-  where
-    by_test : (t : Bool) → (if t then slice_index_or winners node None else turn_at numbers (node - length winners)) ≡ None
-    by_test true = nobody node
-    by_test false = ap (option_map (λ number. record { number = number; player = node - length winners })) (none (node - length winners))
-
--- a node that is no player's shows what was put there
-pub put_here : (numbers : List (Option ℕ)) (winners : List (Option Turn)) (node : ℕ) (turn : Option Turn) → node < length winners
-    → winner_at numbers (slice_set winners node turn) node ≡ turn
-put_here numbers winners node turn below =
-    ap (λ (t : Bool). if t then slice_index_or (slice_set winners node turn) node None else turn_at numbers (node - length (slice_set winners node turn)))
-    (lt-ltb node (length (slice_set winners node turn)) (omega (arith, below, length-set winners node turn)))
-    ∙ get_or-set_same winners node turn None below
-
--- and each other node shows what it did
-pub put_there : (numbers : List (Option ℕ)) (winners : List (Option Turn)) (node other : ℕ) (turn : Option Turn) → other ≢ node
-    → winner_at numbers (slice_set winners node turn) other ≡ winner_at numbers winners other
-put_there numbers winners node other turn apart =
-    ap (λ (n : ℕ). if nat_lt other n then slice_index_or (slice_set winners node turn) other None else turn_at numbers (other - n)) (length-set winners node turn)
-    ∙ ap (λ (w : Option Turn). if nat_lt other (length winners) then w else turn_at numbers (other - length winners)) (get_or-set_other winners node other turn None apart)
-
--- once the node has the first turn of the two below it, only the node above may not
-pub won_here : (numbers : List (Option ℕ)) (winners : List (Option Turn)) (node : ℕ) (turn : Option Turn)
-    → length winners ≡ length numbers → 0 < node → node < length numbers
-    → turn ≡ earlier_turn (winner_at numbers winners (2 * node)) (winner_at numbers winners (2 * node + 1))
-    → AreWonBut numbers winners node → AreWonBut numbers (slice_set winners node turn) (node / 2)
-won_here numbers winners node turn count some below best h = λ k above inside other.
-    let left : winner_at numbers (slice_set winners node turn) (2 * k) ≡ winner_at numbers winners (2 * k) = put_there numbers winners node (2 * k) turn (λ e. omega (arith, e, other, above, some)) in
-    let right : winner_at numbers (slice_set winners node turn) (2 * k + 1) ≡ winner_at numbers winners (2 * k + 1) = put_there numbers winners node (2 * k + 1) turn (λ e. omega (arith, e, other, above, some)) in
-    elim (cases_eq k node) [
-      | inl same ↦
-          subst (λ (x : ℕ). winner_at numbers (slice_set winners node turn) x ≡ earlier_turn (winner_at numbers (slice_set winners node turn) (2 * k)) (winner_at numbers (slice_set winners node turn) (2 * k + 1))) (sym same)
-          (put_here numbers winners node turn (omega (arith, below, count))
-          ∙ (best
-          ∙ (ap (λ (x : ℕ). earlier_turn (winner_at numbers winners (2 * x)) (winner_at numbers winners (2 * x + 1))) (sym same)
-          ∙ sym (ap₂ earlier_turn left right))))
-      | inr apart ↦
-          put_there numbers winners node k turn apart ∙ (h k above inside apart ∙ sym (ap₂ earlier_turn left right))
-    ]
-
-pub inner_at : (numbers : List (Option ℕ)) (winners : List (Option Turn)) (node : ℕ) (d : Option Turn) → node < length winners
-    → winner_at numbers winners node ≡ slice_index_or winners node d
-inner_at numbers winners node d below =
-    ap (λ (t : Bool). if t then slice_index_or winners node None else turn_at numbers (node - length winners)) (lt-ltb node (length winners) below)
-    ∙ get_or_default winners node None d below
-
--- where the node has it already, all do
-pub won_already : (numbers : List (Option ℕ)) (winners : List (Option Turn)) (node : ℕ) → AreWonBut numbers winners node
-    → winner_at numbers winners node ≡ earlier_turn (winner_at numbers winners (2 * node)) (winner_at numbers winners (2 * node + 1)) → AreWon numbers winners
-won_already numbers winners node h here = λ k above below. elim (cases_eq k node) [
-  | inl same ↦ subst (λ (x : ℕ). winner_at numbers winners x ≡ earlier_turn (winner_at numbers winners (2 * x)) (winner_at numbers winners (2 * x + 1))) (sym same) here
-  | inr apart ↦ h k above below apart
-]
-
--- where a player's number changes, only the node above the player may not have the first turn of the two below it
-pub number_changed : (numbers : List (Option ℕ)) (winners : List (Option Turn)) (player : ℕ) (number : Option ℕ)
-    → length winners ≡ length numbers → player < length numbers → AreWon numbers winners
-    → AreWonBut (slice_set numbers player number) winners ((length (slice_set numbers player number) + player) / 2)
-number_changed numbers winners player number count inside h = λ k above below other.
-    let same_length = length-set numbers player number in
-    let here : winner_at (slice_set numbers player number) winners k ≡ winner_at numbers winners k = kept k (λ e. omega (arith, e, below, same_length)) in
-    let left : winner_at (slice_set numbers player number) winners (2 * k) ≡ winner_at numbers winners (2 * k) = kept (2 * k) (λ e. omega (arith, e, other, same_length)) in
-    let right : winner_at (slice_set numbers player number) winners (2 * k + 1) ≡ winner_at numbers winners (2 * k + 1) = kept (2 * k + 1) (λ e. omega (arith, e, other, same_length)) in
-    here ∙ (h k above (omega (arith, below, same_length)) ∙ sym (ap₂ earlier_turn left right))
-  where
-    kept : (node : ℕ) → node ≢ length numbers + player → winner_at (slice_set numbers player number) winners node ≡ winner_at numbers winners node
-    kept node apart = elim (cases_lt node (length winners)) [
-      | inl less ↦
-          ap (λ (t : Bool). if t then slice_index_or winners node None else turn_at (slice_set numbers player number) (node - length winners)) (lt-ltb node (length winners) less)
-          ∙ sym (ap (λ (t : Bool). if t then slice_index_or winners node None else turn_at numbers (node - length winners)) (lt-ltb node (length winners) less))
-      | inr more ↦
-          ap (λ (o : Option ℕ). if nat_lt node (length winners) then slice_index_or winners node None else option_map (λ number. record { number = number; player = node - length winners }) o)
-          (get_or-set_other numbers player (node - length winners) number None (λ e. omega (arith, e, apart, more, count)))
-    ]
-
-pub through : (a b c : Option Turn) → NoneBefore a b → NoneBefore b c → NoneBefore a c
-through a b None p q = tt
-through a None (Some c) p q = absurd q
-through None (Some b) (Some c) p q = absurd p
-through (Some a) (Some b) (Some c) p q = elim p [
-  | inl less ↦ elim q [ inl less' ↦ inl (omega (arith, less, less')) | inr same' ↦ inl (omega (arith, less, same'.0)) ]
-  | inr same ↦ elim q [ inl less' ↦ inl (omega (arith, same.0, less')) | inr same' ↦ inr (omega (arith, same.0, same'.0), omega (arith, same.1, same'.1)) ]
-]
-
-itself : (a : Option Turn) → NoneBefore a a
-itself None = tt
-itself (Some a) = inr (refl, omega arith)
-
-pub after_from : (a b : Turn) → comes_before a b ≡ true → IsAfter a.number a.player b.number b.player
-after_from a b e = elim (or_cases (nat_lt a.number b.number) (a.number == b.number && nat_lt a.player b.player) e) [
-  | inl less ↦ inl (ltb-true a.number b.number less)
-  | inr same ↦
-      let parts = and_parts (a.number == b.number) (nat_lt a.player b.player) same in
-      inr (eqb-true a.number b.number parts.0, ltb-true a.player b.player parts.1)
-]
-
-pub after_to : (a b : Turn) → IsAfter a.number a.player b.number b.player → comes_before a b ≡ true
-after_to a b (inl less) = or_left (nat_lt a.number b.number) _ (lt-ltb a.number b.number less)
-after_to a b (inr same) =
-    or_right (nat_lt a.number b.number) _ (and_from (a.number == b.number) (nat_lt a.player b.player) (eq-eqb a.number b.number same.0) (lt-ltb a.player b.player same.1))
-
-before : (a b : Turn) → comes_before a b ≡ true → NoneBefore (Some a) (Some b)
-before a b e = elim (after_from a b e) [
-  | inl less ↦ inl less
-  | inr same ↦ inr (same.0, omega (arith, same.1))
-]
-
-not_before : (a b : Turn) → comes_before b a ≡ false → NoneBefore (Some a) (Some b)
-not_before a b e = elim (cases_order a.number b.number) [
-  | inl same ↦ elim (cases_lt b.player a.player) [
-    | inl less ↦ absurd (false≢true (sym e ∙ or_right (nat_lt b.number a.number) _ (and_from (b.number == a.number) (nat_lt b.player a.player) (eq-eqb b.number a.number (sym same)) (lt-ltb b.player a.player less))))
-    | inr more ↦ inr (same, more)
-  ]
-  | inr (inl less) ↦ inl less
-  | inr (inr more) ↦ absurd (false≢true (sym e ∙ or_left (nat_lt b.number a.number) _ (lt-ltb b.number a.number more)))
-]
-
--- the first of two turns is after neither, and is one of them
-pub record IsEarlier (a b first : Option Turn) : Type 0 where
-  pub left : NoneBefore first a
-  pub right : NoneBefore first b
-  pub either : (first ≡ a) ⊎ (first ≡ b)
-
-pub is_earlier : (a b : Option Turn) → IsEarlier a b (earlier_turn a b)
-is_earlier None b = record { left = tt; right = itself b; either = inr refl }
-is_earlier (Some a) None = record { left = itself (Some a); right = tt; either = inl refl }
-is_earlier (Some a) (Some b) = by_test (comes_before b a) refl
-  where
-    by_test : (t : Bool) → comes_before b a ≡ t → IsEarlier (Some a) (Some b) (Some (if t then b else a))
-    by_test true e = record { left = before b a e; right = itself (Some b); either = inr refl }
-    by_test false e = record { left = itself (Some a); right = not_before a b e; either = inl refl }
-
--- the root's turn is after no other
-leads_node : (numbers : List (Option ℕ)) (winners : List (Option Turn)) → AreWon numbers winners → (fuel k : ℕ) → k ≤ fuel → 0 < k → k < 2 * length numbers
-    → NoneBefore (winner_at numbers winners 1) (winner_at numbers winners k)
-leads_node numbers winners h zero k within some below = absurd (omega (arith, within, some))
-leads_node numbers winners h (suc fuel) k within some below = elim (cases_eq k 1) [
-  | inl root ↦ subst (λ (x : ℕ). NoneBefore (winner_at numbers winners 1) (winner_at numbers winners x)) (sym root) (itself (winner_at numbers winners 1))
+-- the root's rank is the least of all
+least_of : (ranks : List ℕ) → AreLeast ranks → length ranks % 2 ≡ 0 → (fuel node : ℕ) → node ≤ fuel → 0 < node → node < length ranks
+    → rank_at ranks 1 ≤ rank_at ranks node
+least_of ranks h even zero node within some inside = absurd (omega (arith, within, some))
+least_of ranks h even (suc fuel) node within some inside = elim (cases_eq node 1) [
+  | inl root ↦ subst (λ (x : ℕ). rank_at ranks 1 ≤ rank_at ranks x) (sym root) (omega arith)
   | inr lower ↦
-      let up : ℕ = k / 2 in
-      let above = leads_node numbers winners h fuel (k / 2) (omega (arith, within, some)) (omega (arith, some, lower)) (omega (arith, below)) in
-      let best = is_earlier (winner_at numbers winners (2 * (k / 2))) (winner_at numbers winners (2 * (k / 2) + 1)) in
-      let won = h (k / 2) (omega (arith, some, lower)) (omega (arith, below)) in
-      through (winner_at numbers winners 1) (winner_at numbers winners (k / 2)) (winner_at numbers winners k) above
-      (subst (λ (w : Option Turn). NoneBefore w (winner_at numbers winners k)) (sym won)
-      (elim (cases_eq k (2 * (k / 2))) [
-        | inl even ↦ subst (λ (x : ℕ). NoneBefore (earlier_turn (winner_at numbers winners (2 * (k / 2))) (winner_at numbers winners (2 * (k / 2) + 1))) (winner_at numbers winners x)) (sym even) best.left
-        | inr odd ↦
-            let is_odd : 2 * (k / 2) + 1 ≡ k = omega (arith, odd) in
-            subst (λ (x : ℕ). NoneBefore (earlier_turn (winner_at numbers winners (2 * (k / 2))) (winner_at numbers winners (2 * (k / 2) + 1))) (winner_at numbers winners x)) is_odd best.right
-      ]))
+      let above = least_of ranks h even fuel (node / 2) (omega (arith, within, some)) (omega (arith, some, lower)) (omega (arith, inside)) in
+      let least = h (node / 2) (omega (arith, some, lower)) (omega (arith, inside, even)) in
+      elim (cases_eq node (2 * (node / 2))) [
+        | inl left ↦ subst (λ (x : ℕ). rank_at ranks 1 ≤ rank_at ranks x) (sym left) (omega (arith, above, least))
+        | inr right ↦
+            let odd : 2 * (node / 2) + 1 ≡ node = omega (arith, right) in
+            subst (λ (x : ℕ). rank_at ranks 1 ≤ rank_at ranks x) odd (omega (arith, above, least))
+      ]
 ]
 
-pub at_player : (numbers : List (Option ℕ)) (player : ℕ) → IsTurn numbers (turn_at numbers player)
-at_player numbers player = by_number (number_at numbers player) refl
-  where
-    by_number : (o : Option ℕ) → number_at numbers player ≡ o → IsTurn numbers (option_map (λ number. record { number = number; player = player }) o)
-    by_number None e = tt
-    by_number (Some number) e = e
-
--- each node's turn is the one that its player has
-is_turn : (numbers : List (Option ℕ)) (winners : List (Option Turn)) → length winners ≡ length numbers → AreWon numbers winners
-    → (fuel k : ℕ) → 2 * length numbers ≤ k + fuel → 0 < k → k < 2 * length numbers → IsTurn numbers (winner_at numbers winners k)
-is_turn numbers winners count h zero k within some below = absurd (omega (arith, within, below))
-is_turn numbers winners count h (suc fuel) k within some below = elim (cases_lt k (length winners)) [
+-- each node has the rank of a leaf
+leaf_of : (ranks : List ℕ) → AreLeast ranks → length ranks % 2 ≡ 0 → (fuel node : ℕ) → length ranks ≤ node + fuel → 0 < node → node < length ranks
+    → IsLeaf ranks (length ranks) (rank_at ranks node)
+leaf_of ranks h even zero node within some inside = absurd (omega (arith, within, inside))
+leaf_of ranks h even (suc fuel) node within some inside = elim (cases_lt (2 * node + 1) (length ranks)) [
   | inl inner ↦
-      let best = is_earlier (winner_at numbers winners (2 * k)) (winner_at numbers winners (2 * k + 1)) in
-      let won = h k some (omega (arith, inner, count)) in
-      subst (IsTurn numbers) (sym won)
-      (elim best.either [
-        | inl left ↦ subst (IsTurn numbers) (sym left) (is_turn numbers winners count h fuel (2 * k) (omega (arith, within, some)) (omega (arith, some)) (omega (arith, inner, count)))
-        | inr right ↦ subst (IsTurn numbers) (sym right) (is_turn numbers winners count h fuel (2 * k + 1) (omega (arith, within, some)) (omega (arith, some)) (omega (arith, inner, count)))
-      ])
-  | inr player ↦
-      subst (λ (t : Bool). IsTurn numbers (if t then slice_index_or winners k None else turn_at numbers (k - length winners))) (sym (le-ltb k (length winners) player))
-      (at_player numbers (k - length winners))
+      let least = h node some inner in
+      elim (cases_lt (rank_at ranks (2 * node)) (rank_at ranks (2 * node + 1))) [
+        | inl left ↦ subst (IsLeaf ranks (length ranks)) (omega (arith, left, least)) (leaf_of ranks h even fuel (2 * node) (omega (arith, within, some)) (omega (arith, some)) (omega (arith, inner)))
+        | inr right ↦ subst (IsLeaf ranks (length ranks)) (omega (arith, right, least)) (leaf_of ranks h even fuel (2 * node + 1) (omega (arith, within, some)) (omega (arith, some)) inner)
+      ]
+  | inr outer ↦ record { leaf = node; is_leaf = omega (arith, outer, even); inside = inside; has = refl }
 ]
-
--- a player's node shows its turn
-player_at : (numbers : List (Option ℕ)) (winners : List (Option Turn)) (player : ℕ) → winner_at numbers winners (length winners + player) ≡ turn_at numbers player
-player_at numbers winners player =
-    let past : length winners ≤ length winners + player = omega arith in
-    let place : length winners + player - length winners ≡ player = omega arith in
-    ap (λ (t : Bool). if t then slice_index_or winners (length winners + player) None else turn_at numbers (length winners + player - length winners)) (le-ltb (length winners + player) (length winners) past)
-    ∙ ap (turn_at numbers) place
 
 -- a player that can act is one of them
-pub outside : (numbers : List (Option ℕ)) (player number : ℕ) → number_at numbers player ≡ Some number → player < length numbers
+outside : (numbers : List (Option ℕ)) (player number : ℕ) → number_at numbers player ≡ Some number → player < length numbers
 outside numbers player number e = elim (cases_lt player (length numbers)) [
   | inl inside ↦ inside
   | inr past ↦ absurd (none_some (sym (get_or_past numbers player None past) ∙ e))
@@ -205,38 +46,86 @@ outside numbers player number e = elim (cases_lt player (length numbers)) [
     none_some : None ≡ Some number → ⊥
     none_some e = cc
 
--- the player of the root's turn is the first one
-pub is_first : (numbers : List (Option ℕ)) (winners : List (Option Turn)) (count : ℕ) → IsTree numbers winners count → 0 < length numbers
-    → IsFirst numbers (option_map (λ (turn : Turn). turn.player) (winner_at numbers winners 1))
-is_first numbers winners count tree some = by_root (winner_at numbers winners 1) (λ player inside. leads player inside) (is_turn numbers winners tree.nodes tree.won (2 * length numbers) 1 (omega arith) (omega arith) (omega (arith, some)))
-  where
-    leads : (player : ℕ) → player < length numbers → NoneBefore (winner_at numbers winners 1) (turn_at numbers player)
-    leads player inside =
-        subst (NoneBefore (winner_at numbers winners 1)) (player_at numbers winners player)
-        (leads_node numbers winners tree.won (length winners + player) (length winners + player) (omega arith) (omega (arith, some, tree.nodes)) (omega (arith, inside, tree.nodes)))
+-- the rank of a player that can act
+rank_is : (numbers : List (Option ℕ)) (ranks : List ℕ) (count player number : ℕ) → IsTree numbers ranks count → number_at numbers player ≡ Some number
+    → (rank_at ranks (length numbers + player) ≡ number * 65536 + player) × (player < length numbers) × (number < 2 ^ 32)
+rank_is numbers ranks count player number tree e =
+    let inside = outside numbers player number e in
+    (tree.leaves player inside ∙ ap (λ (o : Option ℕ). rank_of o player) e, inside, tree.small player number e)
 
-    by_root : (root : Option Turn) → ((player : ℕ) → player < length numbers → NoneBefore root (turn_at numbers player)) → IsTurn numbers root
-        → IsFirst numbers (option_map (λ (turn : Turn). turn.player) root)
-    by_root None above is = λ player. by_number player (number_at numbers player) refl
+-- whose rank a leaf has: a player that can act, or no one
+data Owner (numbers : List (Option ℕ)) (rank : ℕ) : Type 0 where
+  Nobody : rank ≡ 2 ^ 48 → Owner numbers rank
+  Player : (player number : ℕ) → number_at numbers player ≡ Some number → rank ≡ number * 65536 + player → Owner numbers rank
+
+owner : (numbers : List (Option ℕ)) (ranks : List ℕ) (count rank : ℕ) → IsTree numbers ranks count → IsLeaf ranks (length ranks) rank → Owner numbers rank
+owner numbers ranks count rank tree at = by_number (number_at numbers (at.leaf - length numbers)) refl
+  where
+    is : rank ≡ rank_of (number_at numbers (at.leaf - length numbers)) (at.leaf - length numbers)
+    is =
+        sym at.has
+        ∙ (ap (rank_at ranks) (omega (arith, at.is_leaf, tree.nodes))
+        ∙ tree.leaves (at.leaf - length numbers) (omega (arith, at.is_leaf, at.inside, tree.nodes)))
+
+    by_number : (o : Option ℕ) → number_at numbers (at.leaf - length numbers) ≡ o → Owner numbers rank
+    by_number None e = Nobody (is ∙ ap (λ (o : Option ℕ). rank_of o (at.leaf - length numbers)) e)
+    by_number (Some number) e = Player (at.leaf - length numbers) number e (is ∙ ap (λ (o : Option ℕ). rank_of o (at.leaf - length numbers)) e)
+
+nobody_of : (rank : ℕ) → rank ≡ 2 ^ 48 → player_of rank ≡ None
+nobody_of rank e = ap (λ (t : Bool). if t then None else Some (rank % 65536)) (eq-eqb rank (2 ^ 48) e)
+
+player_is : (rank number player : ℕ) → rank ≡ number * 65536 + player → player < 2 ^ 16 → number < 2 ^ 32 → player_of rank ≡ Some player
+player_is rank number player e few small =
+    ap (λ (t : Bool). if t then None else Some (rank % 65536)) (ne_eqb rank (2 ^ 48) (λ f. omega (arith, e, f, few, small)))
+    ∙ ap Some (omega (arith, e, few))
+
+-- the order of ranks is that of turns
+not_before : (a p b q : ℕ) → q < 65536 → a * 65536 + p ≤ b * 65536 + q → (a < b) ⊎ ((a ≡ b) × (p ≤ q))
+not_before a p b q few h = elim (cases_lt a b) [
+  | inl less ↦ inl less
+  | inr more ↦ inr (omega (arith, more, few, h), omega (arith, more, few, h))
+]
+
+after_by_rank : (a p b q : ℕ) → q < 65536 → a * 65536 + p < b * 65536 + q → IsAfter a p b q
+after_by_rank a p b q few h = elim (cases_lt a b) [
+  | inl less ↦ inl less
+  | inr more ↦ inr (omega (arith, more, few, h), omega (arith, more, few, h))
+]
+
+rank_by_after : (a p b q : ℕ) → p < 65536 → IsAfter a p b q → a * 65536 + p < b * 65536 + q
+rank_by_after a p b q few (inl less) = omega (arith, few, less)
+rank_by_after a p b q few (inr same) = omega (arith, same.0, same.1)
+
+-- the player of the root's rank is the first one
+pub is_first : (numbers : List (Option ℕ)) (ranks : List ℕ) (count : ℕ) → IsTree numbers ranks count → 0 < length numbers
+    → IsFirst numbers (player_of (rank_at ranks 1))
+is_first numbers ranks count tree some = by_owner (owner numbers ranks count (rank_at ranks 1) tree (leaf_of ranks tree.least (omega (arith, tree.nodes)) (length ranks) 1 (omega arith) (omega arith) (omega (arith, some, tree.nodes))))
+  where
+    root_least : (player number : ℕ) → number_at numbers player ≡ Some number → rank_at ranks 1 ≤ number * 65536 + player
+    root_least player number e =
+        let at = rank_is numbers ranks count player number tree e in
+        omega (arith, at.0, least_of ranks tree.least (omega (arith, tree.nodes)) (length numbers + player) (length numbers + player) (omega arith) (omega (arith, some)) (omega (arith, at.1, tree.nodes)))
+
+    by_owner : Owner numbers (rank_at ranks 1) → IsFirst numbers (player_of (rank_at ranks 1))
+    by_owner (Nobody e) = subst (IsFirst numbers) (sym (nobody_of (rank_at ranks 1) e)) (λ player. by_number player (number_at numbers player) refl)
       where
         by_number : (player : ℕ) (o : Option ℕ) → number_at numbers player ≡ o → o ≡ None
-        by_number player None e = refl
-        by_number player (Some number) e = absurd (subst (λ (o : Option ℕ). NoneBefore None (option_map (λ number. record { number = number; player = player }) o)) e (above player (outside numbers player number e)))
-    by_root (Some turn) above is = (
-      turn.number,
-      record {
-        can_act = is;
-        leads = λ other later e. subst (λ (o : Option ℕ). NoneBefore (Some turn) (option_map (λ number. record { number = number; player = other }) o)) e (above other (outside numbers other later e));
-      },
-    )
-
--- how many can act, where a player's number changes
-pub counted_changed : (numbers : List (Option ℕ)) (player count gained lost : ℕ) (number : Option ℕ) → player < length numbers → count ≡ count_by is_some numbers
-    → gained ≡ (if is_some number then 1 else 0) → lost ≡ (if is_some (number_at numbers player) then 1 else 0)
-    → count + gained - lost ≡ count_by is_some (slice_set numbers player number)
-counted_changed numbers player count gained lost number inside counted more less =
-    let one : Option ℕ → ℕ = λ o. if is_some o then 1 else 0 in
-    omega (arith, counted, more, less, sum_by-set one numbers player number None inside, get_or-le-sum_by one numbers player None inside)
+        by_number player None f = refl
+        by_number player (Some number) f =
+            let at = rank_is numbers ranks count player number tree f in
+            absurd (omega (arith, e, root_least player number f, at.1, at.2, tree.few))
+    by_owner (Player player number e is) =
+        let at = rank_is numbers ranks count player number tree e in
+        subst (IsFirst numbers) (sym (player_is (rank_at ranks 1) number player is (omega (arith, at.1, tree.few)) at.2)) (
+          number,
+          record {
+            can_act = e;
+            leads = λ other later f.
+                let next = rank_is numbers ranks count other later tree f in
+                let least : number * 65536 + player ≤ later * 65536 + other = omega (arith, is, root_least other later f) in
+                not_before number player later other (omega (arith, next.1, tree.few)) least;
+          },
+        )
 
 -- where no player can act, none is counted
 pub none_counted : (numbers : List (Option ℕ)) → ((player : ℕ) → number_at numbers player ≡ None) → 0 ≡ count_by is_some numbers
@@ -245,8 +134,108 @@ none_counted (first ∷ rest) none =
     let one : Option ℕ → ℕ = λ o. if is_some o then 1 else 0 in
     omega (arith, ap one (none 0), none_counted rest (λ player. none (suc player)), sum_by-cons one first rest)
 
-pub none_won : (numbers : List (Option ℕ)) (winners : List (Option Turn)) → ((player : ℕ) → number_at numbers player ≡ None)
-    → ((node : ℕ) → slice_index_or winners node None ≡ None) → AreWon numbers winners
-none_won numbers winners none nobody = λ node some below.
-    none_wins numbers winners node none nobody
-    ∙ sym (ap₂ earlier_turn (none_wins numbers winners (2 * node) none nobody) (none_wins numbers winners (2 * node + 1) none nobody))
+-- where no player can act
+pub none_can : (numbers : List (Option ℕ)) (ranks : List ℕ) → length ranks ≡ 2 * length numbers → length numbers < 2 ^ 16
+    → ((player : ℕ) → number_at numbers player ≡ None) → ((node : ℕ) → node < length ranks → rank_at ranks node ≡ 2 ^ 48) → IsTree numbers ranks 0
+none_can numbers ranks nodes few none nobody = record {
+  nodes = nodes;
+  few = few;
+  small = λ player number e. absurd (none_some number (sym (none player) ∙ e));
+  leaves = λ player inside. nobody (length numbers + player) (omega (arith, nodes, inside)) ∙ sym (ap (λ (o : Option ℕ). rank_of o player) (none player));
+  least = λ node above inside.
+      omega (arith, nobody node (omega (arith, inside)), nobody (2 * node) (omega (arith, inside)), nobody (2 * node + 1) inside);
+  counted = none_counted numbers none;
+}
+  where
+    none_some : (number : ℕ) → None ≡ Some number → ⊥
+    none_some number e = cc
+
+-- with no player after this one
+no_next : (numbers : List (Option ℕ)) (ranks : List ℕ) (count player first : ℕ) → IsTree numbers ranks count
+    → first ≡ 2 ^ 48 → IsFirstAfter ranks (rank_at ranks (length numbers + player)) (length ranks) first → IsNext numbers player None
+no_next numbers ranks count player first tree e h = λ number other later has can after.
+    let here = rank_is numbers ranks count player number tree has in
+    let there = rank_is numbers ranks count other later tree can in
+    absurd (omega (
+      arith,
+      e,
+      there.0,
+      there.1,
+      there.2,
+      tree.few,
+      tree.nodes,
+      h.leads (length numbers + other) (omega (arith, tree.nodes)) (omega (arith, tree.nodes, there.1))
+          (omega (arith, here.0, there.0, rank_by_after number player later other (omega (arith, here.1, tree.few)) after))
+          (omega (arith, there.0, there.1, there.2, tree.few)),
+    ))
+
+-- the player of the least rank of those greater than this player's
+pub is_next : (numbers : List (Option ℕ)) (ranks : List ℕ) (count player first : ℕ) → IsTree numbers ranks count → player < length numbers
+    → IsFirstAfter ranks (rank_at ranks (length numbers + player)) (length ranks) first → IsNext numbers player (player_of first)
+is_next numbers ranks count player first tree inside h = elim h.either [
+  | inl e ↦ none e
+  | inr at ↦ by_owner at.0 (owner numbers ranks count first tree at.1)
+]
+  where
+    none : first ≡ 2 ^ 48 → IsNext numbers player (player_of first)
+    none e = subst (IsNext numbers player) (sym (nobody_of first e)) (no_next numbers ranks count player first tree e h)
+
+    by_owner : rank_at ranks (length numbers + player) < first → Owner numbers first → IsNext numbers player (player_of first)
+    by_owner more (Nobody e) = none e
+    by_owner more (Player next later e is) =
+        let that = rank_is numbers ranks count next later tree e in
+        subst (IsNext numbers player) (sym (player_is first later next is (omega (arith, that.1, tree.few)) that.2))
+        (by_number (number_at numbers player) refl)
+      where
+        by_number : (o : Option ℕ) → number_at numbers player ≡ o → IsNext numbers player (Some next)
+        by_number None f = absurd (omega (arith, more, is, tree.leaves player inside ∙ ap (λ (o : Option ℕ). rank_of o player) f, rank_is numbers ranks count next later tree e, tree.few))
+        by_number (Some number) f =
+            let here = rank_is numbers ranks count player number tree f in
+            let that = rank_is numbers ranks count next later tree e in (
+              number,
+              later,
+              f,
+              record {
+                can_act = e;
+                after = after_by_rank number player later next (omega (arith, that.1, tree.few)) (omega (arith, here.0, is, more));
+                leads = λ other last can after.
+                    let there = rank_is numbers ranks count other last tree can in
+                    let less : rank_at ranks (length numbers + player) < rank_at ranks (length numbers + other) =
+                    omega (arith, here.0, there.0, rank_by_after number player last other (omega (arith, here.1, tree.few)) after) in
+                    not_before later next last other (omega (arith, there.1, tree.few))
+                    (omega (arith, is, there.0, h.leads (length numbers + other) (omega (arith, tree.nodes)) (omega (arith, tree.nodes, there.1)) less (omega (arith, there.0, there.1, there.2, tree.few))));
+              },
+            )
+
+-- with one leaf more
+pub leaf_more : (ranks : List ℕ) (here leaf first next : ℕ) → IsFirstAfter ranks here leaf first → length ranks ≤ 2 * leaf
+    → next ≡ nearest here first (rank_at ranks leaf) → IsFirstAfter ranks here (leaf + 1) next
+leaf_more ranks here leaf first next h is_leaf e = by_test (nat_lt here (rank_at ranks leaf) && nat_lt (rank_at ranks leaf) first) refl e
+  where
+    by_test : (t : Bool) → nat_lt here (rank_at ranks leaf) && nat_lt (rank_at ranks leaf) first ≡ t → next ≡ (if t then rank_at ranks leaf else first)
+        → IsFirstAfter ranks here (leaf + 1) next
+    by_test true f g =
+        let parts = and_parts (nat_lt here (rank_at ranks leaf)) (nat_lt (rank_at ranks leaf) first) f in
+        let more : here < rank_at ranks leaf = ltb-true here (rank_at ranks leaf) parts.0 in
+        let less : rank_at ranks leaf < first = ltb-true (rank_at ranks leaf) first parts.1 in
+        record {
+          either = inr (omega (arith, g, more), record { leaf = leaf; is_leaf = is_leaf; inside = omega arith; has = sym g });
+          leads = λ k is inside after small. elim (cases_eq k leaf) [
+            | inl same ↦ omega (arith, g, ap (rank_at ranks) same)
+            | inr other ↦ omega (arith, g, less, h.leads k is (omega (arith, inside, other)) after small)
+          ];
+        }
+    by_test false f g = record {
+      either = elim h.either [
+        | inl none ↦ inl (g ∙ none)
+        | inr at ↦ inr (omega (arith, g, at.0), record { leaf = at.1.leaf; is_leaf = at.1.is_leaf; inside = omega (arith, at.1.inside); has = at.1.has ∙ sym g })
+      ];
+      leads = λ k is inside after small. elim (cases_eq k leaf) [
+        | inl same ↦ elim (cases_lt (rank_at ranks leaf) first) [
+          | inl less ↦
+              absurd (false≢true (sym f ∙ and_from (nat_lt here (rank_at ranks leaf)) (nat_lt (rank_at ranks leaf) first) (lt-ltb here (rank_at ranks leaf) (omega (arith, after, ap (rank_at ranks) same))) (lt-ltb (rank_at ranks leaf) first less)))
+          | inr more ↦ omega (arith, g, more, ap (rank_at ranks) same)
+        ]
+        | inr other ↦ omega (arith, g, h.leads k is (omega (arith, inside, other)) after small)
+      ];
+    }

@@ -1,6 +1,5 @@
 -- Which players can act, and the first of them.
-use Rattle.std.specs.Prelude.{◌≡◌, ◌≢◌, ◌<◌, ◌≤◌, ◌+◌, ◌-◌, ◌*◌, ◌^◌, ◌==◌, ◌&&◌, ◌||◌, ◌⊎◌, Bool, nat_lt, ℕ, List, Option, Some, None, length, count_by, is_some, option_map, slice_index_or, if◌then◌else◌}
-use Rattle.lt_turns.specs.declared.tree.Turn.{Turn}
+use Rattle.std.specs.Prelude.{◌≡◌, ◌≢◌, ◌<◌, ◌≤◌, ◌+◌, ◌*◌, ◌%◌, ◌^◌, ◌==◌, ◌&&◌, ◌⊎◌, nat_lt, ℕ, List, Option, Some, None, length, min, count_by, is_some, slice_index_or, slice_set, if◌then◌else◌}
 
 -- the number of the player's next turn, where it can act
 abbrev pub number_at : List (Option ℕ) → ℕ → Option ℕ
@@ -36,62 +35,57 @@ IsNext numbers player None =
 IsNext numbers player (Some next) =
     (number later : ℕ) × (number_at numbers player ≡ Some number) × LeadsAfter numbers number player next later
 
-abbrev pub comes_before : Turn → Turn → Bool
-comes_before a b = nat_lt a.number b.number || (a.number == b.number && nat_lt a.player b.player)
+-- the rank of a turn: none has the greatest one
+abbrev pub rank_of : Option ℕ → ℕ → ℕ
+rank_of None player = 2 ^ 48
+rank_of (Some number) player = number * 65536 + player
 
--- the first one of two turns, where there are some
-abbrev pub earlier_turn : Option Turn → Option Turn → Option Turn
-earlier_turn None second = second
-earlier_turn (Some a) None = Some a
-earlier_turn (Some a) (Some b) = Some (if comes_before b a then b else a)
+-- the player whose turn has this rank
+abbrev pub player_of : ℕ → Option ℕ
+player_of rank = if rank == 2 ^ 48 then None else Some (rank % 65536)
 
--- the player's turn, where it can act
-abbrev pub turn_at : List (Option ℕ) → ℕ → Option Turn
-turn_at numbers player = option_map (λ number. record { number = number; player = player }) (number_at numbers player)
+abbrev pub rank_at : List ℕ → ℕ → ℕ
+rank_at ranks node = slice_index_or ranks node 0
 
--- the turn, where it comes after this one
-abbrev pub turn_after : Turn → Option Turn → Option Turn
-turn_after here None = None
-turn_after here (Some later) = if comes_before here later then Some later else None
+-- the node has the least rank of the two nodes below it
+abbrev pub IsLeast : List ℕ → ℕ → Type 0
+IsLeast ranks node = rank_at ranks node ≡ min (rank_at ranks (2 * node)) (rank_at ranks (2 * node + 1))
 
--- none of the turns is before the first one, where there is one
-abbrev pub NoneBefore : Option Turn → Option Turn → Type 0
-NoneBefore first None = Unit {0}
-NoneBefore None (Some b) = ⊥
-NoneBefore (Some a) (Some b) = (a.number < b.number) ⊎ ((a.number ≡ b.number) × (a.player ≤ b.player))
-
--- the turn is the one that its player has
-abbrev pub IsTurn : List (Option ℕ) → Option Turn → Type 0
-IsTurn numbers None = Unit {0}
-IsTurn numbers (Some turn) = number_at numbers turn.player ≡ Some turn.number
-
--- the first turn after this one of the first n players
-pub record IsFirstAfter (numbers : List (Option ℕ)) (here : Turn) (n : ℕ) (first : Option Turn) : Type 0 where
-  pub is_turn : IsTurn numbers first
-  pub is_after : turn_after here first ≡ first
-  pub leads : (player : ℕ) → player < n → NoneBefore first (turn_after here (turn_at numbers player))
-
--- the first turn at or below the node
-abbrev pub winner_at : List (Option ℕ) → List (Option Turn) → ℕ → Option Turn
-winner_at numbers winners node =
-    if nat_lt node (length winners) then slice_index_or winners node None else turn_at numbers (node - length winners)
-
--- the node has the first turn of the two nodes below it
-abbrev pub IsWon : List (Option ℕ) → List (Option Turn) → ℕ → Type 0
-IsWon numbers winners node =
-    winner_at numbers winners node ≡ earlier_turn (winner_at numbers winners (2 * node)) (winner_at numbers winners (2 * node + 1))
-
--- so it is at each node that isn't a player
-abbrev pub AreWon : List (Option ℕ) → List (Option Turn) → Type 0
-AreWon numbers winners = (node : ℕ) → 0 < node → node < length numbers → IsWon numbers winners node
+-- so it is at each node that isn't a leaf
+abbrev pub AreLeast : List ℕ → Type 0
+AreLeast ranks = (node : ℕ) → 0 < node → 2 * node + 1 < length ranks → IsLeast ranks node
 
 -- and at each but this one
-abbrev pub AreWonBut : List (Option ℕ) → List (Option Turn) → ℕ → Type 0
-AreWonBut numbers winners but = (node : ℕ) → 0 < node → node < length numbers → node ≢ but → IsWon numbers winners node
+abbrev pub AreLeastBut : List ℕ → ℕ → Type 0
+AreLeastBut ranks but = (node : ℕ) → 0 < node → 2 * node + 1 < length ranks → node ≢ but → IsLeast ranks node
+
+-- the leaves have the ranks that they had, but this one the rank that is given
+abbrev pub AreLeaves : List ℕ → ℕ → ℕ → List ℕ → Type 0
+AreLeaves old leaf rank new = (node : ℕ) → length old ≤ 2 * node → rank_at new node ≡ rank_at (slice_set old leaf rank) node
+
+-- the second rank where it lies between the other two, else the first one
+abbrev pub nearest : ℕ → ℕ → ℕ → ℕ
+nearest here first second = if nat_lt here second && nat_lt second first then second else first
+
+-- a leaf before the end, whose rank is this one
+pub record IsLeaf (ranks : List ℕ) (end rank : ℕ) : Type 0 where
+  pub leaf : ℕ
+  pub is_leaf : length ranks ≤ 2 * leaf
+  pub inside : leaf < end
+  pub has : rank_at ranks leaf ≡ rank
+
+-- the least rank, greater than this one, of the leaves before the end, or that of no turn
+pub record IsFirstAfter (ranks : List ℕ) (here end first : ℕ) : Type 0 where
+  pub either : (first ≡ 2 ^ 48) ⊎ ((here < first) × IsLeaf ranks end first)
+  pub leads : (leaf : ℕ) → length ranks ≤ 2 * leaf → leaf < end → here < rank_at ranks leaf → rank_at ranks leaf < 2 ^ 48
+      → first ≤ rank_at ranks leaf
 
 -- a tree over these players, of which so many can act
-pub record IsTree (numbers : List (Option ℕ)) (winners : List (Option Turn)) (count : ℕ) : Type 0 where
-  pub nodes : length winners ≡ length numbers
+pub record IsTree (numbers : List (Option ℕ)) (ranks : List ℕ) (count : ℕ) : Type 0 where
+  pub nodes : length ranks ≡ 2 * length numbers
   pub few : length numbers < 2 ^ 16
-  pub won : AreWon numbers winners
+  pub small : (player number : ℕ) → number_at numbers player ≡ Some number → number < 2 ^ 32
+  pub leaves : (player : ℕ) → player < length numbers
+      → rank_at ranks (length numbers + player) ≡ rank_of (number_at numbers player) player
+  pub least : AreLeast ranks
   pub counted : count ≡ count_by is_some numbers

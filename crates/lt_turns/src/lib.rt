@@ -1,7 +1,6 @@
 //! Players that take turns: which of them can act, and which one is first.
 #![tactic(auto)]
 
-mod slot;
 mod tree;
 mod turns;
 

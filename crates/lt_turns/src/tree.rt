@@ -1,112 +1,71 @@
-ghost use Rattle.std.specs.Prelude.{◌≡◌, ◌<◌, ◌*◌, ◌^◌, ◌/◌, ◌+◌, length};
-ghost use Rattle.lt_turns.specs.Turns.{turn_at, winner_at, earlier_turn, comes_before, turn_after, IsFirstAfter, AreWon, AreWonBut};
+ghost use Rattle.std.specs.Prelude.{◌≡◌, ◌<◌, ◌≤◌, ◌*◌, ◌%◌, length};
+ghost use Rattle.lt_turns.specs.Turns.{rank_of, player_of, AreLeast, AreLeaves, IsFirstAfter, nearest};
 
-use crate::slot::Slot;
+/// The rank where there is no turn: the greatest one.
+pub(crate) const NO_TURN: u64 = 1 << 48;
 
-/// A player that can act, and the number of its turn.
-#[derive(Clone, Copy, Debug)]
-pub(crate) struct Turn {
-    pub(crate) number: u32,
-    pub(crate) player: u16,
-}
-
-/// The first turn at or below the node.
-pub(crate) fn winner_at(numbers: &[Option<u32>], winners: &[Slot], node: usize) -> Slot
-    requires count { length winners.now ≡ length numbers.now }
-    requires node { node < 2 * length numbers.now }
-    requires few { length numbers.now < 2 ^ 16 }
-    ensures { result ≡ winner_at numbers.now winners.now node }
+/// The turn of this number and player as one number: of two turns the first one has the lesser rank.
+pub(crate) fn rank_of(number: Option<u32>, player: u16) -> u64
+    ensures { result ≡ rank_of number player }
 {
-    if node < winners.len() {
-        return winners[node];
-    }
-    slot_of(numbers, node - winners.len())
-}
-
-// The player's turn, where it can act.
-fn slot_of(numbers: &[Option<u32>], player: usize) -> Slot
-    requires player { player < length numbers.now }
-    requires few { length numbers.now < 2 ^ 16 }
-    ensures { result ≡ turn_at numbers.now player }
-{
-    match numbers[player] {
-        Some(number) => Slot::of(number, player as u16),
-        None => Slot::none(),
+    match number {
+        Some(number) => u64::from(number) * 65536 + u64::from(player),
+        None => NO_TURN,
     }
 }
 
-/// The player's turn, where it can act.
-pub(crate) fn turn_of(numbers: &[Option<u32>], player: usize) -> Option<Turn>
-    requires player { player < length numbers.now }
-    requires few { length numbers.now < 2 ^ 16 }
-    ensures { result ≡ turn_at numbers.now player }
+/// The player whose turn has this rank, where there is one.
+pub(crate) fn player_of(rank: u64) -> Option<u16>
+    ensures { result ≡ player_of rank }
 {
-    match numbers[player] {
-        Some(number) => Some(Turn {
-            number,
-            player: player as u16,
-        }),
-        None => None,
+    if rank == NO_TURN {
+        return None;
     }
+    Some((rank % 65536) as u16)
 }
 
-/// The first turn of those that come after this one.
-pub(crate) fn first_after(numbers: &[Option<u32>], here: Turn) -> Option<Turn>
-    requires { length numbers.now < 2 ^ 16 }
-    ensures { IsFirstAfter numbers.now here (length numbers.now) result }
+/// Gives the leaf this rank, and goes up from there to find the least rank of each node anew, until it is the one that the
+/// node had.
+pub(crate) fn update(ranks: &mut [u64], leaf: usize, rank: u64)
+    requires even { length ranks.old % 2 ≡ 0 }
+    requires leaf { length ranks.old ≤ 2 * leaf }
+    requires inside { leaf < length ranks.old }
+    requires least { AreLeast ranks.old }
+    ensures count { length ranks.new ≡ length ranks.old }
+    ensures leaves { AreLeaves ranks.old leaf rank ranks.new }
+    ensures least { AreLeast ranks.new }
 {
-    let mut first = None;
-    for player in 0..numbers.len() {
-        first = earlier(first, turn_after(here, turn_of(numbers, player)));
-    }
-    first
-}
-
-// The turn, where it comes after this one.
-fn turn_after(here: Turn, turn: Option<Turn>) -> Option<Turn>
-    ensures { result ≡ turn_after here turn }
-{
-    match turn {
-        Some(later) if comes_before(here, later) => Some(later),
-        _ => None,
-    }
-}
-
-/// Goes up from the player to the root and finds the first turn of each node anew, until it is the one that was there.
-pub(crate) fn update(numbers: &[Option<u32>], winners: &mut [Slot], player: usize)
-    requires count { length winners.old ≡ length numbers.now }
-    requires few { length numbers.now < 2 ^ 16 }
-    requires player { player < length numbers.now }
-    requires won { AreWonBut numbers.now winners.old ((length numbers.now + player) / 2) }
-    ensures count { length winners.new ≡ length numbers.now }
-    ensures won { AreWon numbers.now winners.new }
-{
-    let mut node = (numbers.len() + player) / 2;
+    ranks[leaf] = rank;
+    let mut node = leaf / 2;
     while node > 0 {
-        let first = winner_at(numbers, winners, 2 * node);
-        let second = winner_at(numbers, winners, 2 * node + 1);
-        let winner = first.earlier(second);
-        if winner.is_same(winners[node]) {
+        let least = ranks[2 * node].min(ranks[2 * node + 1]);
+        if ranks[node] == least {
             return;
         }
-        winners[node] = winner;
+        ranks[node] = least;
         node /= 2;
     }
 }
 
-// The first one of two turns, where there are some.
-fn earlier(first: Option<Turn>, second: Option<Turn>) -> Option<Turn>
-    ensures { result ≡ earlier_turn first second }
+/// The least rank of the leaves that is greater than this one.
+pub(crate) fn first_after(ranks: &[u64], here: u64) -> u64
+    requires { length ranks.now % 2 ≡ 0 }
+    ensures { IsFirstAfter ranks.now here (length ranks.now) result }
 {
-    match (first, second) {
-        (Some(a), Some(b)) => Some(if comes_before(b, a) { b } else { a }),
-        (None, second) => second,
-        (first, None) => first,
+    let mut first = NO_TURN;
+    for leaf in ranks.len() / 2..ranks.len() {
+        first = nearest(here, first, ranks[leaf]);
     }
+    first
 }
 
-fn comes_before(a: Turn, b: Turn) -> bool
-    ensures { result ≡ comes_before a b }
+// The second rank where it lies between the other two, else the first one.
+fn nearest(here: u64, first: u64, second: u64) -> u64
+    ensures { result ≡ nearest here first second }
 {
-    a.number < b.number || a.number == b.number && a.player < b.player
+    if here < second && second < first {
+        second
+    } else {
+        first
+    }
 }

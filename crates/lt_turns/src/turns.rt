@@ -1,8 +1,7 @@
 ghost use Rattle.std.specs.Prelude.{◌≡◌, ◌<◌, None, ℕ, length, count_by, is_some, slice_index_or, slice_set, IfOk, if◌then◌else◌};
 ghost use Rattle.lt_turns.specs.Turns.{IsFirst, IsNext};
 
-use crate::slot::Slot;
-use crate::tree::{first_after, turn_of, update, winner_at};
+use crate::tree::{NO_TURN, first_after, player_of, rank_of, update};
 use std::alloc::{AllocError, Global};
 use std::marker::Model;
 
@@ -12,8 +11,8 @@ use std::marker::Model;
 pub struct Turns {
     numbers: Vec<Option<u32>>,
     // A tree over the players: node 1 is the root, nodes 2k and 2k + 1 stand below node k, and from the number of players
-    // on each node is a player. Here is the first turn below each node that isn't a player.
-    winners: Vec<Slot>,
+    // on each node is a player. Here is the rank of the first turn at or below each node.
+    ranks: Vec<u64>,
     // How many players can act.
     count: u32,
 }
@@ -26,7 +25,7 @@ impl Model for Turns {
 
     ghost view = { λ t. t.numbers.items };
 
-    ghost invariant = { λ t. IsTree t.numbers.items t.winners.items t.count };
+    ghost invariant = { λ t. IsTree t.numbers.items t.ranks.items t.count };
 }
 
 impl Turns {
@@ -36,14 +35,15 @@ impl Turns {
         ensures none { IfOk result (λ turns. (player : ℕ) → slice_index_or turns player None ≡ None) }
     {
         let mut numbers = Vec::new(alloc);
-        let mut winners = Vec::new(alloc);
+        let mut ranks = Vec::new(alloc);
         for _ in 0..players {
             numbers.push(None)?;
-            winners.push(Slot::none())?;
+            ranks.push(NO_TURN)?;
+            ranks.push(NO_TURN)?;
         }
         Ok(Turns {
             numbers,
-            winners,
+            ranks,
             count: 0,
         })
     }
@@ -65,7 +65,8 @@ impl Turns {
         let place = usize::from(player);
         self.count = self.count + one_if(number) - one_if(self.numbers[place]);
         self.numbers[place] = number;
-        update(&self.numbers, &mut self.winners, place);
+        let leaf = self.numbers.len() + place;
+        update(&mut self.ranks, leaf, rank_of(number, player));
     }
 
     /// The first player of those that can act.
@@ -75,7 +76,7 @@ impl Turns {
         if self.numbers.is_empty() {
             return None;
         }
-        winner_at(&self.numbers, &self.winners, 1).player()
+        player_of(self.ranks[1])
     }
 
     /// The first player of those that come after this one, which can act itself. Goes through all players.
@@ -83,8 +84,8 @@ impl Turns {
         requires { player < length self.now }
         ensures { IsNext self.now player result }
     {
-        let here = turn_of(&self.numbers, usize::from(player))?;
-        Some(first_after(&self.numbers, here)?.player)
+        let here = self.ranks[self.numbers.len() + usize::from(player)];
+        player_of(first_after(&self.ranks, here))
     }
 
     /// How many players can act.

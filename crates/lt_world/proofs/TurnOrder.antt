@@ -1,5 +1,5 @@
 -- The client so many places further on.
-use Rattle.std.proofs.Common.{◌≡◌, ℕ, zero, suc, ◌<◌, ◌-◌, Option, Some, None, refl, subst, arith, ◌≢◌, ◌+◌, ◌≤◌, Bool, true, false, List, [], ◌∷◌, length, inl, inr, ◌⊎◌, sym, ap, ◌∙◌, length-set, get_or-set_same, get_or-set_other, option_and_then, ◌&&◌, ◌||◌, ◌==◌, nat_lt, if◌then◌else◌, is_some, count_by, slice_index_or, IfSome, lt-ltb, eq-eqb}
+use Rattle.std.proofs.Common.{◌≡◌, ℕ, zero, suc, ◌<◌, ◌-◌, Option, Some, None, refl, subst, arith, ◌≢◌, ◌+◌, ◌≤◌, Bool, true, false, List, [], ◌∷◌, length, inl, inr, ◌⊎◌, sym, ap, ◌∙◌, length-set, get_or-set_same, get_or-set_other, option_and_then, ◌&&◌, ◌||◌, ◌==◌, nat_lt, if◌then◌else◌, is_some, count_by, slice_index_or, IfSome, lt-ltb, eq-eqb, eqb-true}
 use Rattle.std.proofs.lemmas.Bool.{cases_eq, cases_lt, and_parts, and_from, or_left, or_right, false≢true, false_from_ne_true}
 use Rattle.std.proofs.lemmas.List.{get_or_past, get_or_default}
 use Rattle.std.proofs.lemmas.List.Sums.{sum_by-cons}
@@ -14,7 +14,7 @@ use Rattle.lt_spec.specs.World.{World, made_by, is_runnable, line_client}
 use Rattle.lt_spec.specs.FixedOrder.{next_act, act_after, acts_before}
 use Rattle.lt_law_enabled.proofs.Acts.{after_this, acts_order, by_two}
 use Rattle.lt_turns.specs.Turns.{IsFirst, IsNext, IsAfter}
-use Rattle.lt_world.specs.Fields.{AreTurns, turn_of, NoneNames, OthersStand, with_turn}
+use Rattle.lt_world.specs.Fields.{AreTurns, turn_of, NoneNames, OthersStand, with_turn, is_act_of, other_named}
 
 act_after_more : (script : ScriptData) (w : World) (earlier : Option ℕ) (k : ℕ) → 0 < k
     → act_after script w earlier k ≡ option_and_then (λ next. act_after script w (Some next) (k - 1)) (next_act script w earlier)
@@ -187,10 +187,15 @@ turn_there : (script : ScriptData) (w : World) (named : Option ℕ) (c : ℕ) (t
 turn_there script w None c turns other = refl
 turn_there script w (Some client) c turns other = get_or-set_other turns client c (turn_of script w client) None (λ e. other (ap Some (sym e)))
 
+-- a step that is a command of the client
+act_of : (step : Step) (client : ℕ) → is_act_of step client ≡ true → step ≡ Act client
+act_of (Act actor) client e = ap Act (eqb-true actor client e)
+act_of (Take sender) client e = absurd (false≢true e)
+
 -- one line more
 pub line_noted : (script : ScriptData) (w : World) (step : Step) (lines : List Event) (k : ℕ) (line : Event) (turns : List (Option ℕ))
     → length turns ≡ length script.clients → k < length lines → line ≡ slice_index_or lines k line
-    → OthersStand script turns w step lines k → OthersStand script (with_turn script w (line_client line) turns) w step lines (k + 1)
+    → OthersStand script turns w step lines k → OthersStand script (with_turn script w (other_named step (line_client line)) turns) w step lines (k + 1)
 line_noted script w step lines k line turns count inside at h = λ c below other none.
     by_line c below other none (line_client line) refl
   where
@@ -202,18 +207,22 @@ line_noted script w step lines k line turns count inside at h = λ c below other
     ]
 
     by_line : (c : ℕ) → c < length script.clients → step ≢ Act c → NoneNames c lines (k + 1) → (named : Option ℕ) → line_client line ≡ named
-        → slice_index_or (with_turn script w named turns) c None ≡ turn_of script w c
+        → slice_index_or (with_turn script w (other_named step named) turns) c None ≡ turn_of script w c
     by_line c below other none None e = h c below other (none_from c (λ f. none_some (sym e ∙ f)) none)
       where
         none_some : None ≡ Some c → ⊥
         none_some f = cc
-    by_line c below other none (Some client) e = elim (cases_eq client c) [
-      | inl same ↦ subst (λ (i : ℕ). slice_index_or (with_turn script w (Some i) turns) c None ≡ turn_of script w c) (sym same) (turn_here script w c turns count below)
-      | inr apart ↦ turn_there script w (Some client) c turns (λ f. apart (some_same f)) ∙ h c below other (none_from c (λ f. apart (some_same (sym e ∙ f))) none)
-    ]
+    by_line c below other none (Some client) e = by_step (is_act_of step client) refl
       where
         some_same : Some client ≡ Some c → client ≡ c
         some_same f = some_equal client c f
+
+        by_step : (t : Bool) → is_act_of step client ≡ t → slice_index_or (with_turn script w (if t then None else Some client) turns) c None ≡ turn_of script w c
+        by_step true acts = h c below other (none_from c (λ f. other (act_of step c (ap (is_act_of step) (sym (some_same (sym e ∙ f))) ∙ acts))) none)
+        by_step false acts = elim (cases_eq client c) [
+          | inl same ↦ subst (λ (i : ℕ). slice_index_or (with_turn script w (Some i) turns) c None ≡ turn_of script w c) (sym same) (turn_here script w c turns count below)
+          | inr apart ↦ turn_there script w (Some client) c turns (λ f. apart (some_same f)) ∙ h c below other (none_from c (λ f. apart (some_same (sym e ∙ f))) none)
+        ]
 
 -- once all lines are noted
 pub lines_noted : (script : ScriptData) (w : World) (step : Step) (lines : List Event) (k : ℕ) (turns : List (Option ℕ)) → length lines ≤ k

@@ -1,5 +1,5 @@
 -- What the fields of a world hold, for the moves that were made.
-use Rattle.std.specs.Prelude.{◌≡◌, ◌<◌, ◌≤◌, ◌+◌, ◌^◌, ℕ, List, [], Option, Some, None, length, slice_index_or, slice_set, if◌then◌else◌, IsTrue, Bool, ◌&&◌, nat_lt, ◌∷◌, ◌++◌, ◌≢◌, ◌-◌, unwrap_or, not}
+use Rattle.std.specs.Prelude.{◌≡◌, ◌<◌, ◌≤◌, ◌+◌, ◌^◌, ℕ, List, [], Option, Some, None, length, slice_index_or, slice_set, if◌then◌else◌, IsTrue, Bool, false, ◌==◌, ◌&&◌, nat_lt, ◌∷◌, ◌++◌, ◌≢◌, ◌-◌, unwrap_or, not}
 use Rattle.lt_modes.specs.declared.moves.Step.{Step}
 use Rattle.lt_modes.specs.Script.{ScriptData}
 use Rattle.lt_modes.specs.declared.mode.Mode.{Mode}
@@ -179,6 +179,16 @@ OthersStand script turns w step lines k =
 abbrev pub with_turn : ScriptData → World → Option ℕ → List (Option ℕ) → List (Option ℕ)
 with_turn script w None turns = turns
 with_turn script w (Some client) turns = slice_set turns client (turn_of script w client)
+
+-- the step is a command of the client
+abbrev pub is_act_of : Step → ℕ → Bool
+is_act_of (steps.Act actor) client = actor == client
+is_act_of (steps.Take sender) client = false
+
+-- the client that a line names, unless the step is a command of this client
+abbrev pub other_named : Step → Option ℕ → Option ℕ
+other_named step None = None
+other_named step (Some client) = if is_act_of step client then None else Some client
 
 -- When a node can make a move.
 

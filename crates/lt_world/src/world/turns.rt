@@ -1,7 +1,7 @@
 ghost use Rattle.std.specs.Prelude.{◌≡◌, ◌≢◌, ◌<◌, None, ℕ, length, slice_index_or, Some, IfOk};
 ghost use Rattle.lt_modes.specs.declared.moves.Step.TheVariants.{Act};
 ghost use Rattle.lt_spec.specs.World.{line_client};
-ghost use Rattle.lt_world.specs.Fields.{AreTurns, turn_of, IsAfterRun, world_in, OthersStand, lines_of_last_move, with_turn};
+ghost use Rattle.lt_world.specs.Fields.{AreTurns, turn_of, IsAfterRun, world_in, OthersStand, lines_of_last_move, with_turn, is_act_of, other_named};
 
 use crate::network::Network;
 use lt_modes::{Event, Step};
@@ -52,18 +52,30 @@ fn note_named(turns: &mut Turns, script: &Script, network: &Network, step: Step)
 {
     let lines = network.run.events(network.run.len() - 1);
     for line in lines {
-        note_line(turns, script, network, line);
+        note_line(turns, script, network, step, line);
     }
 }
 
-// Notes it of the client that the line names, where it names one.
-fn note_line(turns: &mut Turns, script: &Script, network: &Network, line: &Event)
+// Notes it of the client that the line names, where it names one, unless the step is a command of this client.
+fn note_line(turns: &mut Turns, script: &Script, network: &Network, step: Step, line: &Event)
     requires holds { IsAfterRun script.now network.now }
     requires count { length turns.old ≡ length script.now.clients }
-    ensures { turns.new ≡ with_turn script.now (world_in script.now network.now) (line_client line.now) turns.old }
+    ensures { turns.new ≡ with_turn script.now (world_in script.now network.now) (other_named step (line_client line.now)) turns.old }
 {
     if let Some(client) = client_of(line) {
-        note_turn(turns, script, network, client);
+        if !is_act_of(step, client) {
+            note_turn(turns, script, network, client);
+        }
+    }
+}
+
+// Whether the step is a command of this client.
+fn is_act_of(step: Step, client: u16) -> bool
+    ensures { result ≡ is_act_of step client }
+{
+    match step {
+        Step::Act(actor) => actor == client,
+        Step::Take(_) => false,
     }
 }
 
