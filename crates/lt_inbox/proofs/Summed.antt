@@ -1,14 +1,14 @@
 -- The pairs that have letters: the receivers, and how many pairs there are.
-use Rattle.std.proofs.Common.{◌≡◌, ◌<◌, ◌≤◌, ◌+◌, ◌-◌, ◌^◌, ◌∙◌, ℕ, zero, suc, Bool, false, List, [], ◌∷◌, ◌++◌, inl, inr, refl, sym, ap, subst, arith, length, All, drop, sum_by, nat_lt, slice_set, length-set, get_or-set_same, get_or-set_other, ltb-false}
+use Rattle.std.proofs.Common.{◌≡◌, ◌<◌, ◌≤◌, ◌+◌, ◌-◌, ◌^◌, ◌∙◌, ℕ, zero, suc, Bool, true, false, List, [], ◌∷◌, ◌++◌, inl, inr, refl, sym, ap, subst, arith, length, All, drop, sum_by, nat_lt, slice_set, length-set, get_or-set_same, get_or-set_other, ltb-false, lt-ltb}
 use Rattle.std.proofs.lemmas.Bool.{cases_eq}
-use Rattle.std.proofs.lemmas.List.{drop_all, get_or_default}
+use Rattle.std.proofs.lemmas.List.{drop_all, get_or_default, set-get_or}
 use Rattle.std.proofs.lemmas.List.Sums.{sum_by-set, sum_by-le, sum_by-drop_more, get_or-le-sum_by, count_by-le-length}
 use Rattle.lt_spec.specs.FixedOrder.{Turn}
 use Rattle.lt_inbox.specs.Mail.{has_from, sender_count, senders_to, has_between, put_mark, IsSquare, AreReceivers, AreSummed, takes_of, takes_from, takes_by}
 use Rattle.lt_inbox.specs.Bits.{IsFirstFrom, NoneFrom}
 use Rattle.lt_inbox.proofs.TakeOrder.{takes_counted, takes_next, takes_more}
 use Rattle.lt_inbox.proofs.Marks.{at_receiver, at_other, square_put}
-use Rattle.lt_inbox.proofs.Sets.{none_marked}
+use Rattle.lt_inbox.proofs.Sets.{none_marked, count_more, count_less}
 
 -- The number of pairs.
 
@@ -66,8 +66,41 @@ put_summed boxes receivers pairs p q t h inside = record {
   counted = omega (arith, h.counted, sum_by-set sender_count boxes q (slice_set (senders_to boxes q) p t) [] inside);
 }
 
-pub own_counted : (boxes : List (List Bool)) (receivers : List Bool) (pairs q : ℕ) → AreSummed boxes receivers pairs → q < length boxes → sender_count (senders_to boxes q) ≤ pairs
+own_counted : (boxes : List (List Bool)) (receivers : List Bool) (pairs q : ℕ) → AreSummed boxes receivers pairs → q < length boxes → sender_count (senders_to boxes q) ≤ pairs
 own_counted boxes receivers pairs q h inside = omega (arith, h.counted, get_or-le-sum_by sender_count boxes q [] inside)
+
+-- where the mark is as it was, so is all
+pub put_again : (boxes : List (List Bool)) (p q : ℕ) (t : Bool) → has_between boxes p q ≡ t → put_mark boxes p q t ≡ boxes
+put_again boxes p q t is =
+    ap (slice_set boxes q) (ap (slice_set (senders_to boxes q) p) (sym is) ∙ set-get_or (senders_to boxes q) p false) ∙ set-get_or boxes q []
+
+-- one pair more
+pub summed_more : (boxes : List (List Bool)) (receivers : List Bool) (pairs p q : ℕ) → AreSummed boxes receivers pairs → p < length boxes → q < length boxes
+    → has_between boxes p q ≡ false → AreSummed (put_mark boxes p q true) (slice_set receivers q true) (pairs + 1)
+summed_more boxes receivers pairs p q h sender receiver was =
+    let more : sender_count (slice_set (senders_to boxes q) p true) ≡ sender_count (senders_to boxes q) + 1 =
+    count_more (senders_to boxes q) p (omega (arith, sender, h.square.senders q receiver)) was in
+    let some : nat_lt 0 (sender_count (slice_set (senders_to boxes q) p true)) ≡ true = lt-ltb 0 _ (omega (arith, more)) in
+    let count : pairs + sender_count (slice_set (senders_to boxes q) p true) - sender_count (senders_to boxes q) ≡ pairs + 1 = omega (arith, more) in
+    subst (λ (t : Bool). AreSummed (put_mark boxes p q true) (slice_set receivers q t) (pairs + 1)) some
+    (subst (AreSummed (put_mark boxes p q true) (slice_set receivers q (nat_lt 0 (sender_count (slice_set (senders_to boxes q) p true))))) count
+    (put_summed boxes receivers pairs p q true h receiver))
+
+-- one pair less
+pub summed_less : (boxes : List (List Bool)) (receivers : List Bool) (pairs p q : ℕ) → AreSummed boxes receivers pairs → p < length boxes → q < length boxes
+    → has_between boxes p q ≡ true
+    → AreSummed (put_mark boxes p q false) (slice_set receivers q (nat_lt 0 (sender_count (slice_set (senders_to boxes q) p false)))) (pairs - 1)
+summed_less boxes receivers pairs p q h sender receiver was =
+    let less : sender_count (slice_set (senders_to boxes q) p false) + 1 ≡ sender_count (senders_to boxes q) =
+    count_less (senders_to boxes q) p (omega (arith, sender, h.square.senders q receiver)) was in
+    let count : pairs + sender_count (slice_set (senders_to boxes q) p false) - sender_count (senders_to boxes q) ≡ pairs - 1 = omega (arith, less) in
+    subst (AreSummed (put_mark boxes p q false) (slice_set receivers q (nat_lt 0 (sender_count (slice_set (senders_to boxes q) p false))))) count
+    (put_summed boxes receivers pairs p q false h receiver)
+
+pub some_counted : (boxes : List (List Bool)) (receivers : List Bool) (pairs p q : ℕ) → AreSummed boxes receivers pairs → p < length boxes → q < length boxes
+    → has_between boxes p q ≡ true → 1 ≤ pairs
+some_counted boxes receivers pairs p q h sender receiver was =
+    omega (arith, own_counted boxes receivers pairs q h receiver, count_less (senders_to boxes q) p (omega (arith, sender, h.square.senders q receiver)) was)
 
 -- no pair at the start
 pub none_summed : (boxes : List (List Bool)) (receivers : List Bool) → length boxes < 2 ^ 8 → ((q : ℕ) → q < length boxes → length (senders_to boxes q) ≡ length boxes)

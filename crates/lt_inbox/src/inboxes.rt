@@ -87,7 +87,7 @@ impl Inboxes {
         requires room { 0 < self.old.free }
         ensures { self.new ≡ record self.old { sent = self.old.sent ++ sent_of sender post.to (letter_seen post.letter) ∷ []; free = self.old.free - 1 } }
     {
-        self.pairs.set(sender, post.to, true);
+        self.pairs.mark(sender, post.to);
         self.sent
             .push_back_reserved(Sent::new(sender, post.to, post.letter));
     }
@@ -110,7 +110,7 @@ impl Inboxes {
         requires room { 0 < self.old.free }
         ensures { self.new ≡ record self.old { sent = sent_of sender receiver (letter_seen letter) ∷ self.old.sent; free = self.old.free - 1 } }
     {
-        self.pairs.set(sender, receiver, true);
+        self.pairs.mark(sender, receiver);
         self.sent
             .push_front_reserved(Sent::new(sender, receiver, letter));
     }

@@ -1,4 +1,4 @@
-ghost use Rattle.std.specs.Prelude.{◌≡◌, ◌<◌, ◌^◌, ℕ, true, false, length, slice_get, slice_set, IfSome, IfNone};
+ghost use Rattle.std.specs.Prelude.{◌≡◌, ◌<◌, ◌^◌, ℕ, true, false, not, length, slice_get, slice_set, IfSome, IfNone};
 ghost use Rattle.lt_inbox.specs.Mail.{has_from, sender_count, senders_in};
 ghost use Rattle.lt_inbox.specs.Bits.{IsFirstBit, IsFirstFrom, NoBitFrom, NoneFrom, OthersStand, has_bit};
 
@@ -73,24 +73,32 @@ impl NodeSet {
         }
     }
 
-    fn insert(&mut self, node: u8)
+    /// Adds the node; answers whether it wasn't in the set.
+    pub(crate) fn insert(&mut self, node: u8) -> bool
         requires { node < length self.old }
-        ensures { self.new ≡ slice_set self.old node true }
-    {
-        if !has_bit(&self.words, node) {
-            set_bit(&mut self.words, node);
-            self.len += 1;
-        }
-    }
-
-    fn remove(&mut self, node: u8)
-        requires { node < length self.old }
-        ensures { self.new ≡ slice_set self.old node false }
+        ensures set { self.new ≡ slice_set self.old node true }
+        ensures added { result ≡ not (has_from self.old node) }
     {
         if has_bit(&self.words, node) {
-            clear_bit(&mut self.words, node);
-            self.len -= 1;
+            return false;
         }
+        set_bit(&mut self.words, node);
+        self.len += 1;
+        true
+    }
+
+    /// Removes the node; answers whether it was in the set.
+    pub(crate) fn remove(&mut self, node: u8) -> bool
+        requires { node < length self.old }
+        ensures set { self.new ≡ slice_set self.old node false }
+        ensures removed { result ≡ has_from self.old node }
+    {
+        if !has_bit(&self.words, node) {
+            return false;
+        }
+        clear_bit(&mut self.words, node);
+        self.len -= 1;
+        true
     }
 }
 

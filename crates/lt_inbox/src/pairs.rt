@@ -1,4 +1,4 @@
-ghost use Rattle.std.specs.Prelude.{◌≡◌, ◌<◌, ◌^◌, ℕ, false, length, slice_get, option_map, IfOk};
+ghost use Rattle.std.specs.Prelude.{◌≡◌, ◌<◌, ◌^◌, ℕ, true, false, length, slice_get, option_map, IfOk};
 ghost use Rattle.lt_inbox.specs.Mail.{IsSquare, has_between, put_mark, senders_to, takes_by};
 ghost use Rattle.lt_inbox.specs.Takes.{turn_of_take};
 
@@ -57,12 +57,35 @@ impl Pairs {
         requires { (sender < length self.old) × (receiver < length self.old) }
         ensures { self.new ≡ put_mark self.old sender receiver has }
     {
+        if has {
+            self.mark(sender, receiver);
+        } else {
+            self.clear(sender, receiver);
+        }
+    }
+
+    /// Letters are on their way from the sender to the receiver.
+    pub(crate) fn mark(&mut self, sender: u8, receiver: u8)
+        requires { (sender < length self.old) × (receiver < length self.old) }
+        ensures { self.new ≡ put_mark self.old sender receiver true }
+    {
+        if self.boxes[usize::from(receiver)].insert(sender) {
+            self.receivers.insert(receiver);
+            self.count += 1;
+        }
+    }
+
+    // No letter is on its way from the sender to the receiver.
+    fn clear(&mut self, sender: u8, receiver: u8)
+        requires { (sender < length self.old) × (receiver < length self.old) }
+        ensures { self.new ≡ put_mark self.old sender receiver false }
+    {
         let senders = &mut self.boxes[usize::from(receiver)];
-        let before = senders.len();
-        senders.set(sender, has);
-        let after = senders.len();
-        self.receivers.set(receiver, after > 0);
-        self.count = self.count + u32::from(after) - u32::from(before);
+        if senders.remove(sender) {
+            let more = senders.len() > 0;
+            self.receivers.set(receiver, more);
+            self.count -= 1;
+        }
     }
 
     /// The number of takes.

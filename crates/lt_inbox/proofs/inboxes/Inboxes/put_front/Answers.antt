@@ -16,5 +16,5 @@ invariant_of-self c =
     let receiver : q < length pairs = omega (arith, c.requires.inside.1, count) in
     let more : c.push_front_reserved.new.self.items ≡ sent_of p q letter ∷ sent =
     c.push_front_reserved.ensures.items ∙ ap (λ (one : SentData). one ∷ sent) c.new.ensures in
-    subst (λ (bs : List (List Bool)). AreMarked bs c.push_front_reserved.new.self.items) (sym c.set.ensures)
+    subst (λ (bs : List (List Bool)). AreMarked bs c.push_front_reserved.new.self.items) (sym c.mark.ensures)
     (subst (AreMarked (put_mark pairs p q true)) (sym more) (marked_front pairs sent p q letter c.self.invariant sender receiver))

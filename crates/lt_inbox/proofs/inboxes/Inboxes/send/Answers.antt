@@ -16,5 +16,5 @@ invariant_of-self c =
     let receiver : q < length pairs = omega (arith, c.requires.receiver, count) in
     let more : c.push_back_reserved.new.self.items ≡ sent ++ sent_of p q letter ∷ [] =
     c.push_back_reserved.ensures.items ∙ ap (λ (one : SentData). sent ++ one ∷ []) c.new.ensures in
-    subst (λ (bs : List (List Bool)). AreMarked bs c.push_back_reserved.new.self.items) (sym c.set.ensures)
+    subst (λ (bs : List (List Bool)). AreMarked bs c.push_back_reserved.new.self.items) (sym c.mark.ensures)
     (subst (AreMarked (put_mark pairs p q true)) (sym more) (marked_back pairs sent p q letter c.self.invariant sender receiver))
