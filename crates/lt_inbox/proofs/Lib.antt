@@ -1,2 +1,5 @@
 pub mod TakeOrder
 pub mod Marks
+pub mod Bits
+pub mod Sets
+pub mod Summed

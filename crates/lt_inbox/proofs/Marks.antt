@@ -6,7 +6,7 @@ use Rattle.std.proofs.lemmas.List.{get_or_default}
 use Rattle.std.proofs.lemmas.List.Elements.{filter_map-append, All-rest}
 use Rattle.lt_modes.specs.State.{Letter, Post}
 use Rattle.lt_spec.specs.World.{is_some_letter}
-use Rattle.lt_inbox.specs.Mail.{SentData, IsOldest, goes, letter_between, letters_between, MailData, mail_in, sent_of, letters_of, AreMarked, has_from, senders_to, has_between, put_mark}
+use Rattle.lt_inbox.specs.Mail.{SentData, IsOldest, goes, letter_between, letters_between, MailData, mail_in, sent_of, letters_of, IsSquare, AreMarked, has_from, senders_to, has_between, put_mark}
 
 pub between_append : (a b : ℕ) (xs ys : List SentData) → letters_between a b (xs ++ ys) ≡ letters_between a b xs ++ letters_between a b ys
 between_append a b xs ys = filter_map-append (letter_between a b) xs ys
@@ -126,10 +126,10 @@ delivered_one p posts old now post rest h = record {
 
 -- From whom to whom letters are on their way, once a letter more or less is.
 
-at_receiver : (boxes : List (List Bool)) (p q : ℕ) (t : Bool) → q < length boxes → senders_to (put_mark boxes p q t) q ≡ slice_set (senders_to boxes q) p t
+pub at_receiver : (boxes : List (List Bool)) (p q : ℕ) (t : Bool) → q < length boxes → senders_to (put_mark boxes p q t) q ≡ slice_set (senders_to boxes q) p t
 at_receiver boxes p q t inside = get_or-set_same boxes q (slice_set (senders_to boxes q) p t) [] inside
 
-at_other : (boxes : List (List Bool)) (p q : ℕ) (t : Bool) (b : ℕ) → b ≢ q → senders_to (put_mark boxes p q t) b ≡ senders_to boxes b
+pub at_other : (boxes : List (List Bool)) (p q : ℕ) (t : Bool) (b : ℕ) → b ≢ q → senders_to (put_mark boxes p q t) b ≡ senders_to boxes b
 at_other boxes p q t b apart = get_or-set_other boxes q b (slice_set (senders_to boxes q) p t) [] apart
 
 mark_same : (boxes : List (List Bool)) (p q : ℕ) (t : Bool) → q < length boxes → p < length (senders_to boxes q) → has_between (put_mark boxes p q t) p q ≡ t
@@ -155,6 +155,14 @@ senders_put boxes p q t b inside = elim (cases_eq b q) [
       subst (λ (k : ℕ). length (senders_to (put_mark boxes p q t) k) ≡ length (senders_to boxes k)) (sym same) here
 ]
 
+pub square_put : (boxes : List (List Bool)) (p q : ℕ) (t : Bool) → IsSquare boxes → q < length boxes → IsSquare (put_mark boxes p q t)
+square_put boxes p q t h receiver =
+    let same : length (put_mark boxes p q t) ≡ length boxes = length-set boxes q (slice_set (senders_to boxes q) p t) in
+    record {
+      few = omega (arith, h.few, same);
+      senders = λ b below. senders_put boxes p q t b receiver ∙ (h.senders b (omega (arith, below, same)) ∙ sym same);
+    }
+
 -- only the letters from p to q changed
 pub marked : (boxes : List (List Bool)) (sent now : List SentData) (p q : ℕ) (t : Bool) → AreMarked boxes sent → p < length boxes → q < length boxes
     → is_some_letter (letters_between p q now) ≡ t → ((a b : ℕ) → (a ≡ p → b ≡ q → ⊥) → letters_between a b now ≡ letters_between a b sent)
@@ -162,8 +170,7 @@ pub marked : (boxes : List (List Bool)) (sent now : List SentData) (p q : ℕ) (
 marked boxes sent now p q t h sender receiver own others =
     let same : length (put_mark boxes p q t) ≡ length boxes = length-set boxes q (slice_set (senders_to boxes q) p t) in
     record {
-      few = omega (arith, h.few, same);
-      senders = λ b below. senders_put boxes p q t b receiver ∙ (h.senders b (omega (arith, below, same)) ∙ sym same);
+      square = square_put boxes p q t h.square receiver;
       marks = λ a b la lb. mark_is a b (omega (arith, la, same)) (omega (arith, lb, same));
     }
   where
@@ -177,7 +184,7 @@ marked boxes sent now p q t h sender receiver own others =
         | inr other ↦ apart_is a b la lb (λ e f. other f)
         | inl to ↦
             let here : has_between (put_mark boxes p q t) p q ≡ is_some_letter (letters_between p q now) =
-            mark_same boxes p q t receiver (omega (arith, sender, h.senders q receiver)) ∙ sym own in
+            mark_same boxes p q t receiver (omega (arith, sender, h.square.senders q receiver)) ∙ sym own in
             subst (λ (i : ℕ). has_between (put_mark boxes p q t) i b ≡ is_some_letter (letters_between i b now)) (sym from)
             (subst (λ (i : ℕ). has_between (put_mark boxes p q t) p i ≡ is_some_letter (letters_between p i now)) (sym to) here)
       ]

@@ -7,7 +7,7 @@ use Rattle.lt_spec.specs.FixedOrder.{Turn, take_turn}
 use Rattle.lt_spec.specs.World.{is_some_letter}
 use Rattle.lt_inbox.specs.Mail.{has_from, sender_count, senders_in, senders_to, mail_in, SentData, AreMarked, takes_of, takes_from, takes_by, takes_in}
 
-counted_first : (has : Bool) (rest : List Bool) → sender_count (has ∷ rest) ≡ (if has then 1 else 0) + sender_count rest
+pub counted_first : (has : Bool) (rest : List Bool) → sender_count (has ∷ rest) ≡ (if has then 1 else 0) + sender_count rest
 counted_first has rest = sum_by-cons (λ (b : Bool). if b then 1 else 0) has rest
 
 pub none_from : (n p : ℕ) → has_from (replicate n false) p ≡ false
@@ -140,5 +140,5 @@ takes_marked boxes sent free h =
 
     senders_are : (q : ℕ) → q < length boxes → senders_in (senders_to boxes q) ≡ filter (letters_from q) (range_with_len 0 (length boxes))
     senders_are q inside =
-        ap (λ (n : ℕ). filter (has_from (senders_to boxes q)) (range_with_len 0 n)) (h.senders q inside)
+        ap (λ (n : ℕ). filter (has_from (senders_to boxes q)) (range_with_len 0 n)) (h.square.senders q inside)
         ∙ filter_same (has_from (senders_to boxes q)) (letters_from q) 0 (length boxes) (λ p below. h.marks p q (omega (arith, below)) inside)

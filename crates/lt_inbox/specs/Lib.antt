@@ -1,2 +1,3 @@
 pub mod Mail
+pub mod Bits
 pub mod Takes

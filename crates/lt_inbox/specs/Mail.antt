@@ -1,5 +1,5 @@
 -- Letters on their way, in the order in which they were sent.
-use Rattle.std.specs.Prelude.{◌≡◌, ◌<◌, ◌≤◌, ◌+◌, ◌++◌, ◌^◌, ◌&&◌, ℕ, Bool, false, List, [], ◌∷◌, Option, Some, None, if◌then◌else◌, ◌==◌, length, map, filter, flat_map, count_by, slice_index_or, slice_set, filter_map, remove}
+use Rattle.std.specs.Prelude.{◌≡◌, ◌<◌, ◌≤◌, ◌+◌, ◌++◌, ◌^◌, ◌&&◌, ℕ, Bool, false, List, [], ◌∷◌, Option, Some, None, if◌then◌else◌, ◌==◌, length, map, filter, flat_map, count_by, sum_by, nat_lt, slice_index_or, slice_set, filter_map, remove}
 use Rattle.std.specs.List.{range_with_len}
 use Rattle.lt_modes.specs.State.{Letter, Post}
 use Rattle.lt_spec.specs.World.{is_some_letter, letter_for}
@@ -64,10 +64,25 @@ has_between boxes p q = has_from (senders_to boxes q) p
 abbrev pub put_mark : List (List Bool) → ℕ → ℕ → Bool → List (List Bool)
 put_mark boxes p q has = slice_set boxes q (slice_set (senders_to boxes q) p has)
 
--- for each ordered pair of nodes, whose number a byte holds, whether letters are on their way
-pub record AreMarked (boxes : List (List Bool)) (sent : List SentData) : Type 0 where
+-- a mark for each ordered pair of nodes, whose number a byte holds
+pub record IsSquare (boxes : List (List Bool)) : Type 0 where
   pub few : length boxes < 2 ^ 8
   pub senders : (q : ℕ) → q < length boxes → length (senders_to boxes q) ≡ length boxes
+
+-- the receivers who have letters
+pub record AreReceivers (boxes : List (List Bool)) (receivers : List Bool) : Type 0 where
+  pub count : length receivers ≡ length boxes
+  pub marks : (q : ℕ) → has_from receivers q ≡ nat_lt 0 (sender_count (senders_to boxes q))
+
+-- the receivers who have letters, and the number of pairs
+pub record AreSummed (boxes : List (List Bool)) (receivers : List Bool) (pairs : ℕ) : Type 0 where
+  pub square : IsSquare boxes
+  pub receivers_are : AreReceivers boxes receivers
+  pub counted : pairs ≡ sum_by sender_count boxes
+
+-- for each ordered pair of nodes whether letters are on their way
+pub record AreMarked (boxes : List (List Bool)) (sent : List SentData) : Type 0 where
+  pub square : IsSquare boxes
   pub marks : (p q : ℕ) → p < length boxes → q < length boxes → has_between boxes p q ≡ is_some_letter (letters_between p q sent)
 
 -- the takes of one receiver, by sender

@@ -1,13 +1,13 @@
-ghost use Rattle.std.specs.Prelude.{◌≡◌, ◌<◌, ◌≤◌, ◌+◌, ◌-◌, ◌^◌, ℕ, [], ◌∷◌, ◌++◌, All, false, length, slice_get, option_map, IfOk, IsOk, OnOk};
+ghost use Rattle.std.specs.Prelude.{◌≡◌, ◌<◌, ◌≤◌, ◌+◌, ◌-◌, ◌^◌, ℕ, [], ◌∷◌, ◌++◌, All, length, slice_get, option_map, IfOk, IsOk, OnOk};
 ghost use Rattle.lt_modes.specs.State as rules;
 ghost use Rattle.lt_desk.specs.LetterSeen.{letter_seen};
 ghost use Rattle.lt_spec.specs.World.{is_some_letter};
-ghost use Rattle.lt_inbox.specs.Mail.{SameLetters, AreDelivered, IsTaken, senders_to, has_between, mail_in, sent_of, takes_in};
+ghost use Rattle.lt_inbox.specs.Mail.{SameLetters, AreDelivered, IsTaken, mail_in, sent_of, takes_in};
 ghost use Rattle.lt_inbox.specs.Takes.{turn_of_take};
 
-use crate::inbox::Inbox;
+use crate::pairs::Pairs;
 use crate::sent::{Sent, is_any_between, take_first};
-use crate::takes::{self, Take};
+use crate::takes::Take;
 use lt_desk::{Letter, Out, Post};
 use std::alloc::{AllocError, Global};
 use std::collections::VecDeque;
@@ -18,8 +18,8 @@ use std::marker::Model;
 pub struct Inboxes {
     // The oldest first: few are on their way at a time, so the first one from a sender to a receiver is soon found.
     sent: VecDeque<Sent>,
-    // By receiver.
-    boxes: Vec<Inbox>,
+    // From whom to whom they go.
+    pairs: Pairs,
 }
 
 impl Model for Inboxes {
@@ -30,12 +30,12 @@ impl Model for Inboxes {
     ghost Value = { MailData };
 
     ghost view = { λ i. record {
-      nodes = length i.boxes.items;
+      nodes = length i.pairs;
       sent = i.sent.items;
       free = deque_capacity i.sent - length i.sent.items;
     } };
 
-    ghost invariant = { λ i. AreMarked i.boxes.items i.sent.items };
+    ghost invariant = { λ i. AreMarked i.pairs i.sent.items };
 }
 
 impl Inboxes {
@@ -44,9 +44,9 @@ impl Inboxes {
         ensures nodes { IfOk result (λ inboxes. inboxes.nodes ≡ nodes) }
         ensures empty { IfOk result (λ inboxes. inboxes.sent ≡ []) }
     {
-        let boxes = boxes_of(alloc, nodes)?;
+        let pairs = Pairs::new(alloc, nodes)?;
         let sent = VecDeque::new(alloc);
-        Ok(Inboxes { sent, boxes })
+        Ok(Inboxes { sent, pairs })
     }
 
     /// Whether a letter is on its way from the sender to the receiver.
@@ -55,7 +55,7 @@ impl Inboxes {
         requires { (sender < self.now.nodes) × (receiver < self.now.nodes) }
         ensures { result ≡ is_some_letter (mail_in self.now sender receiver) }
     {
-        self.boxes[usize::from(receiver)].has_from(sender)
+        self.pairs.has(sender, receiver)
     }
 
     /// Makes room for so many further letters.
@@ -87,7 +87,7 @@ impl Inboxes {
         requires room { 0 < self.old.free }
         ensures { self.new ≡ record self.old { sent = self.old.sent ++ sent_of sender post.to (letter_seen post.letter) ∷ []; free = self.old.free - 1 } }
     {
-        self.boxes[usize::from(post.to)].mark(sender);
+        self.pairs.mark(sender, post.to);
         self.sent
             .push_back_reserved(Sent::new(sender, post.to, post.letter));
     }
@@ -100,7 +100,7 @@ impl Inboxes {
     {
         let letter = take_first(&mut self.sent, sender, receiver);
         let more = is_any_between(&self.sent, sender, receiver);
-        self.boxes[usize::from(receiver)].set(sender, more);
+        self.pairs.set(sender, receiver, more);
         letter
     }
 
@@ -110,7 +110,7 @@ impl Inboxes {
         requires room { 0 < self.old.free }
         ensures { self.new ≡ record self.old { sent = sent_of sender receiver (letter_seen letter) ∷ self.old.sent; free = self.old.free - 1 } }
     {
-        self.boxes[usize::from(receiver)].mark(sender);
+        self.pairs.mark(sender, receiver);
         self.sent
             .push_front_reserved(Sent::new(sender, receiver, letter));
     }
@@ -121,7 +121,7 @@ impl Inboxes {
         ensures count { result ≡ length (takes_in self.now) }
         ensures few { result < 2 ^ 16 }
     {
-        takes::count(&self.boxes)
+        self.pairs.count_takes()
     }
 
     /// The take at place `k`, by receiver and then by sender.
@@ -129,19 +129,6 @@ impl Inboxes {
     pub fn take_at(&self, k: u32) -> Option<Take>
         ensures { option_map turn_of_take result ≡ slice_get (takes_in self.now) k }
     {
-        takes::at(&self.boxes, k)
+        self.pairs.take_at(k)
     }
-}
-
-// So many inboxes without letters, each for so many senders.
-fn boxes_of(alloc: Global, nodes: u8) -> Result<Vec<Inbox>, AllocError>
-    ensures receivers { IfOk result (λ boxes. length boxes.items ≡ nodes) }
-    ensures senders { IfOk result (λ boxes. (q : ℕ) → q < nodes → length (senders_to boxes.items q) ≡ nodes) }
-    ensures empty { IfOk result (λ boxes. (p q : ℕ) → has_between boxes.items p q ≡ false) }
-{
-    let mut boxes = Vec::new(alloc);
-    for _ in 0..nodes {
-        boxes.push(Inbox::new(alloc, nodes)?)?;
-    }
-    Ok(boxes)
 }

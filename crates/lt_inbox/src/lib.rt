@@ -1,8 +1,9 @@
 //! The letters that are on their way between the nodes of one thread, with one room for all.
 #![tactic(auto)]
 
-mod inbox;
 mod inboxes;
+mod node_set;
+mod pairs;
 mod sent;
 mod takes;
 

@@ -1,6 +1,6 @@
 use Rattle.std.proofs.Common.{◌≡◌, ◌<◌, ℕ, false, length}
 use Rattle.lt_inbox.specs.Mail.{senders_to, has_between}
-use Rattle.lt_inbox.proofs.inboxes.boxes_of.Given as goal
+use Rattle.lt_inbox.proofs.pairs.boxes_of.Given as goal
 
 abbrev pub invariant-loop : goal.invariant-loop
 invariant-loop l = record {

@@ -1,0 +1,8 @@
+use Rattle.lt_inbox.proofs.Bits.{bit_cleared}
+use Rattle.lt_inbox.proofs.node_set.clear_bit.Goals as goal
+
+pub returns-clause-own : goal.returns-clause-own
+returns-clause-own c = (bit_cleared c.args.words.now c.args.number c.from.result c.from.ensures c.ranges.number.fits c.told-words).0
+
+pub returns-clause-others : goal.returns-clause-others
+returns-clause-others c = (bit_cleared c.args.words.now c.args.number c.from.result c.from.ensures c.ranges.number.fits c.told-words).1
