@@ -3,6 +3,7 @@ pub mod TokenLemmas
 pub mod FamilyLemmas
 pub mod AdvanceLemmas
 pub mod RequestLemmas
+pub mod CommandLemmas
 pub mod DropLemmas
 pub mod MarkLemmas
 pub mod OwnLemmas

@@ -119,7 +119,7 @@ pub home_of_request : (script : ScriptData) (homes : List ℕ) (k : ℕ) (reques
 home_of_request script homes k requests d known at_homes same inside = omega (arith, client_of_request script k requests d known same inside, homes_count script homes at_homes)
 
 -- the commands of a client among one more
-among_more : (script : ScriptData) (k client : ℕ) (request : ℕ × Command) → k < length script.commands → slice_get script.commands k ≡ Some request
+pub among_more : (script : ScriptData) (k client : ℕ) (request : ℕ × Command) → k < length script.commands → slice_get script.commands k ≡ Some request
     → filter_map (command_if client) (take (k + 1) script.commands) ≡ filter_map (command_if client) (take k script.commands) ++ filter_map (command_if client) (request ∷ [])
 among_more script k client request inside is =
     let here : slice_index_or script.commands k no_request ≡ request = slice_at script.commands k request is in
@@ -127,11 +127,11 @@ among_more script k client request inside is =
     ∙ filter_map-append (command_if client) (take k script.commands) (request ∷ [])
 
 -- one of another client adds nothing
-none_of : (request : ℕ × Command) (client : ℕ) (xs : List Command) → request.0 ≢ client → xs ++ filter_map (command_if client) (request ∷ []) ≡ xs
+pub none_of : (request : ℕ × Command) (client : ℕ) (xs : List Command) → request.0 ≢ client → xs ++ filter_map (command_if client) (request ∷ []) ≡ xs
 none_of request client xs other =
     ap (λ (b : Bool). xs ++ cons_option (if b then Some request.1 else None) []) (ne_eqb request.0 client other) ∙ append-nil xs
 
-one_of : (request : ℕ × Command) (client : ℕ) (xs : List Command) → request.0 ≡ client → xs ++ filter_map (command_if client) (request ∷ []) ≡ xs ++ request.1 ∷ []
+pub one_of : (request : ℕ × Command) (client : ℕ) (xs : List Command) → request.0 ≡ client → xs ++ filter_map (command_if client) (request ∷ []) ≡ xs ++ request.1 ∷ []
 one_of request client xs same = ap (λ (b : Bool). xs ++ cons_option (if b then Some request.1 else None) []) (eq-eqb request.0 client same)
 
 -- the clients with this command where its client is one of node q

@@ -110,6 +110,31 @@ abbrev pub HaveFirst : ScriptData → ℕ → ℕ → List Progress → Type 0
 HaveFirst script q k clients =
     (client : ℕ) → client < length clients → progress_of clients client ≡ record { commands = first_commands script q k client; made = 0 }
 
+-- the clients before their first command, as node q keeps them: each one of its own has its commands
+abbrev pub AreAtStart : ScriptData → ℕ → List Progress → Type 0
+AreAtStart script q clients =
+    (client : ℕ) → client < length clients → progress_of clients client ≡ record { commands = if home script client == q then commands_of script client else []; made = 0 }
+
+-- Commands of all clients, which no node has taken.
+
+-- a client before its first command
+abbrev pub unstarted : List Command → Progress
+unstarted commands = record { commands = commands; made = 0 }
+
+-- the lists with this command more, at its client
+abbrev pub with_request_at : ℕ × Command → List Progress → List Progress
+with_request_at request lists = slice_set lists request.0 (with_command (progress_of lists request.0) request.1)
+
+-- each list has its client's commands among the first ones of all
+abbrev pub HaveAmong : ScriptData → ℕ → List Progress → Type 0
+HaveAmong script k lists =
+    (client : ℕ) → client < length lists → progress_of lists client ≡ unstarted (filter_map (command_if client) (take k script.commands))
+
+-- the lists have the commands of the clients of node q, and of the nodes after it
+pub record HaveFrom (script : ScriptData) (q : ℕ) (lists : List Progress) : Type 0 where
+  pub count : length lists ≡ length script.clients
+  pub each : (client : ℕ) → client < length lists → q ≤ home script client → progress_of lists client ≡ unstarted (commands_of script client)
+
 -- the node knows the node of each client, and the commands of its own ones
 pub record KnowsClients (script : ScriptData) (q : ℕ) (homes : List ℕ) (clients : List Progress) : Type 0 where
   pub homes_are : homes ≡ homes_in script

@@ -4,6 +4,7 @@
 mod acting;
 mod appending;
 mod client;
+mod commands;
 mod family;
 mod limits;
 mod marks;
@@ -14,4 +15,5 @@ mod room;
 mod taking;
 mod waiting;
 
+pub use commands::Commands;
 pub use node::Node;

@@ -1,12 +1,15 @@
-ghost use Rattle.std.specs.Prelude.{◌≡◌, ◌<◌, ◌+◌, ◌&&◌, ◌^◌, ℕ, not, length, IfOk, slice_index_or};
+ghost use Rattle.std.specs.Prelude.{◌≡◌, ◌<◌, ◌+◌, ◌&&◌, ◌^◌, ℕ, not, length, IfOk, OnOk, slice_index_or};
 ghost use Rattle.lt_modes.specs.Fits.{fits, numbers_of};
 ghost use Rattle.lt_desk.specs.LetterSeen.{letter_seen};
 ghost use Rattle.lt_core.specs.Steps.{rule_numbers as numbers_seen};
 ghost use Rattle.lt_spec.specs.NodeMove.{home, node_waits, has_command, act_stamp, take_stamp};
 ghost use Rattle.lt_spec.specs.World.{start};
+ghost use Rattle.lt_spec.specs.Script.{IsScript};
 ghost use Rattle.lt_node.specs.NodeData.{IsNode, IsCoreOf, state_of, first_core};
+ghost use Rattle.lt_node.specs.Clients.{AreAtStart, HaveFrom, homes_in};
 
 use crate::client::{Client, clients_of, homes_of};
+use crate::commands::Commands;
 use crate::marks::no_marks;
 use crate::own::own_of;
 use crate::ready::none_ready;
@@ -74,6 +77,45 @@ impl Node {
     {
         let homes = homes_of(alloc, script)?;
         let clients = clients_of(alloc, script, &homes, node)?;
+        Node::begin(alloc, script, node, homes, clients)
+    }
+
+    /// The node at the start of the script. It takes the commands of its clients, and leaves those of later nodes.
+    pub fn with_commands(
+        alloc: Global,
+        script: &Script,
+        node: u8,
+        commands: &mut Commands,
+    ) -> Result<Node, AllocError>
+        requires node { node < script.now.nodes }
+        requires commands { HaveFrom script.now node commands.old }
+        ensures script { IfOk result (λ made. made.script ≡ script.now) }
+        ensures me { IfOk result (λ made. made.me ≡ node) }
+        ensures state { IfOk result (λ made. state_of made ≡ (start script.now).node node) }
+        ensures left { OnOk result (HaveFrom script.now (node + 1) commands.new) }
+    {
+        let homes = homes_of(alloc, script)?;
+        let clients = commands.take(alloc, script, node)?;
+        Node::begin(alloc, script, node, homes, clients)
+    }
+
+    // The node at the start of the script, with its clients.
+    fn begin(
+        alloc: Global,
+        script: &Script,
+        node: u8,
+        homes: Vec<u8>,
+        clients: Vec<Client>,
+    ) -> Result<Node, AllocError>
+        requires script { IsScript script.now }
+        requires node { node < script.now.nodes }
+        requires homes { homes.items ≡ homes_in script.now }
+        requires count { length clients.items ≡ length script.now.clients }
+        requires each { AreAtStart script.now node clients.items }
+        ensures script { IfOk result (λ made. made.script ≡ script.now) }
+        ensures me { IfOk result (λ made. made.me ≡ node) }
+        ensures state { IfOk result (λ made. state_of made ≡ (start script.now).node node) }
+    {
         let own = own_of(alloc, script, node)?;
         let cores = cores_of(alloc, script, node)?;
         let waiting = no_marks(alloc, script)?;

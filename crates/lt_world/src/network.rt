@@ -19,7 +19,7 @@ use lt_desk::{Letter, Out};
 use lt_inbox::Inboxes;
 use lt_merge::Run;
 use lt_modes::{Move, Stamp, Step};
-use lt_node::Node;
+use lt_node::{Commands, Node};
 use lt_script::Script;
 use std::alloc::{AllocError, Global};
 
@@ -45,7 +45,7 @@ impl Network {
             nodes,
             inboxes,
             out: Out::new(alloc),
-            run: Run::new(alloc),
+            run: first_run(alloc, script)?,
         })
     }
 
@@ -116,15 +116,25 @@ impl Network {
     }
 }
 
+// A run with no moves yet, and room for as many moves and lines as the commands often come to.
+fn first_run(alloc: Global, script: &Script) -> Result<Run, AllocError>
+    ensures { IfOk result (λ run. run.entries ≡ []) }
+{
+    let commands = script.commands() as usize;
+    Run::with_room(alloc, 3 * commands, 4 * commands)
+}
+
 // All nodes of the script at its start.
 fn nodes_of(alloc: Global, script: &Script) -> Result<Vec<Node>, AllocError>
     ensures count { IfOk result (λ nodes. length nodes.items ≡ script.now.nodes) }
     ensures each { IfOk result (λ nodes. (q : ℕ) → q < script.now.nodes → IsNodeOf script.now q ((start script.now).node q) (node_at nodes.items q)) }
     ensures script { IsScript script.now }
 {
-    let mut nodes = Vec::new(alloc);
-    for node in 0..script.nodes() {
-        nodes.push(Node::new(alloc, script, node)?)?;
+    let count = script.nodes();
+    let mut commands = Commands::new(alloc, script)?;
+    let mut nodes = Vec::with_capacity(alloc, usize::from(count))?;
+    for node in 0..count {
+        nodes.push(Node::with_commands(alloc, script, node, &mut commands)?)?;
     }
     Ok(nodes)
 }

@@ -1,16 +1,30 @@
 // What is added to a script: a last set, client or command. A script that shares its parts with a copy gets parts of its
 // own first.
-ghost use Rattle.std.specs.Prelude.{◌≡◌, ◌<◌, ◌++◌, ◌∷◌, [], true, false, length, OnOk, OnErr};
+ghost use Rattle.std.specs.Prelude.{◌≡◌, ◌<◌, ◌++◌, ◌∷◌, [], true, false, length, OnOk, OnErr, IfOk};
 ghost use Rattle.lt_spec.specs.Script.{is_name, IsFamilyOfNext, IsRequest, HasModesOf, most_clients, load_of, is_declared};
+ghost use Rattle.std.specs.Arc.{arc_value};
+ghost use Rattle.lt_script.specs.Views.{SayTheSame};
 ghost use Rattle.lt_spec.specs.declared.limits.TheConstants.{MAX_SETS, MAX_CLIENTS_OF_NODE, MAX_COMMANDS};
 
 use crate::declarations::{ClientDecl, SetDecl};
 use crate::script::Script;
+use crate::script::parts::Parts;
 use lt_modes::Command;
 use std::alloc::AllocError;
 use std::sync::Arc;
 
 impl Script {
+    // Gives the script parts of its own, where copies share them.
+    #[inline(always)]
+    fn part(&mut self) -> Result<(), AllocError>
+        ensures { self.new ≡ self.old }
+    {
+        if Arc::strong_count(&self.parts) > 1 {
+            self.parts = copied(&self.parts)?;
+        }
+        Ok(())
+    }
+
     /// Adds a last set. Its family is its own number, or that of the first set of an earlier family.
     pub fn add_set(&mut self, name: &[u8], family: u8) -> Result<(), AllocError>
         requires name { is_name name.now ≡ true }
@@ -23,7 +37,10 @@ impl Script {
         ensures unchanged { OnErr result (self.new ≡ self.old) }
     {
         let set = SetDecl::new(*self.parts.sets.allocator(), name, family)?;
-        let parts = Arc::make_mut(&mut self.parts)?;
+        self.part()?;
+        let Some(parts) = Arc::get_mut(&mut self.parts) else {
+            return Err(AllocError);
+        };
         let place = parts.sets.len() as u8;
         parts.sets.push(set)?;
         parts.set_hints.note(name, place);
@@ -43,7 +60,10 @@ impl Script {
         ensures unchanged { OnErr result (self.new ≡ self.old) }
     {
         let client = ClientDecl::new(*self.parts.clients.allocator(), name, node)?;
-        let parts = Arc::make_mut(&mut self.parts)?;
+        self.part()?;
+        let Some(parts) = Arc::get_mut(&mut self.parts) else {
+            return Err(AllocError);
+        };
         let place = parts.clients.len() as u8;
         parts.clients.push(client)?;
         parts.client_hints.note(name, place);
@@ -60,8 +80,23 @@ impl Script {
             (self.new ≡ record self.old { commands = self.old.commands ++ (client, command) ∷ [] }) }
         ensures unchanged { OnErr result (self.new ≡ self.old) }
     {
-        let parts = Arc::make_mut(&mut self.parts)?;
+        self.part()?;
+        let Some(parts) = Arc::get_mut(&mut self.parts) else {
+            return Err(AllocError);
+        };
         parts.commands.push((client, command))?;
         Ok(())
     }
+}
+
+// A copy of the parts. It is rarely made, and its code stays out of that which adds to a script.
+#[cold]
+#[inline(never)]
+fn copied(parts: &Arc<Parts>) -> Result<Arc<Parts>, AllocError>
+    ensures { IfOk result (λ copy. SayTheSame (arc_value parts.now) (arc_value copy)) }
+{
+    let alloc = *parts.commands.allocator();
+    let copy = Parts::clone(parts)?;
+    let copy = Arc::new(alloc, copy)?;
+    Ok(copy)
 }

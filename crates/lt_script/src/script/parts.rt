@@ -4,6 +4,7 @@ ghost use Rattle.std.specs.Prelude.{◌≡◌, [], IfOk};
 use crate::declarations::{ClientDecl, SetDecl};
 use crate::hints::Hints;
 use lt_modes::Command;
+use lt_spec::MAX_COMMANDS;
 use std::alloc::{AllocError, Global};
 
 /// What a script and its copies share: the sets, the clients and the commands.
@@ -21,9 +22,6 @@ impl Clone for Parts {
 
     ghost is_clone = { SayTheSame };
 
-    // It is rarely called, and its code stays out of that which adds to a script.
-    #[cold]
-    #[inline(never)]
     fn clone(&self) -> Result<Parts, AllocError> {
         let alloc = *self.commands.allocator();
         let mut parts = self.without_commands(alloc)?;
@@ -41,7 +39,7 @@ impl Parts {
         Parts {
             sets: Vec::new(alloc),
             clients: Vec::new(alloc),
-            commands: Vec::new(alloc),
+            commands: room_for_commands(alloc),
             set_hints: Hints::new(),
             client_hints: Hints::new(),
         }
@@ -62,5 +60,15 @@ impl Parts {
             set_hints: self.set_hints,
             client_hints: self.client_hints,
         })
+    }
+}
+
+// No commands, and room for all that a script may have, where there is memory for them.
+fn room_for_commands(alloc: Global) -> Vec<(u16, Command)>
+    ensures { result.items ≡ [] }
+{
+    match Vec::with_capacity(alloc, MAX_COMMANDS as usize) {
+        Ok(commands) => commands,
+        Err(_) => Vec::new(alloc),
     }
 }

@@ -9,13 +9,14 @@ use Rattle.lt_world.proofs.network.nodes_of.Goals as goal
 pub loop-node-preserved : goal.loop-node-preserved
 loop-node-preserved c =
     let script = c.args.script.now in
-    let made = c.in_ok-new.field-0 in
+    let made = c.in_ok-with_commands.field-0 in
     let nodes = c.loop-node.nodes.items in
     let items = c.in_ok-push.ensures.items in
-    let said = c.in_ok-new.ensures in
+    let said = c.in_ok-with_commands.ensures in
     record {
       count = ap length items ∙ length_push nodes made ∙ ap (λ (n : ℕ). n + 1) c.loop-node.invariant.count;
       each = subst (λ (l : List NodeData). (q : ℕ) → q < c.loop-node.node + 1 → IsNodeOf script q ((start script).node q) (node_at l q)) (sym items)
           (one_more script nodes made c.loop-node.node c.loop-node.invariant.count c.loop-node.invariant.each
           record { script_is = said.script; me = said.me; state_is = said.state });
+      left = said.left;
     }

@@ -1,21 +1,18 @@
-use Rattle.std.proofs.Common.{◌≡◌, ◌<◌, false, length, sym, subst, IsOk}
+use Rattle.std.proofs.Common.{◌≡◌, ◌∙◌, ◌<◌, false, length, sym, subst}
 use Rattle.lt_modes.specs.Script.{ScriptData, ClientData}
 use Rattle.lt_spec.specs.declared.limits.TheConstants.{MAX_CLIENTS_OF_NODE}
 use Rattle.lt_spec.specs.Script.{most_clients, load_of, is_declared}
 use Rattle.lt_script.specs.Views.{script_data}
-use Rattle.lt_script.proofs.PartsLemmas.{same_or_copy}
 use Rattle.lt_script.proofs.ScriptLemmas.{client_added}
 use Rattle.lt_script.proofs.script.Script.add_client.Goals as goal
 
 pub invariant_of-self-2 : goal.invariant_of-self-2
 invariant_of-self-2 c =
-    let s = script_data c.self.inside in
-    let at = c.self.view_is in
+    let s = script_data c.self-2.inside in
+    let at = c.self-2.view_is ∙ c.in_ok-part.ensures in
     let x : ClientData = record { name = c.args.name.now; node = c.args.node } in
     let new = subst (λ (v : ScriptData). is_declared v x.name ≡ false) (sym at) c.requires.new in
     let room = subst (λ (v : ScriptData). length v.clients < most_clients v.version) (sym at) c.requires.room in
     let on_node = subst (λ (v : ScriptData). x.node < v.nodes) (sym at) c.requires.node in
     let load = subst (λ (v : ScriptData). load_of v.clients x.node < MAX_CLIENTS_OF_NODE) (sym at) c.requires.load in
-    let is_ok : IsOk c.make_mut.result = rw c.in_ok-parts.was in
-    let same = same_or_copy _ _ c.in_ok-parts.ensures.value in
-    rw (c.make_mut.follows.holds _ is_ok, c.in_ok-push.ensures.items, same.0, same.1, same.2, c.in_ok-client.ensures) (client_added s x c.self.invariant c.requires.name new room on_node load)
+    rw (c.in_ok-push.ensures.items, c.in-Some.ensures.value, c.in_ok-client.ensures) (client_added s x c.self-2.invariant c.requires.name new room on_node load)

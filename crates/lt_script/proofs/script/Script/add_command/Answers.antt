@@ -1,19 +1,16 @@
-use Rattle.std.proofs.Common.{◌<◌, length, sym, subst, IsOk}
+use Rattle.std.proofs.Common.{◌∙◌, ◌<◌, length, sym, subst}
 use Rattle.lt_modes.specs.Script.{ScriptData}
 use Rattle.lt_spec.specs.declared.limits.TheConstants.{MAX_COMMANDS}
 use Rattle.lt_spec.specs.Script.{IsRequest, HasModesOf}
 use Rattle.lt_script.specs.Views.{script_data}
-use Rattle.lt_script.proofs.PartsLemmas.{same_or_copy}
 use Rattle.lt_script.proofs.ScriptLemmas.{command_added}
 use Rattle.lt_script.proofs.script.Script.add_command.Goals as goal
 
 pub invariant_of-self-2 : goal.invariant_of-self-2
 invariant_of-self-2 c =
     let s = script_data c.self.inside in
-    let at = c.self.view_is in
+    let at = c.self.view_is ∙ c.in_ok-part.ensures in
     let room = subst (λ (v : ScriptData). length v.commands < MAX_COMMANDS) (sym at) c.requires.room in
     let request = subst (λ (v : ScriptData). IsRequest v.sets v.clients (c.args.client, c.args.command)) (sym at) c.requires.request in
     let modes = subst (λ (v : ScriptData). HasModesOf v.version c.args.command) (sym at) c.requires.modes in
-    let is_ok : IsOk c.make_mut.result = rw c.in_ok-parts.was in
-    let same = same_or_copy _ _ c.in_ok-parts.ensures.value in
-    rw (c.make_mut.follows.holds _ is_ok, c.in_ok-push.ensures.items, same.0, same.1, same.2) (command_added s c.args.client c.args.command c.self.invariant room request modes)
+    rw (c.in_ok-push.ensures.items, c.in-Some.ensures.value) (command_added s c.args.client c.args.command c.self.invariant room request modes)

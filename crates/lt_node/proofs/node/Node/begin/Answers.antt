@@ -3,15 +3,15 @@ use Rattle.lt_node.specs.NodeData.{KnowsNone}
 use Rattle.lt_node.proofs.ReadyLemmas.{none_known}
 use Rattle.lt_node.proofs.MarkLemmas.{within_none, waiting_first}
 use Rattle.lt_node.proofs.RequestLemmas.{clients_known, node_at_start, state_at_start}
-use Rattle.lt_node.proofs.node.Node.new.Goals as goal
+use Rattle.lt_node.proofs.node.Node.begin.Goals as goal
 
 pub invariant_of-result : goal.invariant_of-result
 invariant_of-result c =
-    let clients = c.in_ok-clients.clients.items in
+    let clients = c.args.clients.items in
     let cores = c.in_ok-cores.cores.items in
     rw c.in_ok-script.ensures (
-      node_at_start c.args.script.now c.args.node clients cores c.homes_of.ensures.script c.requires c.in_ok-clients.ensures.count c.in_ok-cores.ensures.count c.in_ok-cores.ensures.places,
-      clients_known c.args.script.now c.args.node c.in_ok-homes.homes.items clients c.in_ok-homes.ensures.homes c.in_ok-clients.ensures.each,
+      node_at_start c.args.script.now c.args.node clients cores c.requires.script c.requires.node c.requires.count c.in_ok-cores.ensures.count c.in_ok-cores.ensures.places,
+      clients_known c.args.script.now c.args.node c.args.homes.items clients c.requires.homes c.requires.each,
       waiting_first c.args.script.now c.args.node cores c.in_ok-waiting.waiting.items c.in_ok-waiting.ensures.count c.in_ok-waiting.ensures.none c.in_ok-cores.ensures.states,
       c.in_ok-own.ensures,
       none_known cores c.in_ok-sent.sent.items
@@ -21,4 +21,4 @@ invariant_of-result c =
 
 pub returns-clause-state : goal.returns-clause-state
 returns-clause-state c = rw c.in_ok-script.ensures
-    (state_at_start c.args.script.now c.args.node c.in_ok-clients.clients.items c.in_ok-cores.cores.items c.in_ok-clients.ensures.each c.in_ok-cores.ensures.states)
+    (state_at_start c.args.script.now c.args.node c.args.clients.items c.in_ok-cores.cores.items c.requires.each c.in_ok-cores.ensures.states)
