@@ -89,7 +89,13 @@ fn a_child_passes_who_waits(rt: HostRuntime) {
     holds(&rt, nest.begin(Some(0)) == Ok(1));
     for reader in 2..6 {
         holds(&rt, nest.begin(None) == Ok(reader));
-        holds(&rt, nest.lock(reader, 0, Mode::IntentionRead) == Ok(Asked::Waits));
+        holds(
+            &rt,
+            nest.lock(reader, 0, Mode::IntentionRead) == Ok(Asked::Waits),
+        );
     }
-    holds(&rt, nest.lock(1, 0, Mode::IntentionRead) == Ok(Asked::Granted));
+    holds(
+        &rt,
+        nest.lock(1, 0, Mode::IntentionRead) == Ok(Asked::Granted),
+    );
 }
