@@ -1,9 +1,9 @@
 -- How many records have a mode: after one record changed, and without two of them.
-use Rattle.std.proofs.Common.{◌≡◌, ◌≢◌, ◌∙◌, ℕ, zero, suc, ◌+◌, ◌<◌, ◌≤◌, inl, inr, Bool, true, false, List, length, take, subst, sym, add-one, arith, refl, ap, ◌⊎◌, ◌||◌, ◌&&◌, ◌==◌, if◌then◌else◌, nat_lt, slice_set, sum_by, eq-eqb, ne_eqb, lt-ltb, length-set, take_all}
+use Rattle.std.proofs.Common.{◌≡◌, ◌≢◌, ◌∙◌, ℕ, zero, suc, ◌+◌, ◌<◌, ◌≤◌, inl, inr, Bool, true, false, List, length, take, subst, sym, add-one, arith, refl, ap, ◌⊎◌, ◌||◌, ◌&&◌, ◌==◌, if◌then◌else◌, nat_lt, slice_set, sum_by, replicate, eq-eqb, ne_eqb, lt-ltb, length-set, take_all}
 use Rattle.std.proofs.lemmas.Bool.{cases_eq, cases_lt}
 use Rattle.std.proofs.lemmas.Bool.Decides.{nat_tests}
 use Rattle.std.proofs.Math.ListN.{get_or-eq_default}
-use Rattle.std.proofs.lemmas.List.Sums.{sum_by-set, sum_by_more, get_or-le-sum_by, count_by-le-length}
+use Rattle.std.proofs.lemmas.List.Sums.{sum_by-set, sum_by-cons, sum_by_more, get_or-le-sum_by, count_by-le-length}
 use Rattle.lt_modes.specs.declared.mode.Mode.{Mode}
 use Rattle.lt_modes.specs.Modes.{has, union, no_modes}
 use Rattle.lt_modes.specs.State.{SetState, Desk, Entry, first_entry, record_of, own_part, others_below, others}
@@ -223,3 +223,21 @@ others_plain counts me v s desk are none = same_members _ _ (λ mode.
     ∙ (ap (λ (b : Bool). nat_lt (weight mode (entry_at es v) + (if b then 1 else 0)) (mode_count mode counts)) (has-no_modes mode)
     ∙ (more_than (weight mode (entry_at es v)) 0 (rest mode es v other n) (mode_count mode counts) count
     ∙ sym (plain mode s desk v me other n (omega arith) (omega arith) none))))
+
+-- ---- before anything is told
+
+no_record : (mode : Mode) → weight mode first_entry ≡ 0
+no_record mode =
+    let none : has mode (union no_modes no_modes) ≡ false =
+    has-union mode no_modes no_modes ∙ ap (λ (b : Bool). b || has mode no_modes) (has-no_modes mode) ∙ has-no_modes mode in
+    ap (λ (b : Bool). if b then 1 else 0) none
+
+none_in_first : (mode : Mode) (n : ℕ) → sum_by (weight mode) (replicate n first_entry) ≡ 0
+none_in_first mode zero = refl
+none_in_first mode (suc n) =
+    omega (arith, sum_by-cons (weight mode) first_entry (replicate n first_entry), no_record mode, none_in_first mode n)
+
+pub first_counts : (es : List Entry) (counts : List ℕ) (n : ℕ) → es ≡ replicate n first_entry → ((mode : Mode) → mode_count mode counts ≡ 0)
+    → AreNodeCounts es counts
+first_counts es counts n is none mode =
+    none mode ∙ sym (ap (λ (xs : List Entry). sum_by (weight mode) xs) is ∙ none_in_first mode n)
