@@ -113,7 +113,11 @@ HaveFirst script q k clients =
 -- the clients before their first command, as node q keeps them: each one of its own has its commands
 abbrev pub AreAtStart : ScriptData → ℕ → List Progress → Type 0
 AreAtStart script q clients =
-    (client : ℕ) → client < length clients → progress_of clients client ≡ record { commands = if home script client == q then commands_of script client else []; made = 0 }
+    (client : ℕ) → client < length clients
+    → progress_of clients client ≡ record {
+      commands = if home script client == q then commands_of script client else [];
+      made = 0;
+    }
 
 -- Commands of all clients, which no node has taken.
 
@@ -128,12 +132,14 @@ with_request_at request lists = slice_set lists request.0 (with_command (progres
 -- each list has its client's commands among the first ones of all
 abbrev pub HaveAmong : ScriptData → ℕ → List Progress → Type 0
 HaveAmong script k lists =
-    (client : ℕ) → client < length lists → progress_of lists client ≡ unstarted (filter_map (command_if client) (take k script.commands))
+    (client : ℕ) → client < length lists
+    → progress_of lists client ≡ unstarted (filter_map (command_if client) (take k script.commands))
 
 -- the lists have the commands of the clients of node q, and of the nodes after it
 pub record HaveFrom (script : ScriptData) (q : ℕ) (lists : List Progress) : Type 0 where
   pub count : length lists ≡ length script.clients
-  pub each : (client : ℕ) → client < length lists → q ≤ home script client → progress_of lists client ≡ unstarted (commands_of script client)
+  pub each : (client : ℕ) → client < length lists → q ≤ home script client
+      → progress_of lists client ≡ unstarted (commands_of script client)
 
 -- the node knows the node of each client, and the commands of its own ones
 pub record KnowsClients (script : ScriptData) (q : ℕ) (homes : List ℕ) (clients : List Progress) : Type 0 where
