@@ -64,8 +64,7 @@ stays first (ask ∷ rest) m h =
 barred_from : (first barred : Modes) (asks : List Ask) → ((m : Mode) → has m (all_of first asks) ≡ true → has m barred ≡ true) → AreBarred barred asks
 barred_from first barred [] h = tt
 barred_from first barred (ask ∷ rest) h =
-    let own : has ask.mode (one ask.mode) ≡ true = has-modes_by (same_mode ask.mode) ask.mode ∙ has-itself ask.mode in
-    (
+    let own : has ask.mode (one ask.mode) ≡ true = has-modes_by (same_mode ask.mode) ask.mode ∙ has-itself ask.mode in (
       h ask.mode (stays (with_mode first ask.mode) rest ask.mode
           (has-union ask.mode first (one ask.mode) ∙ or_right (has ask.mode first) (has ask.mode (one ask.mode)) own)),
       barred_from (with_mode first ask.mode) barred rest h,
@@ -85,7 +84,7 @@ pub all_barred : (asks : List Ask) (wanted barred : Modes) (n : ℕ) → wanted 
     → AreBarred barred (drop n asks)
 all_barred asks wanted barred n is within =
     barred_drop barred n asks (barred_from no_modes barred asks (λ m h.
-        not_or (has m wanted) (has m barred) (every_mode-at (λ x. not (has x wanted) || has x barred) m within) (ap (λ (w : Modes). has m w) is ∙ h)))
+    not_or (has m wanted) (has m barred) (every_mode-at (λ x. not (has x wanted) || has x barred) m within) (ap (λ (w : Modes). has m w) is ∙ h)))
 
 -- ---- one ask further
 

@@ -24,8 +24,8 @@ pub count_other : (old : List ℕ) (mode other : Mode) (count : ℕ) → same_mo
     → mode_count other (set old (place_of_mode mode) count) ≡ mode_count other old
 count_other old mode other count differ =
     get_or-set_other old (place_of_mode mode) (place_of_mode other) count 0 (λ same.
-        let hit : same_mode mode other ≡ true = ap (same_mode mode) (same_place other mode same) ∙ has-itself mode in
-        cc)
+    let hit : same_mode mode other ≡ true = ap (same_mode mode) (same_place other mode same) ∙ has-itself mode in
+    cc)
 
 -- the modes that more than n sets have, once a mode has this number
 pub over_set : (n : ℕ) (old : List ℕ) (mode : Mode) (count : ℕ) (over made : Modes) → length old ≡ 6 → over ≡ modes_over n old
@@ -42,9 +42,9 @@ over_set n old mode count over made room is makes =
           ∙ ap (λ (k : ℕ). nat_lt n k) (sym (count_other old mode m count (e ∙ miss)))
     ] refl in
     makes ∙ same_members _ _ (λ m.
-        has-modes_by (λ x. if same_mode mode x then nat_lt n count else has x over) m
-        ∙ own m (same_mode mode m) refl
-        ∙ sym (has-modes_by (λ x. nat_lt n (mode_count x new)) m))
+    has-modes_by (λ x. if same_mode mode x then nat_lt n count else has x over) m
+    ∙ own m (same_mode mode m) refl
+    ∙ sym (has-modes_by (λ x. nat_lt n (mode_count x new)) m))
 
 -- ---- one mode comes or goes
 

@@ -83,7 +83,9 @@ impl ModeSet {
     {
         let mask = match mode {
             Mode::IntentionRead => bit(Mode::Write),
-            Mode::Read => bit(Mode::IntentionWrite) | bit(Mode::ReadIntentionWrite) | bit(Mode::Write),
+            Mode::Read => bit(Mode::IntentionWrite)
+                | bit(Mode::ReadIntentionWrite)
+                | bit(Mode::Write),
             Mode::Upgrade => {
                 bit(Mode::Upgrade)
                     | bit(Mode::IntentionWrite)

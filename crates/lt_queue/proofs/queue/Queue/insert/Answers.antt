@@ -11,8 +11,7 @@ shifted-self-inside-requires c =
 pub invariant_of-self : goal.invariant_of-self
 invariant_of-self c =
     let old = c.self.inside in
-    let items : c.insert.new.self.items ≡ insert old.asks.items c.place-k.result c.args.ask = search rules in
-    (
+    let items : c.insert.new.self.items ≡ insert old.asks.items c.place-k.result c.args.ask = search rules in (
       search rules,
       (
         subst (λ asks. AreAskCounts asks c.shifted-self-inside.result) (sym items)
