@@ -17,6 +17,9 @@ impl Sight<'_> {
         ensures within { IsInQueue (length self.now.queue.now.asks) result }
     {
         let asks = self.queue.asks();
+        if asks.is_empty() {
+            return Pick::Nothing;
+        }
         let wanted = self.queue.modes();
         let own = self.own_part();
         let mut barred = ModeSet::empty();
