@@ -1,9 +1,9 @@
 -- One place of the queue further.
-use Rattle.std.proofs.Common.{◌≡◌, ◌∙◌, ℕ, ◌+◌, ◌<◌, Bool, true, false, List, length, drop, drop-cons, Option, Some, None, refl, sym, ap, add-one, slice_index_or, ◌==◌, ◌&&◌, ◌||◌, not, if◌then◌else◌, IfSome}
+use Rattle.std.proofs.Common.{◌≡◌, ◌∙◌, ℕ, ◌+◌, ◌<◌, Bool, true, false, List, length, drop, drop-cons, Option, Some, None, refl, sym, ap, add-one, slice_index_or, if◌then◌else◌, IfSome}
 use Rattle.lt_modes.specs.declared.ask.Ask.{Ask}
 use Rattle.lt_modes.specs.Modes.{Modes, with_mode}
 use Rattle.lt_modes.specs.State.{no_ask, SetState, Desk}
-use Rattle.lt_modes.specs.Serving.{is_free, is_local, is_copy, is_clear_at_home, is_served, may_draw, next_from, draw_from}
+use Rattle.lt_modes.specs.Serving.{is_served, may_draw, next_from, draw_from}
 use Rattle.lt_desk.specs.Picks.{first_of}
 
 pub next_found : (me : ℕ) (s : SetState) (d : Desk) (before : Modes) (k : ℕ) (asks : List Ask) → k < length asks
@@ -33,10 +33,6 @@ seen_later : (before later : Modes) (k : ℕ) (asks : List Ask) (ask : Ask) → 
     → later ≡ with_mode before (slice_index_or asks k no_ask).mode
 seen_later before later k asks ask here seen = seen ∙ ap (λ (a : Ask). with_mode before a.mode) here
 
-pub turn_is : (me : ℕ) (s : SetState) (d : Desk) (before : Modes) (ask : Ask) (free turn : Bool) → free ≡ is_free me s d before ask
-    → turn ≡ (free && (is_local me s d ask || is_copy me s d ask)) → turn ≡ is_served me s d before ask
-turn_is me s d before ask free turn is test = test ∙ ap (λ (b : Bool). b && (is_local me s d ask || is_copy me s d ask)) is
-
 pub turn_found : (me : ℕ) (s : SetState) (d : Desk) (before : Modes) (k : ℕ) (asks : List Ask) (ask : Ask) (turn : Bool) (all : Option ℕ)
     → k < length asks → ask ≡ slice_index_or asks k no_ask → turn ≡ is_served me s d before ask → turn ≡ true
     → next_from me s d before k (drop k asks) ≡ all → all ≡ Some k
@@ -50,13 +46,6 @@ pub turn_later : (me : ℕ) (s : SetState) (d : Desk) (before later : Modes) (k 
 turn_later me s d before later k asks ask turn all h here seen test fails so_far =
     ap (λ (m : Modes). next_from me s d m (k + 1) (drop (k + 1) asks)) (seen_later before later k asks ask here seen)
     ∙ (sym (next_later me s d before k asks h (ap (λ (a : Ask). is_served me s d before a) (sym here) ∙ (sym test ∙ fails))) ∙ so_far)
-
-pub first_is : (me : ℕ) (s : SetState) (d : Desk) (before : Modes) (k : ℕ) (ask : Ask) (free : Bool) (draw next : Option ℕ) → free ≡ is_free me s d before ask
-    → next ≡ first_of draw (if not (ask.node == me) && (free && (k == 0 || is_clear_at_home me s d ask)) then Some k else None)
-    → next ≡ first_of draw (if may_draw me s d before k ask then Some k else None)
-first_is me s d before k ask free draw next is test =
-    test
-    ∙ ap (λ (b : Bool). first_of draw (if not (ask.node == me) && (b && (k == 0 || is_clear_at_home me s d ask)) then Some k else None)) is
 
 first_of_if : (draw : Option ℕ) (t : Bool) (k : ℕ) (other : Option ℕ)
     → first_of (first_of draw (if t then Some k else None)) other ≡ first_of draw (if t then Some k else other)

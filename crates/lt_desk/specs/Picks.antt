@@ -1,9 +1,11 @@
 -- What the desk does next, as one value.
-use Rattle.std.specs.Prelude.{ℕ, ◌<◌, ◌==◌, List, Option, Some, None, if◌then◌else◌, slice_index_or}
+use Rattle.std.specs.Prelude.{Bool, true, false, ℕ, ◌<◌, ◌==◌, List, Option, Some, None, if◌then◌else◌, slice_index_or}
 use Rattle.lt_modes.specs.declared.ask.Ask.{Ask}
 use Rattle.lt_modes.specs.State.{SetState, no_ask}
 use Rattle.lt_modes.specs.Serving.{queue_of, next_service, next_draw}
 use Rattle.lt_desk.specs.declared.pick.Pick.{Pick}
+use Rattle.lt_desk.specs.declared.pick.Turn.{Turn}
+use Rattle.lt_desk.specs.declared.pick.Turn.TheVariants.{Served, Draws, Later}
 use Rattle.lt_desk.specs.declared.pick.Pick.TheVariants.{Nothing, Local, Copy, HandOver}
 
 -- a service is local where its ask is of node `me`; the desk moves only where there is no service
@@ -39,6 +41,24 @@ first_of None other = other
 abbrev pub hand_over_or_none : Option ℕ → Pick
 hand_over_or_none (Some k) = HandOver k
 hand_over_or_none None = Nothing
+
+-- what becomes of an ask that is served or not, and that may draw the desk or not
+abbrev pub turn_by : Bool → Bool → Turn
+turn_by true draws = Served
+turn_by false true = Draws
+turn_by false false = Later
+
+-- the ask is served
+abbrev pub is_service : Turn → Bool
+is_service Served = true
+is_service Draws = false
+is_service Later = false
+
+-- the ask may draw the desk
+abbrev pub is_draw : Turn → Bool
+is_draw Served = false
+is_draw Draws = true
+is_draw Later = false
 
 -- its place is one of a queue of this length
 abbrev pub IsInQueue : ℕ → Pick → Type 0

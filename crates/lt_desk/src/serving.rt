@@ -1,92 +1,105 @@
-ghost use Rattle.std.specs.Prelude.{◌≡◌, ◌==◌, ◌&&◌, ◌||◌, not, length, Some, None, if◌then◌else◌};
-ghost use Rattle.lt_modes.specs.Serving.{is_free, is_local, is_clear_at_home, is_copy};
-ghost use Rattle.lt_desk.specs.Picks.{picked, first_of, hand_over_or_none, IsInQueue};
+ghost use Rattle.std.specs.Prelude.{◌≡◌, ◌≢◌, ◌==◌, ◌&&◌, ◌||◌, length, Some, None, false, if◌then◌else◌};
+ghost use Rattle.lt_modes.specs.Modes.{Modes, bars};
+ghost use Rattle.lt_modes.specs.State.{own_part};
+ghost use Rattle.lt_modes.specs.Serving.{is_served, may_draw, is_clear_at_home};
+ghost use Rattle.lt_desk.specs.Picks.{picked, first_of, hand_over_or_none, IsInQueue, turn_by, is_draw};
 ghost use Rattle.lt_desk.specs.declared.pick.Pick.TheVariants.{Local, Copy};
 ghost use Rattle.lt_desk.specs.Sights.{sight_state, desk_of};
 
-use crate::pick::Pick;
+use crate::pick::{Pick, Turn};
 use crate::sight::Sight;
 use lt_modes::{Ask, ModeSet};
 
 impl Sight<'_> {
-    /// Looks once at each ask, up to the first that is served.
+    /// Looks once at each ask, up to the first that is served, or to where no later one can be free.
     pub(crate) fn pick(&self) -> Pick
         ensures next { result ≡ picked self.now.me (sight_state self.now) }
         ensures within { IsInQueue (length self.now.queue.now.asks) result }
     {
-        let mut before = ModeSet::empty();
+        let asks = self.queue.asks();
+        if asks.is_empty() {
+            return Pick::Nothing;
+        }
+        let wanted = self.queue.modes();
+        let own = self.own_part();
+        let mut barred = ModeSet::empty();
         let mut draw = None;
         for k in 0..self.queue.len() {
-            let ask = self.queue.get(k);
-            let free = self.is_free(before, &ask);
-            if self.has_turn(free, &ask) {
+            let ask = &asks[k as usize];
+            let turn = self.turn(barred, own, k, ask);
+            if turn.is_served() {
                 return service(k, ask.node == self.me);
             }
-            draw = self.first_draw(draw, free, k, &ask);
-            before = before.with(ask.mode);
+            draw = first_draw(draw, turn, k);
+            barred = barred.union(ModeSet::barred_by(ask.mode));
+            if wanted.is_within(barred) {
+                return draw_at(draw);
+            }
         }
         draw_at(draw)
     }
 
-    // Whether the ask is served, where it is free or not.
-    fn has_turn(&self, free: bool, ask: &Ask) -> bool
-        ensures { result
-            ≡ (free && (is_local self.now.me (sight_state self.now) (desk_of self.now) ask.now
-            || is_copy self.now.me (sight_state self.now) (desk_of self.now) ask.now)) }
+    // What becomes of the ask at place k: `barred` is what the asks before it bar, `own` the own part of the desk's node.
+    #[inline(always)]
+    fn turn(&self, barred: ModeSet, own: ModeSet, k: u32, ask: &Ask) -> Turn
+        requires { own ≡ own_part self.now.me (sight_state self.now) (desk_of self.now) }
+        ensures { (before : Modes) → barred ≡ bars before
+            → result ≡ turn_by (is_served self.now.me (sight_state self.now) (desk_of self.now) before ask.now)
+            (may_draw self.now.me (sight_state self.now) (desk_of self.now) before k ask.now) }
     {
-        free && (self.is_local(ask) || self.is_copy(ask))
-    }
-
-    // Whether the ask may draw the desk to its node, where it is free or not.
-    fn draws(&self, free: bool, k: u32, ask: &Ask) -> bool
-        ensures { result
-            ≡ (not (ask.now.node == self.now.me)
-            && (free && (k == 0 || is_clear_at_home self.now.me (sight_state self.now) (desk_of self.now) ask.now))) }
-    {
-        ask.node != self.me && free && (k == 0 || self.is_clear_at_home(ask))
-    }
-
-    // The place noted before; where there is none, place k if its ask may draw the desk.
-    fn first_draw(&self, draw: Option<u32>, free: bool, k: u32, ask: &Ask) -> Option<u32>
-        ensures { result
-            ≡ first_of draw (if not (ask.now.node == self.now.me)
-            && (free && (k == 0 || is_clear_at_home self.now.me (sight_state self.now) (desk_of self.now) ask.now))
-            then Some k else None) }
-    {
-        if draw.is_some() {
-            draw
-        } else if self.draws(free, k, ask) {
-            Some(k)
+        if barred.has(ask.mode) {
+            return Turn::Later;
+        }
+        let others = self.others_with(ask.node, own);
+        if others.bars().has(ask.mode) {
+            return Turn::Later;
+        }
+        if ask.node == self.me {
+            local_turn(self.is_clear_here(ask.client, ask.mode))
         } else {
-            None
+            remote_turn(self.is_clear_at_home(ask), others.covers(ask.mode), k)
         }
     }
 
-    // Whether neither another node nor an ask before it conflicts; `before` are the modes of those asks.
-    fn is_free(&self, before: ModeSet, ask: &Ask) -> bool
-        ensures { result ≡ is_free self.now.me (sight_state self.now) (desk_of self.now) before ask.now }
-    {
-        !before.bars().has(ask.mode) && !self.others(ask.node).bars().has(ask.mode)
-    }
-
-    // Whether the ask is of the desk's node, and neither another client nor a copy on its way conflicts there.
-    fn is_local(&self, ask: &Ask) -> bool
-        ensures { result ≡ is_local self.now.me (sight_state self.now) (desk_of self.now) ask.now }
-    {
-        ask.node == self.me && self.is_clear_here(ask.client, ask.mode)
-    }
-
-    // Whether the ask is of another node, the other nodes cover it, and its own node has no mode that conflicts.
-    fn is_copy(&self, ask: &Ask) -> bool
-        ensures { result ≡ is_copy self.now.me (sight_state self.now) (desk_of self.now) ask.now }
-    {
-        ask.node != self.me && self.others(ask.node).covers(ask.mode) && self.is_clear_at_home(ask)
-    }
-
+    // Whether the ask's node, which isn't the desk's, has no mode that conflicts.
     fn is_clear_at_home(&self, ask: &Ask) -> bool
+        requires { ask.now.node ≢ self.now.me }
         ensures { result ≡ is_clear_at_home self.now.me (sight_state self.now) (desk_of self.now) ask.now }
     {
-        !self.modes_at(ask.node).bars().has(ask.mode)
+        !self.table.rec(ask.node).bars().has(ask.mode)
+    }
+}
+
+// What becomes of a free ask of the desk's node.
+fn local_turn(clear: bool) -> Turn
+    ensures { result ≡ turn_by clear false }
+{
+    if clear { Turn::Served } else { Turn::Later }
+}
+
+// What becomes of a free ask of another node at place k, which may be clear at its node and covered by the others.
+fn remote_turn(clear: bool, covered: bool, k: u32) -> Turn
+    ensures { result ≡ turn_by (covered && clear) (k == 0 || clear) }
+{
+    if clear && covered {
+        Turn::Served
+    } else if k == 0 || clear {
+        Turn::Draws
+    } else {
+        Turn::Later
+    }
+}
+
+// The place noted before; where there is none, place k if its ask may draw the desk.
+fn first_draw(draw: Option<u32>, turn: Turn, k: u32) -> Option<u32>
+    ensures { result ≡ first_of draw (if is_draw turn then Some k else None) }
+{
+    if draw.is_some() {
+        return draw;
+    }
+    match turn {
+        Turn::Draws => Some(k),
+        Turn::Served | Turn::Later => None,
     }
 }
 
