@@ -66,7 +66,11 @@ pub(crate) fn is_event_line(
     ensures { IfOk result (λ same. same ≡ bytes_eq line.now (written wording.now (line_of_event wording.now.version event))) }
 {
     words.clear();
-    event_line(words, wording, shown_event(wording.script().version(), event))?;
+    event_line(
+        words,
+        wording,
+        shown_event(wording.script().version(), event),
+    )?;
     let text = words.bytes();
     let (words, _) = text.split_at(text.len() - 1);
     Ok(line == words)

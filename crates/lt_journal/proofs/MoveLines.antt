@@ -62,8 +62,12 @@ digit_more words k value is inside few digit =
     let parts = and_parts (nat_le 48 (get_or words k 0)) (nat_le (get_or words k 0) 57) digit in
     record {
       digits = ap are_digits (take_more words k 0 inside) ∙ digits_push (take k words) (get_or words k 0) is.digits digit;
-      value_is = omega (arith, is.value_is, digits_value_more 10 words k inside,
-          digit_value_digit (get_or words k 0) (leb-true 48 (get_or words k 0) parts.0, leb-true (get_or words k 0) 57 parts.1));
+      value_is = omega (
+        arith,
+        is.value_is,
+        digits_value_more 10 words k inside,
+        digit_value_digit (get_or words k 0) (leb-true 48 (get_or words k 0) parts.0, leb-true (get_or words k 0) 57 parts.1),
+      );
       few = omega (arith, few);
       inside = omega (arith, inside);
     }
