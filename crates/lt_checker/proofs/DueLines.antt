@@ -1,14 +1,13 @@
 -- What is due after the last move of a run, and what a line makes of it.
-use Rattle.std.proofs.Common.{◌≡◌, ◌∙◌, ℕ, zero, suc, ◌+◌, ◌-◌, ◌==◌, Bool, true, false, cond, List, [], ◌∷◌, ◌++◌, Option, Some, None, unwrap_or, slice_get, bytes_eq, length, drop, refl, sym, ap, ap₂, subst, arith, eqb-true}
+use Rattle.std.proofs.Common.{◌≡◌, ◌∙◌, ℕ, zero, suc, ◌+◌, ◌==◌, Bool, true, false, cond, List, [], ◌∷◌, ◌++◌, Option, Some, None, unwrap_or, slice_get, bytes_eq, length, drop, refl, sym, ap, ap₂, subst, arith, eqb-true}
 use Rattle.lt_modes.specs.Script.{ScriptData}
 use Rattle.lt_modes.specs.declared.event.Event.{Event}
 use Rattle.lt_spec.specs.World.{Logged}
 use Rattle.lt_modes.specs.declared.moves.Step.{Step}
 use Rattle.lt_spec.specs.World.{world_after, logged}
-use Rattle.lt_merge.specs.Merging.{events_at}
 use Rattle.lt_journal.specs.declared.line.Line.{Line}
 use Rattle.lt_journal.specs.RunLines.{event_lines, line_of_event}
-use Rattle.lt_law_journals.specs.Checking.{Place, by_due, place_after, written, is_complete, moved, closing_at_rest}
+use Rattle.lt_law_journals.specs.Checking.{by_due, place_after, written, is_complete, moved, closing_at_rest}
 use Rattle.lt_checker.specs.Checker.{LedTo}
 use Rattle.lt_checker.specs.Due.{last_events, due_lines}
 use Rattle.lt_world.specs.Fields.{WorldData}

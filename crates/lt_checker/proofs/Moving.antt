@@ -1,5 +1,5 @@
 -- No bad line is further on than there are bytes.
-use Rattle.std.proofs.Common.{◌≡◌, ℕ, suc, ◌+◌, ◌*◌, ◌≤◌, Bool, true, false, List, [], ◌∷◌, ◌++◌, Option, Some, None, Result, Ok, Err, length, drop, position, fold, if◌then◌else◌, refl, arith, ap, length-append, length-drop, ◌∙◌, take, append-nil, subst, ◌-◌, ◌<◌, ◌==◌, ◌&&◌, cond, slice_get, sym, ap₂, option_map, eq-eqb, ne_eqb}
+use Rattle.std.proofs.Common.{◌≡◌, ℕ, suc, ◌+◌, ◌*◌, ◌≤◌, Bool, true, false, List, [], ◌∷◌, ◌++◌, Option, Some, None, Result, Ok, Err, length, drop, position, fold, if◌then◌else◌, refl, arith, ap, length-append, length-drop, ◌∙◌, take, append-nil, subst, ◌-◌, ◌<◌, ◌==◌, ◌&&◌, cond, slice_get, sym, option_map, eq-eqb, ne_eqb}
 use Rattle.std.proofs.lemmas.List.{length-map, take-append-le, drop-append-le, length_push}
 use Rattle.std.proofs.lemmas.List.Quantifiers.{position-Some}
 use Rattle.std.proofs.lemmas.Bool.{and_from}
@@ -7,7 +7,6 @@ use Rattle.std.proofs.lemmas.List.Sums.{count_by-le-length}
 use Rattle.lt_modes.specs.Script.{ScriptData}
 use Rattle.lt_modes.specs.declared.moves.Move.{Move}
 use Rattle.lt_modes.specs.declared.moves.Step.{Step}
-use Rattle.lt_modes.specs.declared.event.Event.{Event}
 use Rattle.lt_spec.specs.World.{Logged, world_after, is_enabled, is_of_node, move_stamp, logged, moves_of, is_at_rest}
 use Rattle.lt_io.specs.Streams.{SourceState}
 use Rattle.lt_text.specs.Text.{cut_at, lines, put_front, is_line_end, without_return}
@@ -16,9 +15,8 @@ use Rattle.lt_journal.specs.Split.{is_journal_line, parts_at, input_parts}
 use Rattle.lt_journal.specs.declared.splitting.Parts.{Parts}
 use Rattle.lt_journal.specs.declared.line.Line.{Line}
 use Rattle.lt_journal.specs.declared.line.Line.TheVariants.{Move as MoveLine}
-use Rattle.lt_journal.specs.RunLines.{event_lines}
 use Rattle.lt_law_ends.proofs.Short.{runs_are_short}
-use Rattle.lt_law_journals.specs.Checking.{Place, Reader, checked, first_reader, reader_after, place_after, is_complete, led_to, read_at, read_on, verdict_at, HasCome, closing_at_rest, moved, by_move, verdict}
+use Rattle.lt_law_journals.specs.Checking.{Place, Reader, checked, first_reader, reader_after, place_after, is_complete, led_to, read_at, read_on, verdict_at, HasCome, moved, by_move, verdict}
 use Rattle.lt_law_journals.proofs.Feeds.{come_due, come_moved}
 use Rattle.lt_world.specs.Fields.{WorldData, world_of}
 use Rattle.lt_checker.specs.Checker.{IsWorldAnswer, IsPlace, place_now, IsAnswer, EndsIn}

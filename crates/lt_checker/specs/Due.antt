@@ -1,5 +1,5 @@
 -- Which lines must come after the last move of a run, before any further move.
-use Rattle.std.specs.Prelude.{ℕ, ◌-◌, List, [], ◌++◌, Option, unwrap_or, length, drop}
+use Rattle.std.specs.Prelude.{ℕ, ◌-◌, List, [], ◌++◌, unwrap_or, length, drop}
 use Rattle.lt_modes.specs.Script.{ScriptData}
 use Rattle.lt_modes.specs.declared.event.Event.{Event}
 use Rattle.lt_spec.specs.World.{Logged}

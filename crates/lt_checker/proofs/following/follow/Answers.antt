@@ -1,4 +1,4 @@
-use Rattle.std.proofs.Common.{rules, ◌≡◌, ◌+◌, ◌∙◌, List, [], Some, None, slice_get, ap, sym, subst, arith}
+use Rattle.std.proofs.Common.{rules, ◌≡◌, ◌+◌, ◌∙◌, List, [], slice_get, ap, sym, subst, arith}
 use Rattle.lt_spec.specs.World.{Logged}
 use Rattle.lt_modes.specs.Script.{ScriptData}
 use Rattle.lt_journal.specs.declared.line.Line.{Line}

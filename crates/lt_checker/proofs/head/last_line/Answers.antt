@@ -1,4 +1,4 @@
-use Rattle.std.proofs.Common.{◌≡◌, ◌+◌, ◌-◌, ◌≤◌, take, drop, subst, arith}
+use Rattle.std.proofs.Common.{◌+◌, ◌-◌, ◌≤◌, take, drop, subst, arith}
 use Rattle.lt_law_journals.specs.Checking.{HasJournal, IsSettled}
 use Rattle.lt_checker.proofs.LastLines.{line_whole, in_three, begins_in, next_line_end, next_part, last_part, ends_at, none_after}
 use Rattle.lt_checker.proofs.head.last_line.Goals as goal
