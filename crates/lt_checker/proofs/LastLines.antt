@@ -1,12 +1,14 @@
 -- Where the last line of some bytes begins, and when the line `journal` has come.
-use Rattle.std.proofs.Common.{◌≡◌, ◌∙◌, ℕ, zero, suc, ◌+◌, ◌-◌, ◌<◌, ◌≤◌, Bool, true, false, cond, List, [], ◌∷◌, ◌++◌, Option, Some, None, get_or, length, take, drop, position, if◌then◌else◌, refl, sym, ap, subst, inl, inr, arith, take-add, take-append-drop, take_all, take_at, length-drop, drop-cons, get_or-drop, length-take-le, ne_eqb}
+use Rattle.std.proofs.Common.{◌≡◌, ◌∙◌, ℕ, zero, suc, ◌+◌, ◌-◌, ◌<◌, ◌≤◌, Bool, true, false, cond, List, [], ◌∷◌, ◌++◌, Option, Some, None, get_or, length, take, drop, position, if◌then◌else◌, refl, sym, ap, subst, inl, inr, arith, take-add, take-append-drop, take_all, take_at, length-drop, drop-cons, get_or-drop, length-take-le, length-append, eqb-true}
 use Rattle.std.specs.List.{AllByRecursion, position_from}
 use Rattle.std.proofs.lemmas.Iterator.Adapters.{position_from-zero}
 use Rattle.std.proofs.lemmas.List.{take_more, take-append-le, drop-append-le, drop-take, drop_all, length-map, length_push, take-take}
 use Rattle.std.proofs.lemmas.List.Quantifiers.{position-Some}
+use Rattle.memchr.specs.Find.{IsFirstByte, is_byte}
 use Rattle.lt_text.specs.Text.{cut_at, lines, put_front, without_return, is_line_end, HasNone}
 use Rattle.lt_text.proofs.TextLemmas.{cut_last}
 use Rattle.lt_journal.specs.Split.{is_journal_line, after_first_line, after_lines, parts_at, place_of_line, input_parts}
+use Rattle.lt_checker.proofs.Pieces.{first_cut, none_found}
 use Rattle.lt_journal.proofs.Plain.{first_line}
 use Rattle.lt_law_journals.specs.Checking.{EndsInLineFeed, EndsLine, after_place}
 use Rattle.lt_law_journals.proofs.Inputs.{journal_part, lines_after, lines_split, no_lines}
@@ -56,15 +58,15 @@ lines_both front rest (inr whole) = lines_split front rest whole
 pub no_line : IsLastLine [] 0
 no_line = record { within = omega arith; begins = inl refl; no_end = tt; no_journal = subst (AllByRecursion IsOther) (sym no_lines) tt }
 
--- a byte that ends no line
-goes_on : (xs : List ℕ) (last byte : ℕ) → IsLastLine xs last → is_line_end byte ≡ false → IsLastLine (xs ++ byte ∷ []) last
-goes_on xs last byte is other =
-    let front : take last (xs ++ byte ∷ []) ≡ take last xs = take-append-le last xs (byte ∷ []) is.within in
+-- bytes that end no line
+goes_on : (xs more : List ℕ) (last : ℕ) → IsLastLine xs last → HasNone is_line_end more → IsLastLine (xs ++ more) last
+goes_on xs more last is other =
+    let front : take last (xs ++ more) ≡ take last xs = take-append-le last xs more is.within in
     record {
-      within = omega (arith, is.within, length_push xs byte);
+      within = omega (arith, is.within, length-append xs more);
       begins = subst EndsLine (sym front) is.begins;
-      no_end = subst (HasNone is_line_end) (sym (drop-append-le last xs (byte ∷ []) is.within))
-          (all_both (λ (b : ℕ). is_line_end b ≡ false) (drop last xs) (byte ∷ []) is.no_end (other, tt));
+      no_end = subst (HasNone is_line_end) (sym (drop-append-le last xs more is.within))
+          (all_both (λ (b : ℕ). is_line_end b ≡ false) (drop last xs) more is.no_end other);
       no_journal = subst HasNoJournal (sym front) is.no_journal;
     }
 
@@ -86,10 +88,40 @@ begins_next xs last is none =
           (subst (AllByRecursion IsOther) (sym parts) (all_both IsOther (lines (take last all)) (lines (drop last all)) (subst HasNoJournal (sym front) is.no_journal) none));
     }
 
-pub next_other : (bytes : List ℕ) (k last : ℕ) → k < length bytes → (get_or bytes k 0 ≡ 10 → ⊥) → IsLastLine (take k bytes) last → IsLastLine (take (k + 1) bytes) last
-next_other bytes k last inside other is =
-    subst (λ (b : List ℕ). IsLastLine b last) (sym (take_more bytes k 0 inside))
-    (goes_on (take k bytes) last (get_or bytes k 0) is (ne_eqb (get_or bytes k 0) 10 other))
+-- the bytes up to the next line end end no line
+pub next_part : (bytes : List ℕ) (from more last : ℕ) → HasNone is_line_end (take more (drop from bytes)) → IsLastLine (take from bytes) last
+    → IsLastLine (take (from + more) bytes) last
+next_part bytes from more last none is =
+    subst (λ (b : List ℕ). IsLastLine b last) (sym (take-add from more bytes)) (goes_on (take from bytes) (take more (drop from bytes)) last is none)
+
+-- nor do those after the last line end
+pub last_part : (bytes : List ℕ) (from last : ℕ) → HasNone is_line_end (drop from bytes) → IsLastLine (take from bytes) last → IsLastLine bytes last
+last_part bytes from last none is =
+    subst (λ (b : List ℕ). IsLastLine b last) (take-append-drop from bytes) (goes_on (take from bytes) (drop from bytes) last is none)
+
+-- the first line end from a place on stands so many bytes after it
+pub record EndsAt (bytes : List ℕ) (from more : ℕ) : Type 0 where
+  pub inside : from + more < length bytes
+  pub ends : get_or bytes (from + more) 0 ≡ 10
+  pub none : HasNone is_line_end (take more (drop from bytes))
+
+rest_of : (bytes : List ℕ) (from : ℕ) → take (length bytes - from) (drop from bytes) ≡ drop from bytes
+rest_of bytes from = take_all (length bytes - from) (drop from bytes) (omega (arith, length-drop from bytes))
+
+pub ends_at : (bytes : List ℕ) (from more : ℕ) → IsFirstByte (is_byte 10) (take (length bytes - from) (drop from bytes)) (Some more) → EndsAt bytes from more
+ends_at bytes from more searched =
+    let found = subst (λ (left : List ℕ). IsFirstByte (is_byte 10) left (Some more)) (rest_of bytes from) searched in
+    let cut = first_cut (drop from bytes) more found in
+    record {
+      inside = omega (arith, cut.inside, length-drop from bytes);
+      ends = sym (get_or-drop from bytes more 0) ∙ eqb-true (get_or (drop from bytes) more 0) 10 found.1;
+      none = cut.none;
+    }
+
+-- where none is found there is none
+pub none_after : (bytes : List ℕ) (from : ℕ) → IsFirstByte (is_byte 10) (take (length bytes - from) (drop from bytes)) None → HasNone is_line_end (drop from bytes)
+none_after bytes from searched =
+    none_found (drop from bytes) (subst (λ (left : List ℕ). IsFirstByte (is_byte 10) left None) (rest_of bytes from) searched)
 
 pub next_line_end : (bytes : List ℕ) (k last : ℕ) → last ≤ k → k < length bytes → get_or bytes k 0 ≡ 10 → IsLastLine (take k bytes) last
     → HasNoJournal (take (k + 1 - last) (drop last bytes)) → IsLastLine (take (k + 1) bytes) (k + 1)

@@ -1,6 +1,7 @@
 mod Pieces
 mod Moving
 mod LeftLines
+mod DueLines
 mod LastLines
 mod Feeding
 mod Wanting

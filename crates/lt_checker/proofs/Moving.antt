@@ -1,5 +1,5 @@
 -- No bad line is further on than there are bytes.
-use Rattle.std.proofs.Common.{◌≡◌, ℕ, suc, ◌+◌, ◌*◌, ◌≤◌, Bool, true, false, List, [], ◌∷◌, ◌++◌, Option, Some, None, Result, Ok, Err, length, drop, position, fold, if◌then◌else◌, refl, arith, ap, length-append, length-drop, ◌∙◌, take, append-nil, subst, ◌-◌, ◌<◌, ◌==◌, ◌&&◌, cond, slice_get, sym, ap₂, option_map, eq-eqb, ne_eqb}
+use Rattle.std.proofs.Common.{◌≡◌, ℕ, suc, ◌+◌, ◌*◌, ◌≤◌, Bool, true, false, List, [], ◌∷◌, ◌++◌, Option, Some, None, Result, Ok, Err, length, drop, position, fold, if◌then◌else◌, refl, arith, ap, length-append, length-drop, ◌∙◌, take, append-nil, subst, ◌-◌, ◌<◌, ◌==◌, ◌&&◌, cond, slice_get, sym, option_map, eq-eqb, ne_eqb}
 use Rattle.std.proofs.lemmas.List.{length-map, take-append-le, drop-append-le, length_push}
 use Rattle.std.proofs.lemmas.List.Quantifiers.{position-Some}
 use Rattle.std.proofs.lemmas.Bool.{and_from}
@@ -7,7 +7,6 @@ use Rattle.std.proofs.lemmas.List.Sums.{count_by-le-length}
 use Rattle.lt_modes.specs.Script.{ScriptData}
 use Rattle.lt_modes.specs.declared.moves.Move.{Move}
 use Rattle.lt_modes.specs.declared.moves.Step.{Step}
-use Rattle.lt_modes.specs.declared.event.Event.{Event}
 use Rattle.lt_spec.specs.World.{Logged, world_after, is_enabled, is_of_node, move_stamp, logged, moves_of, is_at_rest}
 use Rattle.lt_io.specs.Streams.{SourceState}
 use Rattle.lt_text.specs.Text.{cut_at, lines, put_front, is_line_end, without_return}
@@ -16,9 +15,8 @@ use Rattle.lt_journal.specs.Split.{is_journal_line, parts_at, input_parts}
 use Rattle.lt_journal.specs.declared.splitting.Parts.{Parts}
 use Rattle.lt_journal.specs.declared.line.Line.{Line}
 use Rattle.lt_journal.specs.declared.line.Line.TheVariants.{Move as MoveLine}
-use Rattle.lt_journal.specs.RunLines.{event_lines}
 use Rattle.lt_law_ends.proofs.Short.{runs_are_short}
-use Rattle.lt_law_journals.specs.Checking.{Place, Reader, checked, first_reader, reader_after, place_after, is_complete, led_to, read_at, read_on, verdict_at, HasCome, closing_at_rest, moved, by_move, verdict}
+use Rattle.lt_law_journals.specs.Checking.{Place, Reader, checked, first_reader, reader_after, place_after, is_complete, led_to, read_at, read_on, verdict_at, HasCome, moved, by_move, verdict}
 use Rattle.lt_law_journals.proofs.Feeds.{come_due, come_moved}
 use Rattle.lt_world.specs.Fields.{WorldData, world_of}
 use Rattle.lt_checker.specs.Checker.{IsWorldAnswer, IsPlace, place_now, IsAnswer, EndsIn}
@@ -165,13 +163,18 @@ stepped script world node step next place enabled next_is = record {
   next_is = subst (λ (s : ScriptData). next ≡ record world { run = world.run ++ logged s (world_after s world.run) node step ∷ [] }) place.script_is next_is;
 }
 
-next_run : (script : ScriptData) (world : WorldData) (node : ℕ) (step : Step) (next : WorldData) → IsStepped script world node step next
+pub next_run : (script : ScriptData) (world : WorldData) (node : ℕ) (step : Step) (next : WorldData) → IsStepped script world node step next
     → next.run ≡ world.run ++ logged script (world_after script world.run) node step ∷ []
 next_run script world node step next s = ap (λ (w : WorldData). w.run) s.next_is
 
 last_get : (run : List Logged) (entry : Logged) → slice_get (run ++ entry ∷ []) (length run) ≡ Some entry
 last_get [] entry = refl
 last_get (first ∷ run) entry = last_get run entry
+
+pub last_of : (run : List Logged) (entry : Logged) → events_at (run ++ entry ∷ []) (length (run ++ entry ∷ []) - 1) ≡ Some entry.events
+last_of run entry =
+    let place : length (run ++ entry ∷ []) - 1 ≡ length run = omega (arith, length_push run entry) in
+    ap (events_at (run ++ entry ∷ [])) place ∙ ap (option_map (λ (e : Logged). e.events)) (last_get run entry)
 
 -- what stands last in the run is the move
 last_made : (run : List Logged) (entry : Logged) (k : ℕ) (made : Move) → suc k ≡ length (run ++ entry ∷ []) → made_at (run ++ entry ∷ []) k ≡ Some made → entry.made ≡ made
@@ -206,26 +209,6 @@ right_move script world node step next clock s same =
     let w = world_after script world.run in
     ap (λ (b : Bool). cond b (Some (moved script world.run (logged script w node step))) None)
     (and_from (is_enabled script w node step) (clock == (move_stamp w node step).clock) s.enabled (eq-eqb clock (move_stamp w node step).clock same))
-
--- the events that stand last in the run are those of the move
-pub last_events : (run : List Logged) (entry : Logged) (k : ℕ) (events : List Event) → suc k ≡ length (run ++ entry ∷ []) → events_at (run ++ entry ∷ []) k ≡ Some events → entry.events ≡ events
-last_events run entry k events last is =
-    let place : k ≡ length run = omega (arith, last, length_push run entry) in
-    let found : Some entry.events ≡ Some events = sym (ap (option_map (λ (e : Logged). e.events)) (last_get run entry)) ∙ (ap (events_at (run ++ entry ∷ [])) (sym place) ∙ is) in
-    cc
-
--- the next run, with the lines that are then due, is the place after the move
-pub next_place : (script : ScriptData) (world : WorldData) (node : ℕ) (step : Step) (next : WorldData) (k : ℕ) (events : List Event) (due : List Line)
-    → IsStepped script world node step next → suc k ≡ length next.run → events_at next.run k ≡ Some events
-    → due ≡ event_lines script.version events ++ closing_at_rest script next.run
-    → moved script world.run (logged script (world_after script world.run) node step) ≡ record { run = next.run; due = due }
-next_place script world node step next k events due s last is due_is =
-    let run_is = next_run script world node step next s in
-    let entry = logged script (world_after script world.run) node step in
-    let told = last_events world.run entry k events (last ∙ ap (λ (r : List Logged). length r) run_is) (ap (λ (r : List Logged). events_at r k) (sym run_is) ∙ is) in
-    let same : event_lines script.version entry.events ++ closing_at_rest script (world.run ++ entry ∷ []) ≡ due =
-    ap₂ (λ (es : List Event) (r : List Logged). event_lines script.version es ++ closing_at_rest script r) told (sym run_is) ∙ sym due_is in
-    λ i. record { run = sym run_is i; due = same i }
 
 -- and a reader can come to it
 pub next_is_place : (script : ScriptData) (world : WorldData) (node : ℕ) (step : Step) (next : WorldData) (line : Line) (due : List Line)

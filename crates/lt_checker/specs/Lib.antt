@@ -1,3 +1,4 @@
 pub mod Checker
 pub mod Input
 pub mod Heads
+pub mod Due

@@ -1,14 +1,94 @@
-ghost use Rattle.std.specs.Prelude.{◌≡◌, [], ◌∷◌, ◌++◌, OnOk};
-ghost use Rattle.lt_journal.specs.RunLines.{first_lines, event_lines};
-ghost use Rattle.lt_law_journals.specs.Checking.{closing_at_rest};
+ghost use Rattle.std.specs.Prelude.{◌≡◌, [], ◌∷◌, ◌++◌, slice_get, IsTrue, OnOk, IfOk, IfSome, IsFalse, false, ◌<◌, ◌+◌, ◌^◌};
+ghost use Rattle.std.specs.Str.{bytes_eq};
+ghost use Rattle.lt_journal.specs.RunLines.{first_lines, line_of_event};
+ghost use Rattle.lt_law_journals.specs.Checking.{closing_at_rest, written, is_complete};
+ghost use Rattle.lt_modes.specs.Script.{ScriptData};
 ghost use Rattle.lt_spec.specs.Script.{IsScript};
+ghost use Rattle.lt_checker.specs.Due.{last_events, due_lines};
 
-use lt_journal::{Line, closing_lines, shown_event};
+use crate::wording::{Wording, event_line};
+use lt_journal::{Line, Text, closing_lines, shown_event, write_words};
+use lt_merge::Run;
 use lt_modes::Event;
 use lt_script::Script;
 use lt_world::World;
 use std::alloc::{AllocError, Global};
 use std::collections::VecDeque;
+
+/// The lines that must come before any further move: those of the last move's events, of which the first ones were
+/// told, and then the later ones. The lines of events are no list: each is written when its turn comes.
+#[derive(Drop)]
+pub(crate) struct Due {
+    pub(crate) told: usize,
+    pub(crate) later: VecDeque<Line>,
+    // The words of the last line that was due.
+    pub(crate) words: Text,
+}
+
+impl Due {
+    /// Whether no line is due after this run.
+    pub(crate) fn is_none(&self, run: &Run) -> bool
+        ensures none { (script : ScriptData) → IsTrue result → due_lines script run.now.entries self.now.told self.now.later.items ≡ [] }
+        ensures some { (script : ScriptData) → IsFalse result
+            → is_complete script run.now.entries (due_lines script run.now.entries self.now.told self.now.later.items) ≡ false }
+    {
+        if let Some(_event) = last_event(run, self.told) {
+            return false;
+        }
+        self.later.is_empty()
+    }
+}
+
+/// The event of the last move at place `k`.
+pub(crate) fn last_event(run: &Run, k: usize) -> Option<Event>
+    ensures event { result ≡ slice_get (last_events run.now.entries) k }
+    ensures few { IfSome result (λ event. k + 1 < 2 ^ 64) }
+{
+    let moves = run.len();
+    if moves == 0 {
+        return None;
+    }
+    let events = run.events(moves - 1);
+    if k < events.len() {
+        Some(events[k])
+    } else {
+        None
+    }
+}
+
+/// Whether the line is that of the event, which is written into `words`, whose memory is kept from line to line.
+pub(crate) fn is_event_line(
+    words: &mut Text,
+    wording: &Wording,
+    event: Event,
+    line: &[u8],
+) -> Result<bool, AllocError>
+    ensures { IfOk result (λ same. same ≡ bytes_eq line.now (written wording.now (line_of_event wording.now.version event))) }
+{
+    words.clear();
+    event_line(
+        words,
+        wording,
+        shown_event(wording.script().version(), event),
+    )?;
+    let text = words.bytes();
+    let (words, _) = text.split_at(text.len() - 1);
+    Ok(line == words)
+}
+
+/// Whether the line is this one, which is written into `words`.
+pub(crate) fn is_line(
+    words: &mut Text,
+    wording: &Wording,
+    due: Line,
+    line: &[u8],
+) -> Result<bool, AllocError>
+    ensures { IfOk result (λ same. same ≡ bytes_eq line.now (written wording.now due)) }
+{
+    words.clear();
+    write_words(words, wording.script(), due)?;
+    Ok(line == words.bytes())
+}
 
 // Adds a last line.
 fn push(due: &mut VecDeque<Line>, line: Line) -> Result<(), AllocError>
@@ -29,20 +109,6 @@ pub(crate) fn push_first(due: &mut VecDeque<Line>, script: &Script) -> Result<()
 {
     if script.version() != 1 {
         push(due, Line::Version)?;
-    }
-    Ok(())
-}
-
-/// Adds the lines of the events, as a journal of the script's version shows them.
-pub(crate) fn push_events(
-    due: &mut VecDeque<Line>,
-    script: &Script,
-    events: &[Event],
-) -> Result<(), AllocError>
-    ensures { OnOk result (due.new.items ≡ due.old.items ++ event_lines script.now.version events.now) }
-{
-    for event in events {
-        push(due, Line::Event(shown_event(script.version(), *event)))?;
     }
     Ok(())
 }

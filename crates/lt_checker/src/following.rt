@@ -1,52 +1,55 @@
 ghost use Rattle.std.specs.Prelude.{◌≡◌, [], IfOk, IsTrue};
 ghost use Rattle.lt_law_journals.specs.Checking.{by_move, place_after};
 ghost use Rattle.lt_checker.specs.Checker.{IsPlace, LedTo};
+ghost use Rattle.lt_checker.specs.Due.{due_lines};
 
-use crate::due::{push_closing, push_events};
-use lt_journal::{Line, Text, read_line, write_words};
-use lt_script::Script;
+use crate::due::{Due, is_event_line, is_line, last_event, push_closing};
+use crate::wording::Wording;
+use lt_journal::{Line, read_line};
 use lt_world::{Choice, World};
 use std::alloc::{AllocError, Global};
-use std::collections::VecDeque;
 
 /// Goes on by one line, and tells whether it isn't bad: whether it is the first line that is due, or where none is
-/// due the line of a next move.
-///
-/// After a bad line nothing is known of what is kept. The words of a line that is due are written into `words`, whose
-/// memory is kept from line to line.
+/// due the line of a next move. After a bad line nothing is known of what is kept.
 pub(crate) fn follow(
     alloc: Global,
-    script: &Script,
+    wording: &Wording,
     world: &mut World,
-    due: &mut VecDeque<Line>,
-    words: &mut Text,
+    due: &mut Due,
     line: &[u8],
 ) -> Result<bool, AllocError>
-    requires { IsPlace script.now world.old due.old.items }
-    ensures place { IfOk result (λ good. IsTrue good → IsPlace script.now world.new due.new.items) }
-    ensures led { IfOk result (λ good.
-        LedTo (place_after script.now (record { run = world.old.run; due = due.old.items }) line.now) good world.new.run due.new.items) }
+    requires { IsPlace wording.now world.old (due_lines wording.now world.old.run due.old.told due.old.later.items) }
+    ensures place { IfOk result (λ good. IsTrue good
+        → IsPlace wording.now world.new (due_lines wording.now world.new.run due.new.told due.new.later.items)) }
+    ensures led { IfOk result (λ good. LedTo (place_after wording.now
+        (record { run = world.old.run; due = due_lines wording.now world.old.run due.old.told due.old.later.items }) line.now)
+        good world.new.run (due_lines wording.now world.new.run due.new.told due.new.later.items)) }
 {
-    let Some(expected) = due.pop_front() else {
-        return next_move(alloc, script, world, due, read_line(script, line));
+    if let Some(event) = last_event(world.run(), due.told) {
+        due.told += 1;
+        return Ok(is_event_line(&mut due.words, wording, event, line)?);
+    }
+    let Some(expected) = due.later.pop_front() else {
+        let told = read_line(wording.script(), line);
+        return Ok(next_move(alloc, wording, world, due, told)?);
     };
-    words.clear();
-    write_words(words, script, expected)?;
-    Ok(line == words.bytes())
+    Ok(is_line(&mut due.words, wording, expected, line)?)
 }
 
 // Makes the move that the line tells, where it is the next one.
 fn next_move(
     alloc: Global,
-    script: &Script,
+    wording: &Wording,
     world: &mut World,
-    due: &mut VecDeque<Line>,
+    due: &mut Due,
     line: Line,
 ) -> Result<bool, AllocError>
-    requires place { IsPlace script.now world.old [] }
-    requires none_due { due.old.items ≡ [] }
-    ensures place { IfOk result (λ good. IsTrue good → IsPlace script.now world.new due.new.items) }
-    ensures led { IfOk result (λ good. LedTo (by_move script.now world.old.run line) good world.new.run due.new.items) }
+    requires place { IsPlace wording.now world.old [] }
+    requires none_due { due.old.later.items ≡ [] }
+    ensures place { IfOk result (λ good. IsTrue good
+        → IsPlace wording.now world.new (due_lines wording.now world.new.run due.new.told due.new.later.items)) }
+    ensures led { IfOk result (λ good. LedTo (by_move wording.now world.old.run line) good world.new.run
+        (due_lines wording.now world.new.run due.new.told due.new.later.items)) }
 {
     let Line::Move { clock, node, step } = line else {
         return Ok(false);
@@ -60,7 +63,7 @@ fn next_move(
     if world.run().made(last).stamp.clock != clock {
         return Ok(false);
     }
-    push_events(due, script, world.run().events(last))?;
-    push_closing(alloc, due, script, world)?;
+    due.told = 0;
+    push_closing(alloc, &mut due.later, wording.script(), world)?;
     Ok(true)
 }

@@ -9,6 +9,7 @@ use crate::limits::MAX_JOURNAL;
 use lt_io::{MAX_PIECE, ReadFailure, Source, read_piece};
 use lt_journal::split;
 use lt_law_journals::law_settled;
+use memchr::memchr;
 use std::alloc::Global;
 
 /// The first bytes of an input: at least those up to and with the line `journal`, or all of them.
@@ -62,13 +63,14 @@ fn last_line(bytes: &[u8], seen: usize, line: usize) -> Option<usize>
 {
     law_settled();
     let mut last = line;
-    for k in seen..bytes.len() {
-        if bytes[k] == b'\n' {
-            if has_journal(&bytes[last..=k]) {
-                return None;
-            }
-            last = k + 1;
+    let mut from = seen;
+    while let Some(more) = memchr(b'\n', &bytes[from..]) {
+        let end = from + more;
+        if has_journal(&bytes[last..=end]) {
+            return None;
         }
+        last = end + 1;
+        from = last;
     }
     Some(last)
 }

@@ -12,6 +12,7 @@ mod limits;
 mod reader;
 mod replaying;
 mod rest;
+mod wording;
 
 pub use checker::Checker;
 pub use error::{InputError, ReplayError};

@@ -3,10 +3,11 @@ ghost use Rattle.lt_spec.specs.Script.{IsScript};
 ghost use Rattle.lt_law_journals.specs.Checking.{first_reader, read_on, verdict};
 ghost use Rattle.lt_checker.specs.Checker.{IsAnswer, IsMemory, IsWorldAnswer};
 
-use crate::due::{push_closing, push_first};
+use crate::due::{Due, push_closing, push_first};
 use crate::error::ReplayError;
 use crate::following::follow;
-use lt_journal::{Line, Text};
+use crate::wording::Wording;
+use lt_journal::Text;
 use lt_merge::Run;
 use lt_script::Script;
 use lt_spec::MAX_MOVES;
@@ -20,11 +21,10 @@ use std::marker::Model;
 #[derive(Drop)]
 pub(crate) struct Reader {
     alloc: Global,
-    script: Script,
+    // The script, with its names as a journal has them.
+    wording: Wording,
     world: World,
-    due: VecDeque<Line>,
-    // The words of the last line that was due.
-    words: Text,
+    due: Due,
     good: u32,
     // A line was bad: the one after the good ones.
     bad: bool,
@@ -34,15 +34,20 @@ impl Model for Reader {
     ghost use Rattle.std.specs.Prelude.{◌<◌, ◌+◌, ◌^◌};
     ghost use Rattle.lt_spec.specs.Script.{IsScript};
     ghost use Rattle.lt_checker.specs.Checker.{ReaderData, KeepsPlace, place_now};
+    ghost use Rattle.lt_checker.specs.Due.{due_lines};
 
     ghost Value = { ReaderData };
 
     ghost view = { λ r. record {
-      script = r.script;
-      reader = record { place = place_now r.bad r.world.run r.due.items; good = r.good };
+      script = r.wording;
+      reader = record {
+        place = place_now r.bad r.world.run (due_lines r.wording r.world.run r.due.told r.due.later.items);
+        good = r.good;
+      };
     } };
 
-    ghost invariant = { λ r. IsScript r.script × (r.good + 1 < 2 ^ 32) × KeepsPlace r.bad r.script r.world r.due.items };
+    ghost invariant = { λ r. IsScript r.wording × (r.good + 1 < 2 ^ 32)
+        × KeepsPlace r.bad r.wording r.world (due_lines r.wording r.world.run r.due.told r.due.later.items) };
 }
 
 impl Reader {
@@ -51,16 +56,20 @@ impl Reader {
         ensures { IfOk result (λ reader. reader ≡ record { script = script.now; reader = first_reader script.now }) }
     {
         let world = World::new(alloc, script, MAX_MOVES)?;
-        let mut due = VecDeque::new(alloc);
-        push_first(&mut due, script)?;
-        push_closing(alloc, &mut due, script, &world)?;
-        let script = script.copy(alloc)?;
+        let mut later = VecDeque::new(alloc);
+        push_first(&mut later, script)?;
+        push_closing(alloc, &mut later, script, &world)?;
+        let wording = Wording::new(alloc, script)?;
+        let words = Text::new(alloc);
         Ok(Reader {
             alloc,
-            script,
+            wording,
             world,
-            due,
-            words: Text::new(alloc),
+            due: Due {
+                told: 0,
+                later,
+                words,
+            },
             good: 0,
             bad: false,
         })
@@ -87,10 +96,9 @@ impl Reader {
         self.bad = true;
         let is_good = follow(
             self.alloc,
-            &self.script,
+            &self.wording,
             &mut self.world,
             &mut self.due,
-            &mut self.words,
             line,
         )?;
         if self.good == u32::MAX - 1 {
@@ -117,7 +125,7 @@ impl Reader {
         ensures told { ¬ IsMemory result }
         ensures is_script { IsScript self.script }
     {
-        if self.bad || !self.due.is_empty() || !self.world.at_rest() {
+        if self.bad || !self.due.is_none(self.world.run()) || !self.world.at_rest() {
             return Err(ReplayError::Bad {
                 line: self.good + 1,
             });

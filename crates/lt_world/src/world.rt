@@ -82,7 +82,10 @@ impl World {
     pub fn at_rest(&self) -> bool
         ensures { result ≡ is_at_rest self.now.script (world_of self.now) }
     {
-        self.count() == 0
+        if self.count_acts() > 0 {
+            return false;
+        }
+        self.count_takes() == 0
     }
 
     /// The number of enabled moves.

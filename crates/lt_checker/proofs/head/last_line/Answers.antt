@@ -1,38 +1,40 @@
-use Rattle.std.proofs.Common.{rules, ◌≡◌, ◌+◌, ◌-◌, ◌<◌, get_or, length, take, drop, sym, subst, arith}
+use Rattle.std.proofs.Common.{◌+◌, ◌-◌, ◌≤◌, take, drop, subst, arith}
 use Rattle.lt_law_journals.specs.Checking.{HasJournal, IsSettled}
-use Rattle.lt_checker.proofs.LastLines.{line_whole, in_three, begins_in, next_line_end, next_other}
-use Rattle.lt_checker.specs.Heads.{IsLastLine}
+use Rattle.lt_checker.proofs.LastLines.{line_whole, in_three, begins_in, next_line_end, next_part, last_part, ends_at, none_after}
 use Rattle.lt_checker.proofs.head.last_line.Goals as goal
-use Rattle.lt_checker.proofs.head.last_line.Goals.{then-bytes-k-eq10+else-has_journal, else-bytes-k-eq10}
 
-pub loop-k-preserved : goal.loop-k-preserved
-loop-k-preserved c =
+pub loop-more-preserved : goal.loop-more-preserved
+loop-more-preserved c =
     let bytes = c.args.bytes.now in
-    let at = c.loop-k.last in
-    let k = c.loop-k.k in
-    let before = c.loop-k.invariant.place in
-    let inside : k < length bytes = search rules in
+    let from = c.loop-more.from in
+    let more = c.in-Some.more in
+    let at = c.loop-more.last in
+    let before = c.loop-more.invariant in
+    let next = ends_at bytes from more c.in-Some.ensures in
     record {
-      place = elim c.if-bytes-k-eq10.branch [
-        | then-bytes-k-eq10+else-has_journal w ↦ omega (arith, w.last-is)
-        | else-bytes-k-eq10 w ↦ omega (arith, w.last-is, before)
-      ];
-      line = elim c.if-bytes-k-eq10.branch [
-        | then-bytes-k-eq10+else-has_journal w ↦ subst (IsLastLine (take (k + 1) bytes)) (sym w.last-is)
-            (next_line_end bytes k at before inside w.if-bytes-k-eq10.true c.loop-k.invariant.line (w.has_journal.ensures.no w.if-has_journal.false))
-        | else-bytes-k-eq10 w ↦ subst (IsLastLine (take (k + 1) bytes)) (sym w.last-is)
-            (next_other bytes k at inside w.if-bytes-k-eq10.false c.loop-k.invariant.line)
-      ];
+      place = omega arith;
+      seen = omega (arith, next.inside);
+      line = next_line_end bytes (from + more) at (omega (arith, before.place)) next.inside next.ends
+          (next_part bytes from more at next.none before.line) (c.has_journal.ensures.no c.if-has_journal.false);
     }
 
 pub returns-then-has_journal-clause-settled : goal.returns-then-has_journal-clause-settled
 returns-then-has_journal-clause-settled c =
     let bytes = c.args.bytes.now in
-    let at = c.loop-k.last in
-    let k = c.loop-k.k in
-    let inside : k < length bytes = search rules in
-    let ends : get_or bytes k 0 ≡ 10 = search rules in
-    let has : HasJournal (take (k + 1 - at) (drop at bytes)) = c.has_journal.ensures.yes c.if-has_journal.true in
-    let whole = line_whole bytes at k c.loop-k.invariant.place inside ends in
-    subst IsSettled (in_three bytes at k c.loop-k.invariant.place)
-    (c.law_settled.ensures (take at bytes) (take (k + 1 - at) (drop at bytes)) (drop (k + 1) bytes) (begins_in bytes k at c.loop-k.invariant.place c.loop-k.invariant.line) whole has)
+    let from = c.loop-more.from in
+    let more = c.in-Some.more in
+    let at = c.loop-more.last in
+    let end = from + more in
+    let before : at ≤ end = omega (arith, c.loop-more.invariant.place) in
+    let next = ends_at bytes from more c.in-Some.ensures in
+    let here = next_part bytes from more at next.none c.loop-more.invariant.line in
+    let has : HasJournal (take (end + 1 - at) (drop at bytes)) = c.has_journal.ensures.yes c.if-has_journal.true in
+    let whole = line_whole bytes at end before next.inside next.ends in
+    subst IsSettled (in_three bytes at end before)
+    (c.law_settled.ensures (take at bytes) (take (end + 1 - at) (drop at bytes)) (drop (end + 1) bytes) (begins_in bytes end at before here) whole has)
+
+pub returns-clause-line : goal.returns-clause-line
+returns-clause-line c =
+    let bytes = c.args.bytes.now in
+    let from = c.loop-more.from in
+    last_part bytes from c.loop-more.last (none_after bytes from c.in_default.ensures) c.loop-more.invariant.line

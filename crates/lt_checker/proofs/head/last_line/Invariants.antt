@@ -1,10 +1,14 @@
 -- The last line of the bytes that were seen begins at its place, and no line before it is `journal`.
-use Rattle.std.proofs.Common.{◌≤◌, take}
+use Rattle.std.proofs.Common.{◌≤◌, ◌-◌, length, take}
 use Rattle.lt_checker.specs.Heads.{IsLastLine}
 use Rattle.lt_checker.proofs.head.last_line.Given as goal
 
-abbrev pub invariant-loop-k : goal.invariant-loop-k
-invariant-loop-k l = record {
-  place : l.last ≤ l.k;
-  line : IsLastLine (take l.k l.bytes) l.last;
+abbrev pub invariant-loop-more : goal.invariant-loop-more
+invariant-loop-more l = record {
+  place : l.last ≤ l.from;
+  seen : l.from ≤ length l.bytes;
+  line : IsLastLine (take l.from l.bytes) l.last;
 }
+
+abbrev pub decreases-loop-more : goal.decreases-loop-more
+decreases-loop-more l = length l.bytes - l.from
