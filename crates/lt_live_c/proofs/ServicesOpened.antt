@@ -1,6 +1,5 @@
 -- What follows where a service is opened or finished, and of its journal.
-use Rattle.std.proofs.Common.{◌≡◌, ◌≢◌, ◌<◌, ◌≤◌, ◌⊎◌, ◌++◌, ◌∷◌, ◌&&◌, [], inl, inr, ℕ, List, Result, Ok, Err, Option, Some, None, Vec, slice_get, true, refl, sym, ap, subst, arith, codes, count_by, drop, length, take, le-leb, lt-ltb, ◌∙◌}
-use Rattle.std.specs.Global.{Global}
+use Rattle.std.proofs.Common.{◌≡◌, ◌≢◌, ◌<◌, ◌≤◌, ◌++◌, ◌∷◌, [], ℕ, List, Result, Ok, Err, Option, Some, None, true, refl, sym, ap, subst, codes, count_by, drop, length, take, le-leb, lt-ltb, ◌∙◌}
 use Rattle.std.proofs.lemmas.Bool.{and_from, false≢true}
 use Rattle.lt_modes.specs.declared.command.Command.TheVariants.{Lock}
 use Rattle.lt_modes.specs.declared.mode.Mode.TheVariants.{Write}
@@ -15,17 +14,15 @@ use Rattle.lt_script.specs.declared.fault.ScriptFault.{ScriptFault}
 use Rattle.lt_script.specs.Reading.{read_of}
 use Rattle.lt_script.specs.Reading as reading
 use Rattle.lt_journal.specs.RunLines.{closing_lines}
-use Rattle.lt_live.specs.declared.ends.Session.{Session}
 use Rattle.lt_live.specs.Live.{AreLive, IsServedRun}
-use Rattle.lt_live.specs.Stations.{StationData, IsOpen}
+use Rattle.lt_live.specs.Stations.{IsOpen}
 use Rattle.lt_live_c.specs.declared.content.Content.{Content}
 use Rattle.lt_live_c.specs.declared.content.Content.TheVariants as contents
 use Rattle.lt_live_c.specs.declared.journal.Journal.{Journal}
 use Rattle.lt_live_c.specs.declared.service.Service.{Service}
-use Rattle.lt_live_c.specs.Taking.{HandleTakesStation, HandleTakesSession, TakesFirstStation, TakesFirstSession, HandleHasNoStation, HandleHasNoSession, HandleGives, GivesTo, HandleKeeps, SameService, HandleGiveRefused}
-use Rattle.lt_live_c.specs.Journals.{HandleOpened, IsOpenedFrom, OpenRefused, fits_for_c, HandleFinishes, TellsOf, HandleTellsEnd, CopiesFrom, says_held, says_waiting, text_of_content, script_at}
+use Rattle.lt_live_c.specs.Journals.{HandleOpened, IsOpenedFrom, OpenRefused, fits_for_c, HandleFinishes, TellsOf, CopiesFrom, says_held, says_waiting, text_of_content, script_at}
 use Rattle.lt_live_c.specs.Told.{kind_of}
-use Rattle.lt_live_c.specs.ServicesTold.{OfService, HasAll, AfterTakingStation, AfterTakingSession, TakesTold, AfterGiving, GivesTold, client_text, client_script, OpensTold, OfJournal, three_writers, one_holds, AfterEnd, FinishesTold, IsCopied, CopiesTold}
+use Rattle.lt_live_c.specs.ServicesTold.{OfService, client_text, client_script, OpensTold, OfJournal, three_writers, one_holds, AfterEnd, FinishesTold, IsCopied, CopiesTold}
 
 -- What is opened.
 
@@ -80,15 +77,19 @@ fits bytes limit places few some_moves few_moves some_places few_places =
     (and_from _ _ (lt-ltb 0 limit some_moves) (le-leb limit MAX_MOVES few_moves))
     (and_from _ _ (lt-ltb 0 places some_places) (le-leb places MAX_COMMANDS few_places)))
 
+no_fault : (bytes : List ℕ) (limit places : ℕ) (script : ScriptData)
+    → read_of bytes ≡ Ok script → OpenRefused 5 bytes limit places → ⊥
+no_fault bytes limit places script read h =
+    let fault = h.bad_script refl in
+    script_or_fault script fault.0 (read_of bytes) read fault.1
+
 pub opens_told : OpensTold
 opens_told = record {
   opened = opened;
   never_opened = never_opened;
   in_range = λ bytes limit places few some_moves few_moves some_places few_places h.
       false≢true (sym (h.bad_argument refl) ∙ fits bytes limit places few some_moves few_moves some_places few_places);
-  no_fault = λ bytes limit places script read h.
-      let fault = h.bad_script refl in
-      script_or_fault script fault.0 (read_of bytes) read fault.1;
+  no_fault = no_fault;
   open_codes = λ code bytes limit places h. h.only;
   whole = λ first s live. (first, live);
   whole_alone = λ s whole. whole;
@@ -124,6 +125,12 @@ two_wait : count_by says_waiting (closing_lines three_writers one_holds None) �
 unfolding conflicts
 two_wait = refl
 
+held_so : (journal : Journal) → TellsOf three_writers one_holds journal → journal.held ≡ 1
+held_so journal h = h.held ∙ one_held
+
+waiting_so : (journal : Journal) → TellsOf three_writers one_holds journal → journal.waiting ≡ 2
+waiting_so journal h = h.waiting ∙ two_wait
+
 no_end : (content : Content) → kind_of content ≢ 3
     → AfterEnd content (λ code was held waited waiting. (code ≡ 2) × (held ≡ was) × (waiting ≡ waited))
 no_end (contents.Service s) other code was held waited waiting h = h
@@ -137,8 +144,8 @@ finishes_told = record {
   never_finished = never_finished;
   script = λ script run journal h. h.script_is;
   text = λ script run journal h. h.text_is;
-  held = λ journal h. h.held ∙ one_held;
-  waiting = λ journal h. h.waiting ∙ two_wait;
+  held = held_so;
+  waiting = waiting_so;
   finish_codes = λ code h. h;
   wrong = λ s h. false≢true (sym h);
   end_code = λ journal code was held waited waiting h. h.0;

@@ -1,31 +1,15 @@
 -- What follows where a station or a session is taken from a service or given to it, and where it is not.
-use Rattle.std.proofs.Common.{◌≡◌, ◌≢◌, ◌<◌, ◌≤◌, ◌⊎◌, ◌++◌, ◌∷◌, ◌&&◌, [], inl, inr, ℕ, List, Result, Ok, Err, Option, Some, None, Vec, slice_get, true, refl, sym, ap, subst, arith, codes, count_by, drop, length, take, le-leb, lt-ltb, ◌∙◌}
+use Rattle.std.proofs.Common.{◌≡◌, ◌≢◌, ◌++◌, ◌∷◌, [], inl, inr, List, Option, Some, None, Vec, slice_get, refl, sym, ap, subst, drop, ◌∙◌}
 use Rattle.std.specs.Global.{Global}
-use Rattle.std.proofs.lemmas.Bool.{and_from, false≢true}
-use Rattle.lt_modes.specs.declared.command.Command.TheVariants.{Lock}
-use Rattle.lt_modes.specs.declared.mode.Mode.TheVariants.{Write}
-use Rattle.lt_modes.specs.Modes.{conflicts}
-use Rattle.lt_modes.specs.Script.{ScriptData}
-use Rattle.lt_spec.specs.declared.moves.TheConstants.{MAX_MOVES}
-use Rattle.lt_spec.specs.declared.limits.TheConstants.{MAX_COMMANDS}
-use Rattle.lt_spec.specs.World.{Logged}
-use Rattle.lt_text.specs.Text as text
-use Rattle.lt_script.specs.declared.fault.Fault.TheVariants as faults
-use Rattle.lt_script.specs.declared.fault.ScriptFault.{ScriptFault}
-use Rattle.lt_script.specs.Reading.{read_of}
-use Rattle.lt_script.specs.Reading as reading
-use Rattle.lt_journal.specs.RunLines.{closing_lines}
+use Rattle.std.proofs.lemmas.Bool.{false≢true}
 use Rattle.lt_live.specs.declared.ends.Session.{Session}
-use Rattle.lt_live.specs.Live.{AreLive, IsServedRun}
-use Rattle.lt_live.specs.Stations.{StationData, IsOpen}
+use Rattle.lt_live.specs.Stations.{StationData}
 use Rattle.lt_live_c.specs.declared.content.Content.{Content}
 use Rattle.lt_live_c.specs.declared.content.Content.TheVariants as contents
-use Rattle.lt_live_c.specs.declared.journal.Journal.{Journal}
 use Rattle.lt_live_c.specs.declared.service.Service.{Service}
-use Rattle.lt_live_c.specs.Taking.{HandleTakesStation, HandleTakesSession, TakesFirstStation, TakesFirstSession, HandleHasNoStation, HandleHasNoSession, HandleGives, GivesTo, HandleKeeps, SameService, HandleGiveRefused}
-use Rattle.lt_live_c.specs.Journals.{HandleOpened, IsOpenedFrom, OpenRefused, fits_for_c, HandleFinishes, TellsOf, HandleTellsEnd, CopiesFrom, says_held, says_waiting, text_of_content, script_at}
+use Rattle.lt_live_c.specs.Taking.{HandleTakesStation, HandleTakesSession, TakesFirstStation, TakesFirstSession, HandleHasNoStation, HandleHasNoSession, HandleGives, GivesTo, HandleKeeps, SameService}
 use Rattle.lt_live_c.specs.Told.{kind_of}
-use Rattle.lt_live_c.specs.ServicesTold.{OfService, HasAll, AfterTakingStation, AfterTakingSession, TakesTold, AfterGiving, GivesTold, client_text, client_script, OpensTold, OfJournal, three_writers, one_holds, AfterEnd, FinishesTold, IsCopied, CopiesTold}
+use Rattle.lt_live_c.specs.ServicesTold.{OfService, HasAll, AfterTakingStation, AfterTakingSession, TakesTold, AfterGiving, GivesTold}
 
 -- the handle stands for a service of which this is so
 of_service : (handle : Option Content) (Told : Service → Type 0) (Goal : Option Content → Type 0) → OfService handle Told

@@ -1,19 +1,17 @@
 -- What follows from each code of a call on a station or a session.
-use Rattle.std.proofs.Common.{◌≡◌, ◌≢◌, ◌<◌, ◌≤◌, ◌==◌, ne_eqb, false, ◌⊎◌, ◌++◌, ◌∷◌, [], inl, inr, ℕ, zero, suc, Option, Some, None, refl, sym, ap, subst, arith, ◌∙◌}
-use mathlib.Core.List.{IsPrefix}
+use Rattle.std.proofs.Common.{◌≡◌, ◌≢◌, ◌<◌, ◌≤◌, ◌==◌, ne_eqb, false, ◌⊎◌, ◌++◌, ◌∷◌, [], inl, inr, ℕ, Option, Some, None, refl, sym, ap, subst, arith, ◌∙◌}
 use Rattle.lt_runner.specs.declared.turning.Turned.{Turned}
 use Rattle.lt_runner.specs.declared.turning.Turned.TheVariants as turns
 use Rattle.lt_live.specs.declared.ends.Session.{Session}
 use Rattle.lt_live.specs.declared.reply.Reply.{Reply}
 use Rattle.lt_live.specs.declared.reply.Reply.TheVariants as replies
-use Rattle.lt_live.specs.Live.{StationGoesOn}
 use Rattle.lt_live.specs.Stations.{StationData, StationTurns}
-use Rattle.lt_live.specs.Words.{polled, SameSession}
+use Rattle.lt_live.specs.Words.{polled}
 use Rattle.lt_live_c.specs.declared.content.Content.{Content}
 use Rattle.lt_live_c.specs.declared.content.Content.TheVariants as contents
-use Rattle.lt_live_c.specs.Calls.{number_of_reply, number_of_turn, mode_numbered, command_numbered, TurnsStation, Submits, Polls, PollEnds, HasNoReply, TellsReply, left_at, client_in, home_in}
-use Rattle.lt_live_c.specs.Taking.{HandleGoesOn, AtStation, AtSession}
-use Rattle.lt_live_c.specs.Told.{CallCodesAre, ReplyNumbersAre, ModeNumbersAre, CommandNumbersAre, OfStation, OfSession, AfterTurn, TurnsTold, AfterSubmit, SubmitsTold, AfterPoll, PollsTold, kind_of, IsOfKind, KindsTold, AsksTold}
+use Rattle.lt_live_c.specs.Calls.{number_of_reply, number_of_turn, mode_numbered, command_numbered, TurnsStation, Submits, Polls, PollEnds, HasNoReply, TellsReply}
+use Rattle.lt_live_c.specs.Taking.{AtSession}
+use Rattle.lt_live_c.specs.Told.{CallCodesAre, ReplyNumbersAre, ModeNumbersAre, CommandNumbersAre, OfSession, AfterTurn, TurnsTold, AfterSubmit, SubmitsTold, AfterPoll, PollsTold}
 
 pub call_codes_are : CallCodesAre
 call_codes_are = record {

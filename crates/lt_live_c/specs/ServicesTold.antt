@@ -1,5 +1,5 @@
 -- What C is told of services and journals, in literals: what was taken, given, opened and finished, or why nothing was.
-use Rattle.std.specs.Prelude.{◌≡◌, ◌≢◌, ◌<◌, ◌≤◌, ◌⊎◌, ◌++◌, ◌∷◌, [], ℕ, List, Ok, Option, Some, None, codes, length}
+use Rattle.std.specs.Prelude.{◌≡◌, ◌≢◌, ◌<◌, ◌≤◌, ◌⊎◌, ◌∷◌, [], ℕ, List, Ok, Option, Some, None, codes, length}
 use Rattle.lt_modes.specs.declared.command.Command.TheVariants.{Lock}
 use Rattle.lt_modes.specs.declared.event.Event.TheVariants.{Grant, Wait}
 use Rattle.lt_modes.specs.declared.mode.Mode.TheVariants.{Write}
