@@ -132,6 +132,13 @@ no_session (contents.Journal journal) (Some (contents.Session t)) (Some b) other
 some_left : {X : Type 0} (x : X) (rest items : List X) → items ≡ x ∷ rest → items ≡ [] → ⊥
 some_left x rest items same none = cc
 
+nothing_so : (content : Content) → kind_of content ≢ 0
+    → (HandleHasNoStation 1 (Some content) → ⊥) × (HandleHasNoSession 1 (Some content) → ⊥)
+nothing_so (contents.Service s) other = absurd (other refl)
+nothing_so (contents.Station x) other = (λ h. h.nothing refl, λ h. h.nothing refl)
+nothing_so (contents.Session s) other = (λ h. h.nothing refl, λ h. h.nothing refl)
+nothing_so (contents.Journal journal) other = (λ h. h.nothing refl, λ h. h.nothing refl)
+
 pub takes_told : TakesTold
 takes_told = record {
   station = λ x y sessions old new taken has h. (first_station x y sessions old new taken has h).0;
@@ -146,6 +153,7 @@ takes_told = record {
   a_session_left = λ x rest stations old has.
       of_service old (Has stations (x ∷ rest)) (λ handle. HandleHasNoSession 1 handle → ⊥) has
       (λ s same h. some_left x rest s.sessions.items same.1 (h.nothing refl));
+  nothing_of_others = nothing_so;
   wrong_for_station = λ s h. false≢true (sym (h.wrong refl));
   wrong_for_session = λ s h. false≢true (sym (h.wrong refl));
   station_codes = λ code content h. h.only;

@@ -58,6 +58,8 @@ pub record TakesTold : Type 0 where
       → HasAll (x ∷ rest) sessions old → HandleHasNoStation 1 old → ⊥
   pub a_session_left : (s : Session) (rest : List Session) (stations : List StationData) (old : Option Content)
       → HasAll stations (s ∷ rest) old → HandleHasNoSession 1 old → ⊥
+  pub nothing_of_others : (content : Content) → kind_of content ≢ 0
+      → (HandleHasNoStation 1 (Some content) → ⊥) × (HandleHasNoSession 1 (Some content) → ⊥)
   pub wrong_for_station : (s : Service) → HandleHasNoStation 2 (Some (contents.Service s)) → ⊥
   pub wrong_for_session : (s : Service) → HandleHasNoSession 2 (Some (contents.Service s)) → ⊥
   pub station_codes : (code : ℕ) (content : Content) → HandleHasNoStation code (Some content)
