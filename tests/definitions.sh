@@ -18,7 +18,7 @@ said() { sed -n "s/^$1: //p" "$top/tests/definitions/$2.patch"; }
 bring() {
   [ -d "$top/crates/$1" ] && [ ! -d "$copy/crates/$1" ] || return 0
   cp -a "$top/crates/$1" "$copy/crates" || exit 1
-  for below in $(sed -n "s/^$1: //p" "$top/crates.txt"); do bring "$below"; done
+  for below in $(sed -n "s/^$1\( [^:]*\)\{0,1\}: //p" "$top/crates.txt"); do bring "$below"; done
 }
 
 # checks a law in the copy
@@ -58,7 +58,7 @@ try() {
 mkdir "$copy/crates" && cp "$top/HANDLES" "$copy" || exit 1
 laws=$(for patch; do said law "$patch"; done | sort -u)
 for law in $laws; do bring "$law"; done
-while read -r line; do [ ! -d "$copy/crates/${line%%:*}" ] || echo "$line"; done < "$top/crates.txt" > "$copy/crates.txt"
+while read -r line; do [ ! -d "$copy/crates/${line%%[ :]*}" ] || echo "$line"; done < "$top/crates.txt" > "$copy/crates.txt"
 for law in $laws; do
   check "$law" || { cat "$copy/log"; echo "$law isn't proved as it is"; exit 1; }
 done

@@ -2,3 +2,5 @@ pub mod Handles
 pub mod Calls
 pub mod Taking
 pub mod Journals
+pub mod Told
+pub mod ServicesTold

@@ -11,6 +11,7 @@ mod content;
 mod handle;
 mod journal;
 mod journals;
+mod laws;
 mod limits;
 mod parts;
 mod service;
@@ -18,3 +19,5 @@ mod services;
 mod sessions;
 mod taking;
 mod texts;
+
+pub use laws::law_c_told;

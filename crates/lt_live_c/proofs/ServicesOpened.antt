@@ -1,0 +1,187 @@
+-- What follows where a service is opened or finished, and of its journal.
+use Rattle.std.proofs.Common.{◌≡◌, ◌≢◌, ◌<◌, ◌≤◌, ◌++◌, ◌∷◌, [], ℕ, List, Result, Ok, Err, Option, Some, None, true, refl, sym, ap, subst, codes, count_by, drop, length, take, le-leb, lt-ltb, ◌∙◌}
+use Rattle.std.proofs.lemmas.Bool.{and_from, false≢true}
+use Rattle.lt_modes.specs.declared.command.Command.TheVariants.{Lock}
+use Rattle.lt_modes.specs.declared.mode.Mode.TheVariants.{Write}
+use Rattle.lt_modes.specs.Modes.{conflicts}
+use Rattle.lt_modes.specs.Script.{ScriptData}
+use Rattle.lt_spec.specs.declared.moves.TheConstants.{MAX_MOVES}
+use Rattle.lt_spec.specs.declared.limits.TheConstants.{MAX_COMMANDS}
+use Rattle.lt_spec.specs.World.{Logged}
+use Rattle.lt_text.specs.Text as text
+use Rattle.lt_script.specs.declared.fault.Fault.TheVariants as faults
+use Rattle.lt_script.specs.declared.fault.ScriptFault.{ScriptFault}
+use Rattle.lt_script.specs.Reading.{read_of}
+use Rattle.lt_script.specs.Reading as reading
+use Rattle.lt_journal.specs.RunLines.{closing_lines}
+use Rattle.lt_live.specs.Live.{AreLive, IsServedRun}
+use Rattle.lt_live.specs.Stations.{IsOpen}
+use Rattle.lt_live_c.specs.declared.content.Content.{Content}
+use Rattle.lt_live_c.specs.declared.content.Content.TheVariants as contents
+use Rattle.lt_live_c.specs.declared.journal.Journal.{Journal}
+use Rattle.lt_live_c.specs.declared.service.Service.{Service}
+use Rattle.lt_live_c.specs.Journals.{HandleOpened, IsOpenedFrom, OpenRefused, fits_for_c, HandleFinishes, TellsOf, CopiesFrom, says_held, says_waiting, text_of_content, script_at}
+use Rattle.lt_live_c.specs.Told.{kind_of}
+use Rattle.lt_live_c.specs.ServicesTold.{OfService, client_text, client_script, OpensTold, OfJournal, three_writers, one_holds, AfterEnd, FinishesTold, IsCopied, CopiesTold}
+
+-- What is opened.
+
+abbrev with_command : ScriptData
+with_command = record client_script { commands = (0, Lock 0 Write) ∷ [] }
+
+client_read : read_of client_text ≡ Ok with_command
+unfolding reading.script_body reading.read_from text.lines text.cut_at reading.line_step text.words
+client_read = refl
+
+abbrev no_nodes : ScriptFault
+no_nodes = record { line = 1; fault = faults.Nodes }
+
+nothing_read : read_of [] ≡ Err no_nodes
+unfolding reading.script_body reading.read_from text.lines text.cut_at reading.line_step text.words
+nothing_read = refl
+
+same_script : (a b : ScriptData) (read : Result ScriptData ScriptFault) → read ≡ Ok a → read ≡ Ok b → a ≡ b
+same_script a b read e f = cc
+
+script_or_fault : (script : ScriptData) (fault : ScriptFault) (read : Result ScriptData ScriptFault)
+    → read ≡ Ok script → read ≡ Err fault → ⊥
+script_or_fault script fault read e f = cc
+
+opened_so : (s : Service) → IsOpenedFrom client_text 9 2 s
+    → IsOpen client_script 9 2 s.stations.items s.sessions.items
+opened_so s h =
+    let same = same_script h.0 with_command (read_of client_text) h.1 client_read in
+    subst (λ (script : ScriptData). IsOpen (record script { commands = [] }) 9 2 s.stations.items s.sessions.items) same h.2
+
+opened : (new : Option Content) → HandleOpened client_text 9 2 new
+    → OfService new (λ s. IsOpen client_script 9 2 s.stations.items s.sessions.items)
+opened None h = absurd h
+opened (Some (contents.Service s)) h = opened_so s h
+opened (Some (contents.Station other)) h = absurd h
+opened (Some (contents.Session other)) h = absurd h
+opened (Some (contents.Journal other)) h = absurd h
+
+never_opened : (new : Option Content) → HandleOpened [] 9 2 new → ⊥
+never_opened None h = h
+never_opened (Some (contents.Service s)) h = script_or_fault h.0 no_nodes (read_of []) h.1 nothing_read
+never_opened (Some (contents.Station other)) h = h
+never_opened (Some (contents.Session other)) h = h
+never_opened (Some (contents.Journal other)) h = h
+
+fits : (bytes : List ℕ) (limit places : ℕ)
+    → length bytes ≤ 1048576 → 0 < limit → limit ≤ 1073741824 → 0 < places → places ≤ 4096
+    → fits_for_c bytes limit places ≡ true
+fits bytes limit places few some_moves few_moves some_places few_places =
+    and_from _ _ (le-leb (length bytes) 1048576 few)
+    (and_from _ _
+    (and_from _ _ (lt-ltb 0 limit some_moves) (le-leb limit MAX_MOVES few_moves))
+    (and_from _ _ (lt-ltb 0 places some_places) (le-leb places MAX_COMMANDS few_places)))
+
+no_fault : (bytes : List ℕ) (limit places : ℕ) (script : ScriptData)
+    → read_of bytes ≡ Ok script → OpenRefused 5 bytes limit places → ⊥
+no_fault bytes limit places script read h =
+    let fault = h.bad_script refl in
+    script_or_fault script fault.0 (read_of bytes) read fault.1
+
+pub opens_told : OpensTold
+opens_told = record {
+  opened = opened;
+  never_opened = never_opened;
+  in_range = λ bytes limit places few some_moves few_moves some_places few_places h.
+      false≢true (sym (h.bad_argument refl) ∙ fits bytes limit places few some_moves few_moves some_places few_places);
+  no_fault = no_fault;
+  open_codes = λ code bytes limit places h. h.only;
+  whole = λ first s live. (first, live);
+  whole_alone = λ s whole. whole;
+}
+
+-- What is finished.
+
+finished : (first : ScriptData) (s : Service) (new : Option Content) → AreLive first s.stations.items s.sessions.items
+    → HandleFinishes (Some (contents.Service s)) new
+    → OfJournal new (λ journal. (script : ScriptData) × (run : List Logged)
+    × IsServedRun first s.sessions.items script run × TellsOf script run journal)
+finished first s None live h = absurd h
+finished first s (Some (contents.Service other)) live h = absurd h
+finished first s (Some (contents.Station other)) live h = absurd h
+finished first s (Some (contents.Session other)) live h = absurd h
+finished first s (Some (contents.Journal journal)) live h = h first live
+
+never_finished : (content : Content) (new : Option Content) → kind_of content ≢ 0
+    → HandleFinishes (Some content) new → ⊥
+never_finished (contents.Service s) new other h = other refl
+never_finished (contents.Station x) None other h = h
+never_finished (contents.Station x) (Some b) other h = h
+never_finished (contents.Session s) None other h = h
+never_finished (contents.Session s) (Some b) other h = h
+never_finished (contents.Journal journal) None other h = h
+never_finished (contents.Journal journal) (Some b) other h = h
+
+one_held : count_by says_held (closing_lines three_writers one_holds None) ≡ 1
+unfolding conflicts
+one_held = refl
+
+two_wait : count_by says_waiting (closing_lines three_writers one_holds None) ≡ 2
+unfolding conflicts
+two_wait = refl
+
+held_so : (journal : Journal) → TellsOf three_writers one_holds journal → journal.held ≡ 1
+held_so journal h = h.held ∙ one_held
+
+waiting_so : (journal : Journal) → TellsOf three_writers one_holds journal → journal.waiting ≡ 2
+waiting_so journal h = h.waiting ∙ two_wait
+
+no_end : (content : Content) → kind_of content ≢ 3
+    → AfterEnd content (λ code was held waited waiting. (code ≡ 2) × (held ≡ was) × (waiting ≡ waited))
+no_end (contents.Service s) other code was held waited waiting h = h
+no_end (contents.Station x) other code was held waited waiting h = h
+no_end (contents.Session s) other code was held waited waiting h = h
+no_end (contents.Journal journal) other code was held waited waiting h = absurd (other refl)
+
+pub finishes_told : FinishesTold
+finishes_told = record {
+  served = finished;
+  never_finished = never_finished;
+  script = λ script run journal h. h.script_is;
+  text = λ script run journal h. h.text_is;
+  held = held_so;
+  waiting = waiting_so;
+  finish_codes = λ code h. h;
+  wrong = λ s h. false≢true (sym h);
+  end_code = λ journal code was held waited waiting h. h.0;
+  end_held = λ journal code was held waited waiting h. h.1;
+  end_waiting = λ journal code was held waited waiting h. h.2;
+  no_end = no_end;
+}
+
+-- What is copied.
+
+copied : (bytes : List ℕ) (from count : ℕ) (old : List ℕ)
+    → ((many : ℕ) (after : List ℕ) → CopiesFrom bytes from many old after → many ≡ count)
+    → IsCopied bytes from count old (take count (drop from bytes) ++ drop count old)
+copied bytes from count old counted many after h =
+    let is = counted many after h in
+    (is, h.bytes ∙ ap (λ (n : ℕ). take n (drop from bytes) ++ drop n old) is)
+
+no_text : (content : Content) → kind_of content ≢ 3 → text_of_content (Some content) ≡ []
+no_text (contents.Service s) other = refl
+no_text (contents.Station x) other = refl
+no_text (contents.Session s) other = refl
+no_text (contents.Journal journal) other = absurd (other refl)
+
+no_script : (content : Content) → kind_of content ≢ 3 → script_at (Some content) ≡ []
+no_script (contents.Service s) other = refl
+no_script (contents.Station x) other = refl
+no_script (contents.Session s) other = refl
+no_script (contents.Journal journal) other = absurd (other refl)
+
+pub copies_told : CopiesTold
+copies_told = record {
+  wide = copied (codes "abc") 1 2 (codes "....") (λ many after h. h.many);
+  narrow = copied (codes "abc") 0 1 (codes ".") (λ many after h. h.many);
+  behind = copied (codes "abc") 5 0 (codes "..") (λ many after h. h.many);
+  text = λ journal. refl;
+  script = λ journal. refl;
+  no_text = no_text;
+  no_script = no_script;
+}

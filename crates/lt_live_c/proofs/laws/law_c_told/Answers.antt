@@ -1,0 +1,23 @@
+use Rattle.lt_live_c.proofs.ToldOpened.{call_codes_are, reply_numbers_are, mode_numbers_are, command_numbers_are, turns_told, submits_told, polls_told}
+use Rattle.lt_live_c.proofs.KindsOpened.{kinds_told, asks_told}
+use Rattle.lt_live_c.proofs.TakingOpened.{takes_told, gives_told}
+use Rattle.lt_live_c.proofs.ServicesOpened.{opens_told, finishes_told, copies_told}
+use Rattle.lt_live_c.proofs.laws.law_c_told.Goals as goal
+
+pub returns : goal.returns
+returns c = record {
+  codes = call_codes_are;
+  replies = reply_numbers_are;
+  modes = mode_numbers_are;
+  commands = command_numbers_are;
+  turns = turns_told;
+  submits = submits_told;
+  polls = polls_told;
+  kinds = kinds_told;
+  asks = asks_told;
+  takes = takes_told;
+  gives = gives_told;
+  opens = opens_told;
+  finishes = finishes_told;
+  copies = copies_told;
+}

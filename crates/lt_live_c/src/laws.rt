@@ -1,0 +1,23 @@
+// What the calls' contracts say, in literals.
+ghost use Rattle.lt_live_c.specs.Told.{CallCodesAre, ReplyNumbersAre, ModeNumbersAre, CommandNumbersAre, TurnsTold, SubmitsTold, PollsTold, KindsTold, AsksTold};
+ghost use Rattle.lt_live_c.specs.ServicesTold.{TakesTold, GivesTold, OpensTold, FinishesTold, CopiesTold};
+
+/// What C is told, by the numbers of `clients/c/lockrun.h`: what follows from each code of a call, field by field.
+///
+/// Each field says one fact: with that fact left out of a contract, or made weaker, it doesn't follow.
+pub fn law_c_told()
+    ensures codes { CallCodesAre }
+    ensures replies { ReplyNumbersAre }
+    ensures modes { ModeNumbersAre }
+    ensures commands { CommandNumbersAre }
+    ensures turns { TurnsTold }
+    ensures submits { SubmitsTold }
+    ensures polls { PollsTold }
+    ensures kinds { KindsTold }
+    ensures asks { AsksTold }
+    ensures takes { TakesTold }
+    ensures gives { GivesTold }
+    ensures opens { OpensTold }
+    ensures finishes { FinishesTold }
+    ensures copies { CopiesTold }
+{}
