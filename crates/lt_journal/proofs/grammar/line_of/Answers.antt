@@ -1,4 +1,4 @@
-use Rattle.std.proofs.Common.{◌≡◌, ◌∙◌, List, ℕ, sym, ap}
+use Rattle.std.proofs.Common.{◌∙◌, List, ℕ, sym, ap}
 use Rattle.lt_text.specs.Text.{fields}
 use Rattle.lt_journal.specs.Grammar.{line_of}
 use Rattle.lt_journal.proofs.MoveLines.{says_move}

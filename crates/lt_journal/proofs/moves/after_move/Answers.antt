@@ -1,5 +1,4 @@
-use Rattle.std.proofs.Common.{codes, bytes_eq, sym, ap, ◌∙◌}
-use Rattle.lt_text.specs.Text.{fields}
+use Rattle.std.proofs.Common.{codes, sym, ◌∙◌}
 use Rattle.lt_journal.proofs.Written.{same_word}
 use Rattle.lt_journal.proofs.MoveLines.{move_first}
 use Rattle.lt_journal.proofs.moves.after_move.Goals as goal

@@ -1,4 +1,3 @@
-use Rattle.std.proofs.Common.{◌≤◌, length}
 use Rattle.lt_journal.proofs.MoveLines.{IsNumberSoFar}
 use Rattle.lt_journal.proofs.moves.short_number.Given as goal
 
