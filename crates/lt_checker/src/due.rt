@@ -28,7 +28,8 @@ pub(crate) struct Due {
 impl Due {
     /// Whether no line is due after this run.
     pub(crate) fn is_none(&self, run: &Run) -> bool
-        ensures none { (script : ScriptData) → IsTrue result → due_lines script run.now.entries self.now.told self.now.later.items ≡ [] }
+        ensures none { (script : ScriptData) → IsTrue result
+            → due_lines script run.now.entries self.now.told self.now.later.items ≡ [] }
         ensures some { (script : ScriptData) → IsFalse result
             → is_complete script run.now.entries (due_lines script run.now.entries self.now.told self.now.later.items) ≡ false }
     {

@@ -5,12 +5,12 @@ use Rattle.std.proofs.lemmas.Bool.{cases_eq, cases_lt}
 use Rattle.std.proofs.lemmas.List.{get_or_past}
 use Rattle.std.proofs.lemmas.Nat.Bits.{bit_at-zero, bit_at-lt, bit_at_and, bit_at_set_same, bit_at_set_other, bit_at_clear_same, bit_at_clear_other, bit_at-trailing_zeros, ones_shl, bit_at_ones, bit_at_mask_inside, bit_at_mask_below}
 use Rattle.std.proofs.lemmas.Nat.{and_le_l}
-use Rattle.lt_inbox.specs.Bits.{has_bit, IsFirstBit, NoBitFrom, OthersStand}
+use Rattle.lt_inbox.specs.Bits.{has_bit, IsFirstBit, NoBitFrom, OtherBitsStand}
 
 -- where one word of some has this bit
 pub bit_put : (words : List ℕ) (k : ℕ) (word : ℕ) (t : Bool) → k / 64 < length words
     → (bit_at word (k % 64) == 1) ≡ t → ((i : ℕ) → i < 64 → i ≢ k % 64 → bit_at word i ≡ bit_at (slice_index_or words (k / 64) 0) i)
-    → (has_bit (slice_set words (k / 64) word) k ≡ t) × OthersStand k words (slice_set words (k / 64) word)
+    → (has_bit (slice_set words (k / 64) word) k ≡ t) × OtherBitsStand k words (slice_set words (k / 64) word)
 bit_put words k word t inside own others = (
   ap (λ (w : ℕ). bit_at w (k % 64) == 1) (get_or-set_same words (k / 64) word 0 inside) ∙ own,
   λ i apart. elim (cases_eq (i / 64) (k / 64)) [
@@ -25,24 +25,24 @@ bit_put words k word t inside own others = (
 
 pub bit_set : (words : List ℕ) (k j : ℕ) → j ≡ k / 64 → k < 2 ^ 8 → length words ≡ 4
     → (has_bit (slice_set words j (bit_or (slice_index_or words j 0) (1 * 2 ^ (k % 64) % 2 ^ 64))) k ≡ true)
-    × OthersStand k words (slice_set words j (bit_or (slice_index_or words j 0) (1 * 2 ^ (k % 64) % 2 ^ 64)))
+    × OtherBitsStand k words (slice_set words j (bit_or (slice_index_or words j 0) (1 * 2 ^ (k % 64) % 2 ^ 64)))
 bit_set words k j place few four =
     let old = slice_index_or words (k / 64) 0 in
     let new = bit_or old (1 * 2 ^ (k % 64) % 2 ^ 64) in
     subst (λ (i : ℕ). (has_bit (slice_set words i (bit_or (slice_index_or words i 0) (1 * 2 ^ (k % 64) % 2 ^ 64))) k ≡ true)
-    × OthersStand k words (slice_set words i (bit_or (slice_index_or words i 0) (1 * 2 ^ (k % 64) % 2 ^ 64)))) (sym place)
+    × OtherBitsStand k words (slice_set words i (bit_or (slice_index_or words i 0) (1 * 2 ^ (k % 64) % 2 ^ 64)))) (sym place)
     (bit_put words k new true (omega (arith, few, four))
     (ap (λ (b : ℕ). b == 1) (bit_at_set_same w64 old (k % 64) (omega arith)))
     (λ i below apart. bit_at_set_other w64 old (k % 64) (omega arith) i apart))
 
 pub bit_cleared : (words : List ℕ) (k j : ℕ) → j ≡ k / 64 → k < 2 ^ 8 → length words ≡ 4
     → (has_bit (slice_set words j (bit_and (slice_index_or words j 0) (bit_not w64 (1 * 2 ^ (k % 64) % 2 ^ 64)))) k ≡ false)
-    × OthersStand k words (slice_set words j (bit_and (slice_index_or words j 0) (bit_not w64 (1 * 2 ^ (k % 64) % 2 ^ 64))))
+    × OtherBitsStand k words (slice_set words j (bit_and (slice_index_or words j 0) (bit_not w64 (1 * 2 ^ (k % 64) % 2 ^ 64))))
 bit_cleared words k j place few four =
     let old = slice_index_or words (k / 64) 0 in
     let new = bit_and old (bit_not w64 (1 * 2 ^ (k % 64) % 2 ^ 64)) in
     subst (λ (i : ℕ). (has_bit (slice_set words i (bit_and (slice_index_or words i 0) (bit_not w64 (1 * 2 ^ (k % 64) % 2 ^ 64)))) k ≡ false)
-    × OthersStand k words (slice_set words i (bit_and (slice_index_or words i 0) (bit_not w64 (1 * 2 ^ (k % 64) % 2 ^ 64))))) (sym place)
+    × OtherBitsStand k words (slice_set words i (bit_and (slice_index_or words i 0) (bit_not w64 (1 * 2 ^ (k % 64) % 2 ^ 64))))) (sym place)
     (bit_put words k new false (omega (arith, few, four))
     (ap (λ (b : ℕ). b == 1) (bit_at_clear_same w64 old (k % 64) (omega arith)))
     (λ i below apart. bit_at_clear_other w64 old (k % 64) (omega arith) i below apart))

@@ -8,7 +8,7 @@ use Rattle.std.proofs.lemmas.List.FromFn.{get_or-map-range_with_len, length-map-
 use Rattle.std.proofs.lemmas.List.Sums.{sum_by-set}
 use Rattle.std.proofs.lemmas.Nat.Bits.{bit_at-zero}
 use Rattle.lt_inbox.specs.Mail.{has_from, sender_count}
-use Rattle.lt_inbox.specs.Bits.{has_bit, IsFirstBit, NoBitFrom, OthersStand, marks_of, AreBits, IsFirstFrom, NoneFrom}
+use Rattle.lt_inbox.specs.Bits.{has_bit, IsFirstBit, NoBitFrom, OtherBitsStand, marks_of, AreBits, IsFirstFrom, NoneFrom}
 use Rattle.lt_inbox.proofs.TakeOrder.{counted_first, fewer_senders, filter_skips, filter_keeps}
 
 pub marks_length : (count : ℕ) (words : List ℕ) → length (marks_of count words) ≡ count
@@ -51,7 +51,7 @@ no_bits count few = record {
     ]
 
 -- where one bit is changed, so is one mark
-pub one_mark : (count : ℕ) (old new : List ℕ) (k : ℕ) (t : Bool) → k < count → has_bit new k ≡ t → OthersStand k old new
+pub one_mark : (count : ℕ) (old new : List ℕ) (k : ℕ) (t : Bool) → k < count → has_bit new k ≡ t → OtherBitsStand k old new
     → marks_of count new ≡ slice_set (marks_of count old) k t
 one_mark count old new k t inside own others =
     ext_get_or false (marks_of count new) (slice_set (marks_of count old) k t)
@@ -81,10 +81,10 @@ count_more marks k inside was = omega (arith, count_set marks k true inside, ap 
 pub count_less : (marks : List Bool) (k : ℕ) → k < length marks → has_from marks k ≡ true → sender_count (slice_set marks k false) + 1 ≡ sender_count marks
 count_less marks k inside was = omega (arith, count_set marks k false inside, ap {B = ℕ} (λ (b : Bool). if b then 1 else 0) was)
 
-past_kept : (old new : List ℕ) (count k : ℕ) → k < count → OthersStand k old new → NoBitFrom old count → NoBitFrom new count
+past_kept : (old new : List ℕ) (count k : ℕ) → k < count → OtherBitsStand k old new → NoBitFrom old count → NoBitFrom new count
 past_kept old new count k inside others none i past = others i (λ is. omega (arith, inside, past, is)) ∙ none i past
 
-pub bits_more : (old new : List ℕ) (count len k : ℕ) → AreBits old count len → k < count → has_bit old k ≡ false → has_bit new k ≡ true → OthersStand k old new
+pub bits_more : (old new : List ℕ) (count len k : ℕ) → AreBits old count len → k < count → has_bit old k ≡ false → has_bit new k ≡ true → OtherBitsStand k old new
     → AreBits new count (len + 1)
 bits_more old new count len k bits inside was own others = record {
   few = bits.few;
@@ -95,7 +95,7 @@ bits_more old new count len k bits inside was own others = record {
       omega (arith, bits.counted, more) ∙ sym (ap sender_count (one_mark count old new k true inside own others));
 }
 
-pub bits_less : (old new : List ℕ) (count len k : ℕ) → AreBits old count len → k < count → has_bit old k ≡ true → has_bit new k ≡ false → OthersStand k old new
+pub bits_less : (old new : List ℕ) (count len k : ℕ) → AreBits old count len → k < count → has_bit old k ≡ true → has_bit new k ≡ false → OtherBitsStand k old new
     → AreBits new count (len - 1)
 bits_less old new count len k bits inside was own others = record {
   few = bits.few;

@@ -19,8 +19,8 @@ abbrev pub NoBitFrom : List ℕ → ℕ → Type 0
 NoBitFrom words from = (i : ℕ) → from ≤ i → has_bit words i ≡ false
 
 -- only this number's bit may be another one
-abbrev pub OthersStand : ℕ → List ℕ → List ℕ → Type 0
-OthersStand k old new = (i : ℕ) → i ≢ k → has_bit new i ≡ has_bit old i
+abbrev pub OtherBitsStand : ℕ → List ℕ → List ℕ → Type 0
+OtherBitsStand k old new = (i : ℕ) → i ≢ k → has_bit new i ≡ has_bit old i
 
 -- which of so many numbers have their bits
 abbrev pub marks_of : ℕ → List ℕ → List Bool

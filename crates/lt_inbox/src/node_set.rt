@@ -1,6 +1,6 @@
 ghost use Rattle.std.specs.Prelude.{◌≡◌, ◌<◌, ◌^◌, ℕ, true, false, not, length, slice_get, slice_set, IfSome, IfNone};
 ghost use Rattle.lt_inbox.specs.Mail.{has_from, sender_count, senders_in};
-ghost use Rattle.lt_inbox.specs.Bits.{IsFirstBit, IsFirstFrom, NoBitFrom, NoneFrom, OthersStand, has_bit};
+ghost use Rattle.lt_inbox.specs.Bits.{IsFirstBit, IsFirstFrom, NoBitFrom, NoneFrom, OtherBitsStand, has_bit};
 
 use std::marker::Model;
 
@@ -127,14 +127,14 @@ fn has_bit(words: &[u64; 4], number: u8) -> bool
 
 fn set_bit(words: &mut [u64; 4], number: u8)
     ensures own { has_bit words.new number ≡ true }
-    ensures others { OthersStand number words.old words.new }
+    ensures others { OtherBitsStand number words.old words.new }
 {
     words[usize::from(number / 64)] |= 1 << (number % 64);
 }
 
 fn clear_bit(words: &mut [u64; 4], number: u8)
     ensures own { has_bit words.new number ≡ false }
-    ensures others { OthersStand number words.old words.new }
+    ensures others { OtherBitsStand number words.old words.new }
 {
     words[usize::from(number / 64)] &= !(1 << (number % 64));
 }

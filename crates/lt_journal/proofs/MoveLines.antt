@@ -15,7 +15,7 @@ use Rattle.lt_text.proofs.NumberLemmas.{few_digits}
 use Rattle.lt_modes.specs.Script.{ScriptData}
 use Rattle.lt_spec.specs.Holdings.{Holding}
 use Rattle.lt_journal.specs.declared.line.Line.TheVariants.{Bad}
-use Rattle.lt_journal.specs.Grammar.{lock_of, lock_line, line_of, move_of, step_line, BeginsWithNumber}
+use Rattle.lt_journal.specs.Grammar.{lock_of, lock_line, line_of, move_told, step_line, BeginsWithNumber}
 
 -- the word `move` is the first field
 pub move_first : (line : List ℕ) → take 5 line ≡ codes "move " → fields line ≡ codes "move" ∷ fields (drop 5 line)
@@ -111,7 +111,7 @@ number_first words k found is inside space some other rest =
 
 -- What a line of the word `move` says.
 
-pub says_move : (script : ScriptData) (words : List (List ℕ)) → line_of script (codes "move" ∷ words) ≡ move_of script words
+pub says_move : (script : ScriptData) (words : List (List ℕ)) → line_of script (codes "move" ∷ words) ≡ move_told script words
 says_move script [] = refl
 says_move script (a ∷ []) = refl
 says_move script (a ∷ b ∷ []) = refl
@@ -124,20 +124,20 @@ says_move script (a ∷ b ∷ c ∷ d ∷ []) = refl
 says_move script (a ∷ b ∷ c ∷ d ∷ e ∷ later) = refl
 
 two_numbers : (script : ScriptData) (a b : List ℕ) (clock node : ℕ) (words : List (List ℕ)) → exact_number a ≡ Some clock → exact_number b ≡ Some node
-    → move_of script (a ∷ b ∷ words) ≡ step_line script clock node words
+    → move_told script (a ∷ b ∷ words) ≡ step_line script clock node words
 two_numbers script a b clock node [] is also = refl
 two_numbers script a b clock node (c ∷ []) is also = refl
 two_numbers script a b clock node (c ∷ d ∷ []) is also = rw (is, also) refl
 two_numbers script a b clock node (c ∷ d ∷ e ∷ later) is also = refl
 
 pub numbers_first : (script : ScriptData) (a : List ℕ) (words : List (List ℕ)) (clock node : ℕ × Bor (List ℕ)) → BeginsWithNumber (a ∷ words) (Some clock)
-    → BeginsWithNumber (fields clock.1.now) (Some node) → move_of script (a ∷ words) ≡ step_line script clock.0 node.0 (fields node.1.now)
+    → BeginsWithNumber (fields clock.1.now) (Some node) → move_told script (a ∷ words) ≡ step_line script clock.0 node.0 (fields node.1.now)
 numbers_first script a [] clock node first second = absurd (first)
 numbers_first script a (b ∷ later) clock node first second =
     by_later later first.0 (subst (λ (ws : List (List ℕ)). BeginsWithNumber ws (Some node)) first.1 second)
   where
     by_later : (later : List (List ℕ)) → exact_number a ≡ Some clock.0 → BeginsWithNumber (b ∷ later) (Some node)
-        → move_of script (a ∷ b ∷ later) ≡ step_line script clock.0 node.0 (fields node.1.now)
+        → move_told script (a ∷ b ∷ later) ≡ step_line script clock.0 node.0 (fields node.1.now)
     by_later [] is next = absurd (next)
     by_later (c ∷ later) is next =
         two_numbers script a b clock.0 node.0 (c ∷ later) is next.0 ∙ ap (step_line script clock.0 node.0) (sym next.1)

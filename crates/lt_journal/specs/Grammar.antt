@@ -129,13 +129,14 @@ move_line (Some clock) (Some node) (Some step) = MoveLine clock node step
 move_line _ _ _ = Bad
 
 -- what a line says that has these words after the word `move`
-abbrev pub move_of : ScriptData → List (List ℕ) → Line
-move_of script (a ∷ b ∷ c ∷ d ∷ []) = move_line (exact_number a) (node_of script b) (step_said script c d)
-move_of script words = Bad
+abbrev pub move_told : ScriptData → List (List ℕ) → Line
+move_told script (a ∷ b ∷ c ∷ d ∷ []) = move_line (exact_number a) (node_of script b) (step_said script c d)
+move_told script words = Bad
 
 -- a move with this clock and this number of a node, which does what these words say
 abbrev pub step_line : ScriptData → ℕ → ℕ → List (List ℕ) → Line
-step_line script clock node (c ∷ d ∷ []) = move_line (Some clock) (below script.nodes (Some node)) (step_said script c d)
+step_line script clock node (c ∷ d ∷ []) =
+    move_line (Some clock) (below script.nodes (Some node)) (step_said script c d)
 step_line script clock node words = Bad
 
 -- the first of these words is this number, and further ones follow, which these bytes have; or that isn't so
@@ -144,7 +145,8 @@ BeginsWithNumber [] found = Unit {0}
 BeginsWithNumber (word ∷ []) None = Unit {0}
 BeginsWithNumber (word ∷ []) (Some found) = ⊥
 BeginsWithNumber (word ∷ next ∷ later) None = exact_number word ≡ None
-BeginsWithNumber (word ∷ next ∷ later) (Some found) = (exact_number word ≡ Some found.0) × (fields found.1.now ≡ next ∷ later)
+BeginsWithNumber (word ∷ next ∷ later) (Some found) =
+    (exact_number word ≡ Some found.0) × (fields found.1.now ≡ next ∷ later)
 
 -- `drop CLIENT CLIENT SET COUNT`
 abbrev pub drop_line : Option ℕ → Option ℕ → Option ℕ → Option ℕ → Line

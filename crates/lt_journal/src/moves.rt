@@ -2,7 +2,7 @@
 ghost use Rattle.std.specs.Prelude.{◌≡◌, ◌∷◌, codes, IfSome, unwrap_or};
 ghost use Rattle.lt_text.specs.Text.{fields};
 ghost use Rattle.lt_journal.specs.declared.line.Line.TheVariants.{Bad};
-ghost use Rattle.lt_journal.specs.Grammar.{move_of, step_line, BeginsWithNumber};
+ghost use Rattle.lt_journal.specs.Grammar.{move_told, step_line, BeginsWithNumber};
 
 use crate::line::Line;
 use crate::meaning::step;
@@ -22,7 +22,7 @@ pub(crate) fn after_move(line: &[u8]) -> Option<&[u8]>
 
 /// What a line says that has these words after the word `move`; none of a line that has none of the forms.
 pub(crate) fn move_line(script: &Script, words: &[u8]) -> Option<Line>
-    ensures { unwrap_or result Bad ≡ move_of script.now (fields words.now) }
+    ensures { unwrap_or result Bad ≡ move_told script.now (fields words.now) }
 {
     let (clock, rest) = number_field(words)?;
     let (node, rest) = number_field(rest)?;

@@ -99,7 +99,8 @@ OfPromised fact = (script : ScriptData) (run : List Logged) → Promised script 
 
 -- a fact of the first entries
 abbrev pub OfPromisedMoves : (ScriptData → List Logged → Type 0) → Type 0
-OfPromisedMoves fact = (script : ScriptData) (run : List Logged) → Promised script run → (k : ℕ) → fact script (take k run)
+OfPromisedMoves fact =
+    (script : ScriptData) (run : List Logged) → Promised script run → (k : ℕ) → fact script (take k run)
 
 pub record PromisedOpens : Type 0 where
   -- in each set a client has an open `wait` line exactly where an unanswered ask of it wants the mode

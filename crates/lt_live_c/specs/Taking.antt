@@ -9,14 +9,14 @@ use Rattle.lt_live_c.specs.declared.content.Content.{Content}
 use Rattle.lt_live_c.specs.declared.content.Content.TheVariants as contents
 use Rattle.lt_live_c.specs.declared.service.Service.{Service}
 
-abbrev pub is_service : Content → Bool
-is_service (contents.Service s) = true
-is_service other = false
+abbrev pub stands_for_service : Content → Bool
+stands_for_service (contents.Service s) = true
+stands_for_service other = false
 
 -- the handle stands for something, which is no service
 abbrev pub IsOfOther : Option Content → Type 0
 IsOfOther None = ⊥
-IsOfOther (Some content) = is_service content ≡ false
+IsOfOther (Some content) = stands_for_service content ≡ false
 
 -- a service has all the stations and all the sessions of one `open`, in order
 abbrev pub IsWholeService : Content → Type 0
@@ -102,12 +102,12 @@ HasNoSession other = ⊥
 -- why none was taken
 pub record NoStation (code : ℕ) (a : Content) : Type 0 where
   pub nothing : code ≡ NOTHING → HasNoStation a
-  pub wrong : code ≡ WRONG_HANDLE → is_service a ≡ false
+  pub wrong : code ≡ WRONG_HANDLE → stands_for_service a ≡ false
   pub only : (code ≡ NOTHING) ⊎ ((code ≡ WRONG_HANDLE) ⊎ (code ≡ NO_MEMORY))
 
 pub record NoSession (code : ℕ) (a : Content) : Type 0 where
   pub nothing : code ≡ NOTHING → HasNoSession a
-  pub wrong : code ≡ WRONG_HANDLE → is_service a ≡ false
+  pub wrong : code ≡ WRONG_HANDLE → stands_for_service a ≡ false
   pub only : (code ≡ NOTHING) ⊎ ((code ≡ WRONG_HANDLE) ⊎ (code ≡ NO_MEMORY))
 
 abbrev pub StationRefused : ℕ → Content → Content → Type 0
@@ -158,7 +158,7 @@ HandleKeeps a b = BothStand KeepsAll a b
 
 -- it is no station and no session, or goes to what is no service
 abbrev pub IsNoGift : Content → Content → Type 0
-IsNoGift x a = (is_end x ≡ false) ⊎ (is_service a ≡ false)
+IsNoGift x a = (is_end x ≡ false) ⊎ (stands_for_service a ≡ false)
 
 -- why it was not given
 pub record NotGiven (code : ℕ) (x a : Content) : Type 0 where

@@ -9,7 +9,7 @@ use crate::content::Content;
 use crate::handle::Handle;
 use crate::journal::Journal;
 use crate::service::Service;
-use crate::taking::{give_back, is_service, journal_of, next_session, next_station};
+use crate::taking::{give_back, journal_of, next_session, next_station, stands_for_service};
 use std::alloc::Global;
 use std::mem::replace;
 
@@ -124,7 +124,7 @@ pub extern "C" fn lockrun_finish(alloc: Global, service: &mut Handle, journal: &
     ensures refused { result ≢ OK → FinishRefused result }
 {
     let mut room = take(alloc, service);
-    if !is_service(&room) {
+    if !stands_for_service(&room) {
         *service = Handle::of(room);
         return WRONG_HANDLE;
     }

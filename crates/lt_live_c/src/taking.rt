@@ -1,6 +1,6 @@
 // What the calls on services do with what a handle stands for.
 ghost use Rattle.std.specs.Prelude.{◌≡◌, true, IfOk, IfErr, OnOk};
-ghost use Rattle.lt_live_c.specs.Taking.{IsWholeService, is_service, TakesStation, TakesSession, StationRefused, SessionRefused, GivesTheOther, GiveRefused, GivesTo, GiveRefusedBy};
+ghost use Rattle.lt_live_c.specs.Taking.{IsWholeService, stands_for_service, TakesStation, TakesSession, StationRefused, SessionRefused, GivesTheOther, GiveRefused, GivesTo, GiveRefusedBy};
 ghost use Rattle.lt_live_c.specs.Journals.{JournalIsOf};
 
 use crate::code::{NO_MEMORY, NOTHING, WRONG_HANDLE};
@@ -65,15 +65,15 @@ fn give_to(service: &mut Service, given: Content) -> Result<(), (u32, Content)>
     }
 }
 
-pub fn is_service(content: &Content) -> bool
-    ensures { result ≡ is_service content.now }
+pub fn stands_for_service(content: &Content) -> bool
+    ensures { result ≡ stands_for_service content.now }
 {
     matches!(content, Content::Service(_))
 }
 
 /// The journal of the service's run.
 pub fn journal_of(alloc: Global, content: Content) -> Result<Content, AllocError>
-    requires service { is_service content ≡ true }
+    requires service { stands_for_service content ≡ true }
     requires whole { IsWholeService content }
     ensures { IfOk result (λ journal. JournalIsOf content journal) }
 {

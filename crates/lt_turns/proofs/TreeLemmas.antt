@@ -3,7 +3,7 @@ use Rattle.std.proofs.Common.{◌≡◌, ℕ, zero, suc, ◌+◌, ◌-◌, ◌*�
 use Rattle.std.proofs.lemmas.List.{get_or_past}
 use Rattle.std.proofs.lemmas.List.Sums.{sum_by-cons}
 use Rattle.std.proofs.lemmas.Bool.{cases_eq, cases_lt, ne_eqb, and_parts, and_from, false≢true}
-use Rattle.lt_turns.specs.Turns.{number_at, IsFirst, IsAfter, IsNext, rank_of, player_of, rank_at, AreLeast, IsLeaf, IsFirstAfter, nearest, IsTree}
+use Rattle.lt_turns.specs.Turns.{number_at, IsFirst, IsAfter, IsNext, rank_of, player_of, rank_at, AreLeast, IsLeaf, IsFirstAfter, nearest_leaf, IsTree}
 
 -- the root's rank is the least of all
 least_of : (ranks : List ℕ) → AreLeast ranks → length ranks % 2 ≡ 0 → (fuel node : ℕ) → node ≤ fuel → 0 < node → node < length ranks
@@ -209,7 +209,7 @@ is_next numbers ranks count player first tree inside h = elim h.either [
 
 -- with one leaf more
 pub leaf_more : (ranks : List ℕ) (here leaf first next : ℕ) → IsFirstAfter ranks here leaf first → length ranks ≤ 2 * leaf
-    → next ≡ nearest here first (rank_at ranks leaf) → IsFirstAfter ranks here (leaf + 1) next
+    → next ≡ nearest_leaf here first (rank_at ranks leaf) → IsFirstAfter ranks here (leaf + 1) next
 leaf_more ranks here leaf first next h is_leaf e = by_test (nat_lt here (rank_at ranks leaf) && nat_lt (rank_at ranks leaf) first) refl e
   where
     by_test : (t : Bool) → nat_lt here (rank_at ranks leaf) && nat_lt (rank_at ranks leaf) first ≡ t → next ≡ (if t then rank_at ranks leaf else first)

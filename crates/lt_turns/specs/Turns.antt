@@ -48,24 +48,25 @@ abbrev pub rank_at : List ℕ → ℕ → ℕ
 rank_at ranks node = slice_index_or ranks node 0
 
 -- the node has the least rank of the two nodes below it
-abbrev pub IsLeast : List ℕ → ℕ → Type 0
-IsLeast ranks node = rank_at ranks node ≡ min (rank_at ranks (2 * node)) (rank_at ranks (2 * node + 1))
+abbrev pub IsLeastRank : List ℕ → ℕ → Type 0
+IsLeastRank ranks node = rank_at ranks node ≡ min (rank_at ranks (2 * node)) (rank_at ranks (2 * node + 1))
 
 -- so it is at each node that isn't a leaf
 abbrev pub AreLeast : List ℕ → Type 0
-AreLeast ranks = (node : ℕ) → 0 < node → 2 * node + 1 < length ranks → IsLeast ranks node
+AreLeast ranks = (node : ℕ) → 0 < node → 2 * node + 1 < length ranks → IsLeastRank ranks node
 
 -- and at each but this one
 abbrev pub AreLeastBut : List ℕ → ℕ → Type 0
-AreLeastBut ranks but = (node : ℕ) → 0 < node → 2 * node + 1 < length ranks → node ≢ but → IsLeast ranks node
+AreLeastBut ranks but = (node : ℕ) → 0 < node → 2 * node + 1 < length ranks → node ≢ but → IsLeastRank ranks node
 
 -- the leaves have the ranks that they had, but this one the rank that is given
 abbrev pub AreLeaves : List ℕ → ℕ → ℕ → List ℕ → Type 0
-AreLeaves old leaf rank new = (node : ℕ) → length old ≤ 2 * node → rank_at new node ≡ rank_at (slice_set old leaf rank) node
+AreLeaves old leaf rank new =
+    (node : ℕ) → length old ≤ 2 * node → rank_at new node ≡ rank_at (slice_set old leaf rank) node
 
 -- the second rank where it lies between the other two, else the first one
-abbrev pub nearest : ℕ → ℕ → ℕ → ℕ
-nearest here first second = if nat_lt here second && nat_lt second first then second else first
+abbrev pub nearest_leaf : ℕ → ℕ → ℕ → ℕ
+nearest_leaf here first second = if nat_lt here second && nat_lt second first then second else first
 
 -- a leaf before the end, whose rank is this one
 pub record IsLeaf (ranks : List ℕ) (end rank : ℕ) : Type 0 where

@@ -1,5 +1,5 @@
 ghost use Rattle.std.specs.Prelude.{◌≡◌, ◌<◌, ◌≤◌, ◌*◌, ◌%◌, length};
-ghost use Rattle.lt_turns.specs.Turns.{rank_of, player_of, AreLeast, AreLeaves, IsFirstAfter, nearest};
+ghost use Rattle.lt_turns.specs.Turns.{rank_of, player_of, AreLeast, AreLeaves, IsFirstAfter, nearest_leaf};
 
 /// The rank where there is no turn: the greatest one.
 pub(crate) const NO_TURN: u64 = 1 << 48;
@@ -24,8 +24,8 @@ pub(crate) fn player_of(rank: u64) -> Option<u16>
     Some((rank % 65536) as u16)
 }
 
-/// Gives the leaf this rank, and goes up from there to find the least rank of each node anew, until it is the one that the
-/// node had.
+/// Gives the leaf this rank, and goes up from there to find the least rank of each node anew, until it is the one that
+/// the node had.
 pub(crate) fn update(ranks: &mut [u64], leaf: usize, rank: u64)
     requires even { length ranks.old % 2 ≡ 0 }
     requires leaf { length ranks.old ≤ 2 * leaf }
@@ -54,14 +54,14 @@ pub(crate) fn first_after(ranks: &[u64], here: u64) -> u64
 {
     let mut first = NO_TURN;
     for leaf in ranks.len() / 2..ranks.len() {
-        first = nearest(here, first, ranks[leaf]);
+        first = nearest_leaf(here, first, ranks[leaf]);
     }
     first
 }
 
 // The second rank where it lies between the other two, else the first one.
-fn nearest(here: u64, first: u64, second: u64) -> u64
-    ensures { result ≡ nearest here first second }
+fn nearest_leaf(here: u64, first: u64, second: u64) -> u64
+    ensures { result ≡ nearest_leaf here first second }
 {
     if here < second && second < first {
         second

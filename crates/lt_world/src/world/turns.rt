@@ -60,7 +60,8 @@ fn note_named(turns: &mut Turns, script: &Script, network: &Network, step: Step)
 fn note_line(turns: &mut Turns, script: &Script, network: &Network, step: Step, line: &Event)
     requires holds { IsAfterRun script.now network.now }
     requires count { length turns.old ≡ length script.now.clients }
-    ensures { turns.new ≡ with_turn script.now (world_in script.now network.now) (other_named step (line_client line.now)) turns.old }
+    ensures { turns.new ≡ with_turn script.now (world_in script.now network.now)
+        (other_named step (line_client line.now)) turns.old }
 {
     if let Some(client) = client_of(line) {
         if !is_act_of(step, client) {
