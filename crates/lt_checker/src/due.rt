@@ -6,8 +6,7 @@ ghost use Rattle.lt_modes.specs.Script.{ScriptData};
 ghost use Rattle.lt_spec.specs.Script.{IsScript};
 ghost use Rattle.lt_checker.specs.Due.{last_events, due_lines};
 
-use crate::wording::{Wording, event_line};
-use lt_journal::{Line, Text, closing_lines, shown_event, write_words};
+use lt_journal::{Line, Text, Wording, closing_lines, event_line, shown_event, write_words};
 use lt_merge::Run;
 use lt_modes::Event;
 use lt_script::Script;

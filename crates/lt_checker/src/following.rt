@@ -4,8 +4,7 @@ ghost use Rattle.lt_checker.specs.Checker.{IsPlace, LedTo};
 ghost use Rattle.lt_checker.specs.Due.{due_lines};
 
 use crate::due::{Due, is_event_line, is_line, last_event, push_closing};
-use crate::wording::Wording;
-use lt_journal::{Line, read_line};
+use lt_journal::{Line, Wording, read_line};
 use lt_world::{Choice, World};
 use std::alloc::{AllocError, Global};
 

@@ -12,7 +12,6 @@ mod limits;
 mod reader;
 mod replaying;
 mod rest;
-mod wording;
 
 pub use checker::Checker;
 pub use error::{InputError, ReplayError};
