@@ -23,7 +23,7 @@ loop-place-preserved g c = record {
     | then-ask_at w ↦
         more_over g.C.Caller.says c.loop-place.place c.loop-place.desks.items c.ask_at.new.desks.items c.ask_at.ensures.asked
         (c.ask_at.ensures.over w.if-ask_at.true) (c.loop-place.invariant.over (sym w.over-is ∙ is))
-    | else-ask_at w ↦ absurd (true≢false (sym is ∙ w.over-is))
+    | else-ask_at w ↦ absurd (true≢false (sym is ∙ w.over-is ∙ w.if-ask_at.false))
   ];
 }
 

@@ -14,7 +14,8 @@ join-requires-clause-few c =
     c.requires.live c.settle_all.ensures (c.deref.ensures.value ∙ c.take_runners-runners.ensures)
 
 pub move_on-requires : goal.move_on-requires
-move_on-requires c = c.in_ok-script.ensures.crew
+move_on-requires c =
+    (subst (λ (rs : List Parts). IsJoined rs c.in_ok-script.script) c.deref.ensures.value c.in_ok-script.ensures).crew
 
 pub returns-clause-served : goal.returns-clause-served
 returns-clause-served c =
