@@ -16,7 +16,7 @@ use Rattle.lt_live.proofs.SeatLists.{alike_before, alike_self, alike_weaker}
 use Rattle.lt_live.proofs.LiveShares.{goes_join}
 use Rattle.lt_live.proofs.Settling.{station_itself}
 use Rattle.lt_live_callers.specs.declared.desk.Desk.{Desk}
-use Rattle.lt_live_callers.specs.Desks.{session_of, DeskGoesOn, DesksGoOn, OneTurn, Passed, MakesTurns, StationsGoOn}
+use Rattle.lt_live_callers.specs.Desks.{session_of, DeskGoesOn, DesksGoOn, WentByTurns, MakesTurns, StationsGoOn}
 use Rattle.lt_live_callers.specs.Served.{AreServing}
 use Rattle.lt_live_callers.proofs.Places.{each_then, mapped_at}
 use Rattle.lt_live_callers.proofs.Steps.{desk_itself, desk_join, calls_go_on}
@@ -29,15 +29,15 @@ station_join a b c first second = record {
   seated = λ s seated. second.seated s (first.seated s seated);
 }
 
-passed_goes : (a b : StationData) (left : List StationData) → Passed a left b → StationGoesOn a b
+passed_goes : (a b : StationData) (left : List StationData) → WentByTurns a left b → StationGoesOn a b
 passed_goes a b [] p = subst (λ (s : StationData). StationGoesOn a s) (sym p) (station_itself a)
 passed_goes a b (s ∷ rest) p = station_join a s b p.0.goes (passed_goes s b rest p.1)
 
 pub turns_go : (n : ℕ) (a b : StationData) → MakesTurns n a b → StationGoesOn a b
 turns_go n a b h = passed_goes a b h.left h.passed
 
-passed_on : (a b c : StationData) (xs ys : List StationData) → Passed a xs b → Passed b ys c → Passed a (xs ++ ys) c
-passed_on a b c [] ys first second = subst (λ (s : StationData). Passed s ys c) first second
+passed_on : (a b c : StationData) (xs ys : List StationData) → WentByTurns a xs b → WentByTurns b ys c → WentByTurns a (xs ++ ys) c
+passed_on a b c [] ys first second = subst (λ (s : StationData). WentByTurns s ys c) first second
 passed_on a b c (x ∷ xs) ys first second = (first.0, passed_on x b c xs ys first.1 second)
 
 pub no_turns : (a : StationData) → MakesTurns 0 a a

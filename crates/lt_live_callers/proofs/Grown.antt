@@ -1,19 +1,17 @@
 -- The run that stations made with all moves that were left.
-use Rattle.std.proofs.Common.{◌≡◌, ◌++◌, ℕ, zero, suc, List, [], ◌∷◌, map, filter, Option, Some, None, refl, sym, ap, subst, ◌∙◌, arith, slice_get, option_map, append_assoc}
+use Rattle.std.proofs.Common.{◌≡◌, ◌++◌, ℕ, zero, suc, List, [], ◌∷◌, map, Some, refl, sym, ap, subst, ◌∙◌, slice_get, option_map, append_assoc}
 use Rattle.std.proofs.lemmas.Grind.{flat_map-append}
 use Rattle.std.proofs.lemmas.List.Elements.{filter_map-append}
 use Rattle.std.proofs.lemmas.Option.{slice_get-map}
 use mathlib.Core.List.{IsPrefix}
 use Rattle.lt_modes.specs.Script.{ScriptData}
 use Rattle.lt_modes.specs.declared.command.Command.{Command}
-use Rattle.lt_modes.specs.declared.event.Event.{Event}
 use Rattle.lt_spec.specs.declared.ending.Ending.{Ending}
 use Rattle.lt_spec.specs.declared.ending.Ending.TheVariants as endings
 use Rattle.lt_spec.specs.NodeMove.{commands_of, home, with_commands, AreAt}
 use Rattle.lt_spec.specs.Holdings.{lines_of}
-use Rattle.lt_spec.specs.World.{Logged, is_of_node, world_after}
+use Rattle.lt_spec.specs.World.{Logged, world_after}
 use Rattle.lt_law_merged.specs.States.{RestIsNoMove}
-use Rattle.lt_mail.specs.Words.{Alike}
 use Rattle.lt_merge.specs.Merging.{RunData, Merges}
 use Rattle.lt_runner.specs.declared.parts.Parts.{Parts}
 use Rattle.lt_runner.specs.Kept.{Grew}
@@ -22,12 +20,11 @@ use Rattle.lt_threads.specs.Pushes.{HasLimit, MovedOn, CrewEnds}
 use Rattle.lt_threads.specs.Threads.{IsThreadRun}
 use Rattle.lt_threads.proofs.Each.{each_before}
 use Rattle.lt_threads.proofs.Ends.{made_run}
-use Rattle.lt_live.specs.declared.reply.Reply.{Reply}
 use Rattle.lt_live.specs.declared.ends.Session.{Session}
 use Rattle.lt_live.specs.Words.{submitted, polled, SameSession}
-use Rattle.lt_live.specs.Seats.{replies_in, reply_to, IsServedSession}
+use Rattle.lt_live.specs.Seats.{replies_in, reply_to}
 use Rattle.lt_live.specs.Stations.{StationData, runner_of}
-use Rattle.lt_live.specs.Live.{AreLive, GoesOn, StationGoesOn, EachStation, LiveLasts, SaysSame, ServedBy, Settled, IsServedRun}
+use Rattle.lt_live.specs.Live.{AreLive, GoesOn, StationGoesOn, EachStation, LiveLasts, ServedBy, Settled, IsServedRun}
 use Rattle.lt_live.proofs.Finished.{AllSettled, served_run}
 use Rattle.lt_live.proofs.SeatLists.{alike_after, alike_self}
 use Rattle.lt_live.proofs.Settling.{session_itself}

@@ -68,13 +68,15 @@ module _ {C : Type 0} where
     each = λ client d here.
         let new = (opened.each client d.session (session_there callers sessions desks client d are here)).0 in
         subst (λ (o : Option C). CallsIn goes 0 o d.session (Some (called_of d)))
-        (sym (slice_get-map caller_of desks client ∙ ap (option_map caller_of) here) ∙ ap (λ (xs : List C). slice_get xs client) are.seated)
-        (record {
-          steps = [];
-          went = refl;
-          told = new.replies.0;
-          asked = ap (λ (o : Option Command). submitted d.session ++ command_held o) (free_at desks client d here are.free) ∙ append-nil (submitted d.session) ∙ new.commands;
-        }, no_steps 0 d.refused [] (free_at desks client d here are.free) refl);
+        (sym (slice_get-map caller_of desks client ∙ ap (option_map caller_of) here) ∙ ap (λ (xs : List C). slice_get xs client) are.seated) (
+          record {
+            steps = [];
+            went = refl;
+            told = new.replies.0;
+            asked = ap (λ (o : Option Command). submitted d.session ++ command_held o) (free_at desks client d here are.free) ∙ append-nil (submitted d.session) ∙ new.commands;
+          },
+          no_steps 0 d.refused [] (free_at desks client d here are.free) refl,
+        );
     roomy = λ client d here.
         let there = session_there callers sessions desks client d are here in
         let new = (opened.each client d.session there).0 in

@@ -107,14 +107,14 @@ pub record OneTurn (a b : StationData) : Type 0 where
   pub goes : StationGoesOn a b
 
 -- the second station is what turns made of the first, and these are what each of them left
-abbrev pub Passed : StationData → List StationData → StationData → Type 0
-Passed a [] b = b ≡ a
-Passed a (s ∷ rest) b = OneTurn a s × Passed s rest b
+abbrev pub WentByTurns : StationData → List StationData → StationData → Type 0
+WentByTurns a [] b = b ≡ a
+WentByTurns a (s ∷ rest) b = OneTurn a s × WentByTurns s rest b
 
 -- so many turns, or more
 pub record MakesTurns (n : ℕ) (a b : StationData) : Type 0 where
   pub left : List StationData
-  pub passed : Passed a left b
+  pub passed : WentByTurns a left b
   pub many : n ≤ length left
 
 -- the stations at the same places did

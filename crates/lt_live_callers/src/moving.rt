@@ -78,11 +78,7 @@ fn push(runner: &mut Runner) -> Turned
 }
 
 // How moves that ended so end the run.
-fn end_of(
-    script: &Script,
-    runners: &mut Vec<Runner>,
-    ended: Ended,
-) -> Result<Ending, AllocError>
+fn end_of(script: &Script, runners: &mut Vec<Runner>, ended: Ended) -> Result<Ending, AllocError>
     requires crew { IsCrew script.now runners.old.items }
     requires ended { RoundsEnd ended script.now runners.old.items }
     ensures crew { IsCrew script.now runners.new.items }

@@ -72,9 +72,12 @@ fn work_once<R: Threads + Sync, C: Caller + Send>(
 fn call_all<R: Threads + Sync, C: Caller + Send>(rt: &R, desks: &mut Vec<Desk<C>>, threads: usize)
     ensures { DesksGoOn C.goes TIMES_A_ROUND desks.old.items desks.new.items }
 {
-    for_each_mut(rt, desks, threads.max(1), &|_, desk| {
-        desk.call(TIMES_A_ROUND)
-    });
+    for_each_mut(
+        rt,
+        desks,
+        threads.max(1),
+        &|_, desk| { desk.call(TIMES_A_ROUND) },
+    );
 }
 
 fn turn_all<R: Threads + Sync>(rt: &R, stations: &mut Vec<Station>, threads: usize)
