@@ -22,6 +22,7 @@ use Rattle.lt_live.specs.Seats.{IsServedSession, replies_in}
 use Rattle.lt_live.specs.Words.{submitted}
 use Rattle.lt_live_callers.specs.declared.served.Called.{Called}
 use Rattle.lt_live_callers.specs.declared.served.Served.{Served}
+use Rattle.lt_live_callers.specs.Refused.{MayCommand}
 use Rattle.lt_live_callers.specs.Served.{IsServedBy, CallsAt}
 use Rattle.lt_law_pinned.specs.LiveCalls.{one_lock, one_lock_script, two_moves}
 use Rattle.lt_law_pinned.specs.CallerCalls.{CallersTextsAre, CallersEndsTold, CallerTold, CallersTold}
@@ -73,11 +74,13 @@ some_at (s ∷ rest) (suc k) below = some_at rest k (omega (arith, below))
 
 module _ {C : Type 0} (goes : C → Option Reply → Option Command → C → Type 0) where
   -- the caller at this place, with its session
-  at_place : (script : ScriptData) (run : List Logged) (client : ℕ) (s : Session)
-      (caller : C) (place : Option (Called C)) → IsServedSession (commands_in script client) (lines_of run) client s → CallsAt goes (Some caller) s place
-      → (after : Called C) × (place ≡ Some after) × CallerTold goes script run client caller after
-  at_place script run client s caller None served calls = absurd calls
-  at_place script run client s caller (Some after) served calls = (
+  at_place : (first script : ScriptData) (run : List Logged) (client : ℕ) (s : Session)
+      (caller : C) (place : Option (Called C)) → IsServedSession (commands_in script client) (lines_of run) client s
+      → CallsAt goes (Some caller) s place
+      → ((called : Called C) → place ≡ Some called → (command : Command) → called.refused ≡ Some command → ¬ MayCommand first client s command)
+      → (after : Called C) × (place ≡ Some after) × CallerTold goes first script run client caller after
+  at_place first script run client s caller None served calls barred = absurd calls
+  at_place first script run client s caller (Some after) served calls barred = (
     after,
     refl,
     record {
@@ -89,6 +92,7 @@ module _ {C : Type 0} (goes : C → Option Reply → Option Command → C → Ty
       given = submitted s;
       asked = calls.asked;
       begins = served.commands;
+      refused = λ command is few names. barred after refl command is (record { left = few; names = names });
     },
   )
 
@@ -96,11 +100,12 @@ module _ {C : Type 0} (goes : C → Option Reply → Option Command → C → Ty
       → (client : ℕ) (caller : C) → client < length first.clients
       → (s : Session) → slice_get h.sessions client ≡ Some s → slice_get callers client ≡ Some caller
       → (after : Called C) × (slice_get served.callers.items client ≡ Some after)
-      × CallerTold goes served.script served.run.entries client caller after
+      × CallerTold goes first served.script served.run.entries client caller after
   each_told first callers served h client caller below s here is =
       let after = slice_get served.callers.items client in
-      at_place served.script served.run.entries client s caller after (h.serves.each client s here)
+      at_place first served.script served.run.entries client s caller after (h.serves.each client s here)
       (subst (λ (place : Option C). CallsAt goes place s after) is (h.each client s here))
+      (λ called there. h.refused client s called here there)
 
   pub callers_told : CallersTold goes
   callers_told = record {

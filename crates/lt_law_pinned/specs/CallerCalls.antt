@@ -12,12 +12,14 @@ use Rattle.lt_spec.specs.World.{Logged, IsRun}
 use Rattle.lt_merge.specs.Merging.{AreRising}
 use Rattle.lt_live.specs.declared.reply.Reply.{Reply}
 use Rattle.lt_live.specs.Seats.{replies_in}
+use Rattle.lt_live.specs.Stations.{equal_share}
 use Rattle.lt_live.specs.Words.{command_held}
 use Rattle.lt_live_callers.specs.declared.ending.LiveEnding.TheVariants.{Done, Stuck, Unfinished}
 use Rattle.lt_live_callers.specs.declared.error.CallersError.TheVariants.{Count, Limit, NoMemory}
 use Rattle.lt_live_callers.specs.declared.served.Called.{Called}
 use Rattle.lt_live_callers.specs.declared.served.Served.{Served}
 use Rattle.lt_live_callers.specs.Desks.{StepOf, Went, replies_of, commands_of}
+use Rattle.lt_live_callers.specs.Refused.{NamesOwn}
 use Rattle.lt_live_callers.specs.Served.{CallersEndSo, IsServedBy, with_journal}
 use Rattle.lt_live_callers.specs.Texts.{error_text}
 use Rattle.lt_law_pinned.specs.LiveCalls.{one_lock, one_lock_script, two_moves}
@@ -50,15 +52,18 @@ pub record CallersEndsTold : Type 0 where
 
 module _ {C : Type 0} (goes : C → Option Reply → Option Command → C → Type 0) where
   -- the caller made steps; in them it was told a first part of the client's replies in the run, and what it answered
-  -- but for what was refused begins with the client's commands in the script
-  pub record CallerTold (script : ScriptData) (run : List Logged) (client : ℕ) (first : C) (after : Called C)
+  -- but for what was refused begins with the client's commands in the script. A command is refused only if it is one too
+  -- many, or names what it may not
+  pub record CallerTold (first script : ScriptData) (run : List Logged) (client : ℕ) (caller : C) (after : Called C)
       : Type 0 where
     pub steps : List (StepOf C)
-    pub went : Went goes first steps after.caller
+    pub went : Went goes caller steps after.caller
     pub told : IsPrefix (replies_of steps) (replies_in client (lines_of run))
     pub given : List Command
     pub asked : given ++ command_held after.refused ≡ commands_of steps
     pub begins : IsPrefix (commands_in script client) given
+    pub refused : (command : Command) → after.refused ≡ Some command → length given < equal_share first
+        → NamesOwn first client command → ⊥
 
   -- a fact of all that callers are given back who were served so
   abbrev pub OfServed : (ScriptData → List C → Served C → Type 0) → Type 0
@@ -76,4 +81,4 @@ module _ {C : Type 0} (goes : C → Option Reply → Option Command → C → Ty
     pub each : OfServed (λ first callers served.
         (client : ℕ) (caller : C) → client < length first.clients → slice_get callers client ≡ Some caller
         → (after : Called C) × (slice_get served.callers.items client ≡ Some after)
-        × CallerTold served.script served.run.entries client caller after)
+        × CallerTold first served.script served.run.entries client caller after)

@@ -1,4 +1,6 @@
+pub mod Places
 pub mod Steps
+pub mod Asked
 pub mod GoingOn
 pub mod Made
-pub mod Ended
+pub mod Grown

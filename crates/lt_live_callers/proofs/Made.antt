@@ -1,6 +1,6 @@
 -- Desks are made, and what callers made at them.
-use Rattle.std.proofs.Common.{◌≡◌, ℕ, zero, suc, List, [], ◌∷◌, ◌++◌, ◌<◌, ◌≤◌, length, map, Option, Some, None, refl, sym, ap, subst, ◌∙◌, rules, arith, slice_get, slice_index_or, remove, option_map, append-nil}
-use Rattle.std.proofs.lemmas.Option.{same_Some, slice_get-get_or, slice_get-map, slice_get_within}
+use Rattle.std.proofs.Common.{◌≡◌, ℕ, zero, suc, Bool, List, [], ◌∷◌, ◌++◌, ◌<◌, ◌≤◌, length, map, Option, Some, None, refl, sym, ap, subst, ◌∙◌, rules, arith, slice_get, slice_index_or, remove, option_map, append-nil}
+use Rattle.std.proofs.lemmas.Option.{same_Some, slice_get-map, slice_get_within}
 use Rattle.lt_modes.specs.declared.command.Command.{Command}
 use Rattle.lt_modes.specs.Script.{ScriptData}
 use Rattle.lt_live.specs.declared.reply.Reply.{Reply}
@@ -12,8 +12,10 @@ use Rattle.lt_live_callers.specs.declared.desk.Desk.{Desk}
 use Rattle.lt_live_callers.specs.declared.served.Called.{Called}
 use Rattle.lt_live_callers.specs.declared.served.Served.{Served}
 use Rattle.lt_live_callers.specs.Refused.{NamesOwn, CanSubmit, MayCommand}
-use Rattle.lt_live_callers.specs.Desks.{caller_of, called_of, session_of}
-use Rattle.lt_live_callers.specs.Served.{CallsAt, NoneRefused, AreDesks, AreServing, AreEnded, IsServedBy}
+use Rattle.lt_live_callers.specs.Desks.{caller_of, called_of, session_of, StationsGoOn}
+use Rattle.lt_live_callers.specs.Over.{MadeRounds}
+use Rattle.lt_live_callers.specs.Served.{CallsIn, NoneRefused, AreDesks, AreServing, AreEnded, IsServedBy, IsServedIn, WereOpened, AreServed}
+use Rattle.lt_live_callers.proofs.Steps.{no_steps}
 
 -- of a session whose ring has a place for each command of its share, a command that has no room might not be submitted
 barred : (script : ScriptData) (stations : List StationData) (client : ℕ) (s : Session) → IsSessionOf script stations client s → s.share ≤ places s
@@ -58,19 +60,23 @@ module _ {C : Type 0} where
   -- nobody has called yet
   pub begun : (goes : C → Option Reply → Option Command → C → Type 0) → OpenedAreLive → (script : ScriptData) (limit capacity : ℕ) (stations : List StationData)
       (sessions : List Session) (callers : List C) (desks : List (Desk C)) → script.commands ≡ [] → IsOpen script limit capacity stations sessions
-      → (0 < length script.clients → capacity ≡ equal_share script) → AreDesks callers sessions desks → AreServing goes script callers stations desks
+      → (0 < length script.clients → capacity ≡ equal_share script) → AreDesks callers sessions desks
+      → AreServing goes 0 script limit callers stations desks
   begun goes opened_live script limit capacity stations sessions callers desks empty opened share are = record {
+    limits = opened.runners.limits;
     live = subst (λ (all : List Session). AreLive script stations all) (sym are.given) (opened_live script limit capacity stations sessions empty opened);
     each = λ client d here.
         let new = (opened.each client d.session (session_there callers sessions desks client d are here)).0 in
-        subst (λ (o : Option C). CallsAt goes o d.session (Some (called_of d)))
-        (sym (slice_get-map caller_of desks client ∙ ap (option_map caller_of) here) ∙ ap (λ (xs : List C). slice_get xs client) are.seated)
-        (record {
-          steps = [];
-          went = refl;
-          told = new.replies.0;
-          asked = ap (λ (o : Option Command). submitted d.session ++ command_held o) (free_at desks client d here are.free) ∙ append-nil (submitted d.session) ∙ new.commands;
-        });
+        subst (λ (o : Option C). CallsIn goes 0 o d.session (Some (called_of d)))
+        (sym (slice_get-map caller_of desks client ∙ ap (option_map caller_of) here) ∙ ap (λ (xs : List C). slice_get xs client) are.seated) (
+          record {
+            steps = [];
+            went = refl;
+            told = new.replies.0;
+            asked = ap (λ (o : Option Command). submitted d.session ++ command_held o) (free_at desks client d here are.free) ∙ append-nil (submitted d.session) ∙ new.commands;
+          },
+          no_steps 0 d.refused [] (free_at desks client d here are.free) refl,
+        );
     roomy = λ client d here.
         let there = session_there callers sessions desks client d are here in
         let new = (opened.each client d.session there).0 in
@@ -81,16 +87,17 @@ module _ {C : Type 0} where
         absurd (cc);
   }
 
-  module _ (goes : C → Option Reply → Option Command → C → Type 0) (script : ScriptData) (callers : List C) (stations : List StationData)
-      (desks : List (Desk C)) (served : Served C) (serving : AreServing goes script callers stations desks) (ended : AreEnded script desks served) where
+  module _ (goes : C → Option Reply → Option Command → C → Type 0) (n : ℕ) (script : ScriptData) (limit : ℕ) (callers : List C) (stations : List StationData)
+      (desks : List (Desk C)) (served : Served C) (serving : AreServing goes n script limit callers stations desks)
+      (ended : AreEnded script limit stations desks served) where
     called_there : (client : ℕ) → slice_get served.callers.items client ≡ option_map called_of (slice_get desks client)
     called_there client = sym (ap (λ (xs : List (Called C)). slice_get xs client) ended.callers) ∙ slice_get-map called_of desks client
 
     calls_there : (client : ℕ) (s : Session) (o : Option (Desk C)) → slice_get desks client ≡ o → option_map session_of o ≡ Some s
-        → CallsAt goes (slice_get callers client) s (option_map called_of o)
+        → CallsIn goes n (slice_get callers client) s (option_map called_of o)
     calls_there client s None e is = absurd (cc)
     calls_there client s (Some d) e is =
-        subst (λ (t : Session). CallsAt goes (slice_get callers client) t (Some (called_of d))) (same_Some d.session s is) (serving.each client d e)
+        subst (λ (t : Session). CallsIn goes n (slice_get callers client) t (Some (called_of d))) (same_Some d.session s is) (serving.each client d e)
 
     refused_there : (client : ℕ) (s : Session) (called : Called C) (o : Option (Desk C)) → slice_get desks client ≡ o → option_map session_of o ≡ Some s
         → option_map called_of o ≡ Some called → (command : Command) → called.refused ≡ Some command → ¬ MayCommand script client s command
@@ -101,23 +108,43 @@ module _ {C : Type 0} where
         (subst (λ (t : Session). (command : Command) → d.refused ≡ Some command → ¬ MayCommand script client t command) (same_Some d.session s is)
         (λ command back. barred script stations client d.session session (serving.roomy client d e) command (serving.barred client d e command back)))
 
+    calls_so : (client : ℕ) (s : Session) → slice_get (map session_of desks) client ≡ Some s
+        → CallsIn goes n (slice_get callers client) s (slice_get served.callers.items client)
+    calls_so client s here =
+        subst (λ (o : Option (Called C)). CallsIn goes n (slice_get callers client) s o) (sym (called_there client))
+        (calls_there client s (slice_get desks client) refl (sym (slice_get-map session_of desks client) ∙ here))
+
     -- what the desks did, as what their callers did
-    pub served_by : IsServedBy goes script callers served
+    abbrev served_by : IsServedBy goes script callers served
     served_by = record {
       sessions = map session_of desks;
       count = serving.live.count;
       serves = ended.serves;
       ends = ended.ends;
-      each = λ client s here.
-          subst (λ (o : Option (Called C)). CallsAt goes (slice_get callers client) s o) (sym (called_there client))
-          (calls_there client s (slice_get desks client) refl (sym (slice_get-map session_of desks client) ∙ here));
+      each = λ client s here. (calls_so client s here).0;
       refused = λ client s called here there.
           refused_there client s called (slice_get desks client) refl (sym (slice_get-map session_of desks client) ∙ here) (sym (called_there client) ∙ there);
     }
 
--- the element at a place of the list
-pub found : {X : Type 0} (xs : List X) (k : ℕ) (x : X) → k < length xs → x ≡ slice_index_or xs k x → slice_get xs k ≡ Some x
-found xs k x inside is = slice_get-get_or xs k x inside ∙ ap Some (sym is)
+    pub served_in : IsServedIn goes n script callers served
+    served_in = record { by_callers = served_by; steps = λ client s here. (calls_so client s here).1 }
+
+  -- from the stations that were opened to the end, after so many rounds
+  pub are_served : (goes : C → Option Reply → Option Command → C → Type 0) (says : C → Bool → Type 0) (times : ℕ → ℕ) (rounds made : ℕ) (script : ScriptData) (limit : ℕ)
+      (callers : List C) (opened stations : List StationData) (desks : List (Desk C)) (served : Served C)
+      → WereOpened script limit opened → StationsGoOn (times made) opened stations → AreServing goes (times made) script limit callers stations desks
+      → MadeRounds says rounds made (map called_of desks) → AreEnded script limit stations desks served → served.rounds ≡ made
+      → AreServed goes says rounds (times served.rounds) limit script callers served
+  are_served goes says times rounds made script limit callers opened stations desks served fresh turns serving worked ended same =
+      subst (λ (k : ℕ). AreServed goes says rounds (times k) limit script callers served) (sym same)
+      (record {
+        called = served_in goes (times made) script limit callers stations desks served serving ended;
+        worked = subst (λ (k : ℕ). MadeRounds says rounds k served.callers.items) (sym same)
+            (subst (λ (xs : List (Called C)). MadeRounds says rounds made xs) ended.callers worked);
+        turned = record { opened = opened; turned = stations; fresh = fresh; passed = turns; made = ended.made };
+        within = ended.within;
+        far = ended.far;
+      })
 
 -- the first of those that are left was taken
 module _ {X Y : Type 0} (f : Y → X) where

@@ -1,14 +1,15 @@
 -- What callers do at their desks.
-use Rattle.std.specs.Prelude.{◌≡◌, ℕ, List, [], ◌∷◌, ◌++◌, Option, Some, None, slice_get}
+use Rattle.std.specs.Prelude.{◌≡◌, ◌≤◌, ℕ, Bool, List, [], ◌∷◌, ◌++◌, Option, Some, None, length}
 use Rattle.lt_modes.specs.declared.command.Command.{Command}
-use Rattle.lt_mail.specs.Words.{Alike}
+use Rattle.lt_runner.specs.declared.turning.Turned.{Turned}
 use Rattle.lt_live.specs.declared.reply.Reply.{Reply}
 use Rattle.lt_live.specs.declared.ends.Session.{Session}
 use Rattle.lt_live.specs.Words.{submitted, polled, known_replies, command_held, SameSession}
-use Rattle.lt_live.specs.Stations.{StationData}
-use Rattle.lt_live.specs.Live.{StationGoesOn, EachStation}
+use Rattle.lt_live.specs.Stations.{StationData, StationTurns}
+use Rattle.lt_live.specs.Live.{StationGoesOn}
 use Rattle.lt_live_callers.specs.declared.desk.Desk.{Desk}
 use Rattle.lt_live_callers.specs.declared.served.Called.{Called}
+use Rattle.lt_live_callers.specs.Places.{Each}
 use Rattle.lt_live_callers.specs.Refused.{CanSubmit}
 
 abbrev pub told : Option Reply → List Reply
@@ -27,7 +28,8 @@ pub record SubmitsAtDesk (command result : Option Command) (old new : Session) :
   pub same : SameSession old new
   pub polled : polled new ≡ polled old
   pub submitted : submitted new ++ command_held result ≡ submitted old ++ command_held command
-  pub barred : (back : Command) → result ≡ Some back → ¬ CanSubmit new back
+  pub back : (held : Command) → result ≡ Some held → command ≡ Some held
+  pub barred : (held : Command) → result ≡ Some held → ¬ CanSubmit new held
 
 -- one step of a caller: what it was told, what it answered, and the caller after it
 pub record StepOf (C : Type 0) : Type 0 where
@@ -57,24 +59,64 @@ module _ {C : Type 0} where
 
   -- the caller, without its session
   abbrev pub called_of : Desk C → Called C
-  called_of desk = record { caller = desk.caller; refused = desk.refused }
+  called_of desk = record { caller = desk.caller; done = desk.done; refused = desk.refused }
 
   -- the command that was refused might not be submitted
   abbrev pub IsBarred : Desk C → Type 0
   IsBarred desk = (back : Command) → desk.refused ≡ Some back → ¬ CanSubmit desk.session back
 
-  -- the caller made steps: it was told what was polled in them, and what it answered was submitted but for what was refused
-  pub record DeskGoesOn (goes : C → Option Reply → Option Command → C → Type 0) (a b : Desk C) : Type 0 where
+  -- the last of the steps answered with this command
+  pub record LastAnswers (command : Command) (steps : List (StepOf C)) : Type 0 where
+    pub front : List (StepOf C)
+    pub last : StepOf C
+    pub all : steps ≡ front ++ last ∷ []
+    pub answer : last.command ≡ Some command
+
+  -- so many steps; or, where a command was refused, no more than so many, of which the last one answered with it
+  abbrev pub AreSteps : ℕ → Option Command → List (StepOf C) → Type 0
+  AreSteps n None steps = length steps ≡ n
+  AreSteps n (Some command) steps = (length steps ≤ n) × LastAnswers command steps
+
+  -- the caller made so many steps, none if a command was refused before: it was told what was polled in them, and
+  -- what it answered was submitted but for what was refused
+  pub record DeskGoesOn (goes : C → Option Reply → Option Command → C → Type 0) (n : ℕ) (a b : Desk C) : Type 0 where
     pub same : SameSession a.session b.session
     pub steps : List (StepOf C)
     pub went : Went goes a.caller steps b.caller
     pub told : polled b.session ≡ polled a.session ++ replies_of steps
-    pub asked : submitted b.session ++ command_held b.refused ≡ (submitted a.session ++ command_held a.refused) ++ commands_of steps
+    pub asked : submitted b.session ++ command_held b.refused
+        ≡ (submitted a.session ++ command_held a.refused) ++ commands_of steps
+    pub many : a.refused ≡ None → AreSteps n b.refused steps
+    pub over : (command : Command) → a.refused ≡ Some command → (steps ≡ []) × (b.refused ≡ Some command)
     pub barred : IsBarred a → IsBarred b
 
-  abbrev pub DesksGoOn : (C → Option Reply → Option Command → C → Type 0) → List (Desk C) → List (Desk C) → Type 0
-  DesksGoOn goes old new = (k : ℕ) → Alike (DeskGoesOn goes) (slice_get old k) (slice_get new k)
+  abbrev pub DesksGoOn : (C → Option Reply → Option Command → C → Type 0) → ℕ → List (Desk C) → List (Desk C) → Type 0
+  DesksGoOn goes n old new = Each (DeskGoesOn goes n) old new
 
--- the stations at the same places are those of the same nodes, and sessions keep their other ends there
-abbrev pub StationsGoOn : List StationData → List StationData → Type 0
-StationsGoOn old new = EachStation StationGoesOn old new
+  -- the caller was asked whether it is done, and nothing else happened
+  pub record IsAsked (says : C → Bool → Type 0) (a b : Desk C) : Type 0 where
+    pub same : b ≡ record a { done = b.done }
+    pub said : says b.caller b.done
+
+-- What stations do.
+
+-- one turn of a station
+pub record OneTurn (a b : StationData) : Type 0 where
+  pub turned : Turned
+  pub turns : StationTurns turned a.runner a.seats b.runner b.seats
+  pub goes : StationGoesOn a b
+
+-- the second station is what turns made of the first, and these are what each of them left
+abbrev pub WentByTurns : StationData → List StationData → StationData → Type 0
+WentByTurns a [] b = b ≡ a
+WentByTurns a (s ∷ rest) b = OneTurn a s × WentByTurns s rest b
+
+-- so many turns, or more
+pub record MakesTurns (n : ℕ) (a b : StationData) : Type 0 where
+  pub left : List StationData
+  pub passed : WentByTurns a left b
+  pub many : n ≤ length left
+
+-- the stations at the same places did
+abbrev pub StationsGoOn : ℕ → List StationData → List StationData → Type 0
+StationsGoOn n old new = Each (MakesTurns n) old new

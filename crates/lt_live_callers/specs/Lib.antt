@@ -1,4 +1,6 @@
 pub mod Refused
 pub mod Desks
+pub mod Over
+pub mod Places
 pub mod Served
 pub mod Texts

@@ -1,7 +1,9 @@
 // A caller with its session.
-ghost use Rattle.std.specs.Prelude.{◌≡◌, Some};
+ghost use Rattle.std.specs.Prelude.{◌≡◌, ◌<◌, true, Some, length, map, slice_get};
 ghost use Rattle.lt_live.specs.Words.{SameSession};
-ghost use Rattle.lt_live_callers.specs.Desks.{DeskGoesOn, HearsAtDesk, SubmitsAtDesk};
+ghost use Rattle.lt_live_callers.specs.Desks.{DeskGoesOn, DesksGoOn, HearsAtDesk, SubmitsAtDesk, IsAsked, called_of};
+ghost use Rattle.lt_live_callers.specs.Places.{OneAt};
+ghost use Rattle.lt_live_callers.specs.Over.{IsOver, AreOver, HaveSaid};
 
 use crate::caller::Caller;
 use lt_live::{Reply, Session};
@@ -13,6 +15,8 @@ pub(crate) struct Desk<C> {
     pub(crate) caller: C,
     pub(crate) session: Session,
     pub(crate) refused: Option<Command>,
+    // What the caller said when it was asked last whether it is done.
+    pub(crate) done: bool,
 }
 
 // The next reply, if one is there.
@@ -51,18 +55,39 @@ fn submit(session: &mut Session, command: Option<Command>) -> Option<Command>
     }
 }
 
-/// Whether no desk needs a step.
-pub(crate) fn all_over<C: Caller>(desks: &[Desk<C>]) -> bool {
-    desks.iter().all(|desk| desk.is_over())
+/// Asks each caller whether it is done; tells whether no desk needs a step.
+pub(crate) fn all_over<C: Caller>(desks: &mut Vec<Desk<C>>) -> bool
+    ensures desks { DesksGoOn C.goes 0 desks.old.items desks.new.items }
+    ensures said { HaveSaid C.says (map called_of desks.new.items) }
+    ensures over { result ≡ true → AreOver (map called_of desks.new.items) }
+{
+    let mut over = true;
+    for place in 0..desks.len() {
+        over = ask_at(desks, place) && over;
+    }
+    over
+}
+
+fn ask_at<C: Caller>(desks: &mut Vec<Desk<C>>, place: usize) -> bool
+    requires { place < length desks.old.items }
+    ensures asked { OneAt (IsAsked C.says) place desks.old.items desks.new.items }
+    ensures over { result ≡ true → (desk : _) → slice_get desks.new.items place ≡ Some desk → IsOver (called_of desk) }
+{
+    desks[place].ask()
 }
 
 impl<C: Caller> Desk<C> {
-    pub(crate) fn is_over(&self) -> bool {
-        self.refused.is_some() || self.caller.is_done()
+    // Asks the caller whether it is done; tells whether it needs no step.
+    fn ask(&mut self) -> bool
+        ensures asked { IsAsked C.says self.old self.new }
+        ensures over { result ≡ true → IsOver (called_of self.new) }
+    {
+        self.done = self.caller.is_done();
+        self.done || self.refused.is_some()
     }
 
     pub(crate) fn step(&mut self)
-        ensures { DeskGoesOn C.goes self.old self.new }
+        ensures { DeskGoesOn C.goes 1 self.old self.new }
     {
         if self.refused.is_some() {
             return;
@@ -73,9 +98,9 @@ impl<C: Caller> Desk<C> {
     }
 
     pub(crate) fn call(&mut self, times: u32)
-        ensures { DeskGoesOn C.goes self.old self.new }
+        ensures { DeskGoesOn C.goes times self.old self.new }
     {
-        for _time in 0..times {
+        for time in 0..times {
             self.step();
         }
     }

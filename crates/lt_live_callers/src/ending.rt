@@ -1,15 +1,21 @@
-// How the run of stations ended.
-ghost use Rattle.std.specs.Prelude.{◌≡◌, IfOk};
+// The run of the stations, and how it ended.
+ghost use Rattle.std.specs.Prelude.{◌≡◌, map, IfOk};
 ghost use Rattle.lt_modes.specs.Script.{ScriptData};
-ghost use Rattle.lt_threads.specs.Meeting.{IsCrew, crew_world, ShareScript, AreTooMany, IsJoined};
+ghost use Rattle.lt_threads.specs.Meeting.{ShareScript, AreTooMany, IsJoined};
+ghost use Rattle.lt_threads.specs.Pushes.{HasLimit};
+ghost use Rattle.lt_threads.specs.Threads.{StaysWithin, GoesFar};
 ghost use Rattle.lt_live.specs.Live.{AreLive, LiveScript, IsServedRun};
-ghost use Rattle.lt_live_callers.specs.Served.{StopsSo, CallersEndSo, SameLogs};
+ghost use Rattle.lt_live.specs.Stations.{runner_of};
+ghost use Rattle.lt_live_callers.specs.Served.{CallersEndSo, as_live, HaveMade};
 
-use lt_live::{Session, Station, settle_all, take_runners};
+use crate::moving::move_on;
+use lt_law_merged::law_can_move;
+use lt_live::{Session, Station, law_live_lasts, settle_all, take_runners};
 use lt_merge::{Run, merge};
 use lt_runner::Runner;
 use lt_script::Script;
-use lt_threads::{JoinError, any_enabled, anyone_waits, finish, join_scripts};
+use lt_spec::Ending;
+use lt_threads::{JoinError, finish, join_scripts};
 use std::alloc::{AllocError, Global};
 
 /// How a run ended.
@@ -19,29 +25,49 @@ pub enum LiveEnding {
     Done,
     /// At rest, and a client waits.
     Stuck,
-    /// This node, the least such one, can make a further move.
+    /// This node, the least such one, can make a further move; each node that can has made as many as it may.
     Unfinished { node: u8 },
 }
 
-/// The script with the commands that the stations appended, the run of it that they made, and how it ended.
+fn live_ending(ending: Ending) -> LiveEnding
+    ensures { result ≡ as_live ending }
+{
+    match ending {
+        Ending::Done => LiveEnding::Done,
+        Ending::Stuck => LiveEnding::Stuck,
+        Ending::Cut { node } => LiveEnding::Unfinished { node },
+    }
+}
+
+/// The script with the commands that the stations appended, the run of it that they made with all moves that were left,
+/// and how it ended.
 #[tactic(auto, using(lt_live::proofs::Finished::are_shares, lt_live::proofs::Finished::never_many))]
 pub(crate) fn end_run(
     alloc: Global,
     mut stations: Vec<Station>,
     mut sessions: Vec<Session>,
+    _limit: u32,
 ) -> Result<(Script, Run, LiveEnding), AllocError>
-    requires { LiveScript stations.items sessions.items }
-    ensures served { IfOk result (λ made. (script : ScriptData) → AreLive script stations.items sessions.items → IsServedRun script sessions.items made.0 made.1.entries) }
+    requires live { LiveScript stations.items sessions.items }
+    requires limits { HasLimit _limit (map runner_of stations.items) }
+    ensures served { IfOk result (λ made.
+        (script : ScriptData) → AreLive script stations.items sessions.items → IsServedRun script sessions.items
+        made.0 made.1.entries) }
     ensures ends { IfOk result (λ made. CallersEndSo made.2 made.0 made.1.entries) }
+    ensures within { IfOk result (λ made. StaysWithin _limit made.0 made.1.entries) }
+    ensures far { IfOk result (λ made. GoesFar _limit made.0 made.1.entries) }
+    ensures made { IfOk result (λ made. HaveMade stations.items made.1.entries) }
 {
+    law_can_move();
+    law_live_lasts();
     let runners = Vec::with_capacity(alloc, stations.len())?;
     settle_all(&mut stations, &mut sessions);
     let mut runners = take_runners(stations, runners);
     let script = join(alloc, &runners)?;
-    let ending = ending_of(&script, &mut runners);
+    let ending = move_on(&script, &mut runners)?;
     let logs = finish(alloc, &script, runners)?;
     let run = merge(alloc, logs)?;
-    Ok((script, run, ending))
+    Ok((script, run, live_ending(ending)))
 }
 
 // The one script of runners that don't have too many commands.
@@ -54,22 +80,5 @@ fn join(alloc: Global, runners: &[Runner]) -> Result<Script, AllocError>
         Ok(script) => Ok(script),
         Err(JoinError::NoMemory) => Err(AllocError),
         Err(JoinError::TooMany) => unreachable!(),
-    }
-}
-
-// How the run that the runners made ended.
-fn ending_of(script: &Script, runners: &mut Vec<Runner>) -> LiveEnding
-    requires { IsCrew script.now runners.old.items }
-    ensures crew { IsCrew script.now runners.new.items }
-    ensures same { SameLogs runners.old.items runners.new.items }
-    ensures ends { StopsSo result script.now (crew_world script.now runners.new.items) }
-{
-    if let Some(node) = any_enabled(script, runners) {
-        return LiveEnding::Unfinished { node };
-    }
-    if anyone_waits(script, runners) {
-        LiveEnding::Stuck
-    } else {
-        LiveEnding::Done
     }
 }

@@ -1,10 +1,10 @@
 // Stations, and a desk for each caller.
-ghost use Rattle.std.specs.Prelude.{◌≡◌, ◌≢◌, ◌⊎◌, ◌≤◌, ◌<◌, [], length, IfOk, IfErr, OnOk};
+ghost use Rattle.std.specs.Prelude.{◌≡◌, ◌≢◌, ◌↔◌, ◌≤◌, ◌<◌, [], length, Err, IfOk, OnOk};
 ghost use Rattle.lt_spec.specs.declared.moves.TheConstants.{MAX_MOVES};
 ghost use Rattle.lt_spec.specs.declared.limits.TheConstants.{MAX_COMMANDS};
 ghost use Rattle.lt_live_callers.specs.declared.error.CallersError.TheVariants as errors;
 ghost use Rattle.lt_live.specs.Stations.{equal_share};
-ghost use Rattle.lt_live_callers.specs.Served.{AreDesks, AreServing};
+ghost use Rattle.lt_live_callers.specs.Served.{AreDesks, AreServing, IsNoLimit, WereOpened};
 
 use crate::caller::Caller;
 use crate::desk::Desk;
@@ -14,30 +14,11 @@ use lt_script::{MAX_COMMANDS, Script};
 use lt_spec::MAX_MOVES;
 use std::alloc::{AllocError, Global};
 
-/// The stations of the script, whose nodes make up to `limit` moves each, and a desk for each client, with its caller.
-pub(crate) fn begin<C: Caller + Drop>(
-    alloc: Global,
-    script: &Script,
-    callers: Vec<C>,
-    limit: u32,
-) -> Result<(Vec<Station>, Vec<Desk<C>>), CallersError>
-    requires { script.now.commands ≡ [] }
-    ensures serving { IfOk result (λ begun. AreServing C.goes script.now callers.items begun.0.items begun.1.items) }
-    ensures count { IfErr result (λ error. error ≡ errors.Count → length callers.items ≢ length script.now.clients) }
-    ensures limit { IfErr result (λ error. error ≡ errors.Limit → (limit ≡ 0) ⊎ (MAX_MOVES < limit)) }
-{
-    law_live_lasts();
-    may_begin(script, callers.len(), limit)?;
-    let (stations, sessions) = open(alloc, script, limit, share_of(script))?;
-    let desks = desks_of(alloc, callers, sessions)?;
-    Ok((stations, desks))
-}
-
-// Whether there is a caller for each client, and a node may make so many moves.
-fn may_begin(script: &Script, callers: usize, limit: u32) -> Result<(), CallersError>
+/// Whether there is a caller for each client and, if so, whether a node may make so many moves.
+pub(crate) fn may_begin(script: &Script, callers: usize, limit: u32) -> Result<(), CallersError>
     ensures ok { OnOk result ((callers ≡ length script.now.clients) × (0 < limit) × (limit ≤ MAX_MOVES)) }
-    ensures count { IfErr result (λ error. error ≡ errors.Count → callers ≢ length script.now.clients) }
-    ensures limit { IfErr result (λ error. error ≡ errors.Limit → (limit ≡ 0) ⊎ (MAX_MOVES < limit)) }
+    ensures count { (result ≡ Err errors.Count) ↔ (callers ≢ length script.now.clients) }
+    ensures limit { (result ≡ Err errors.Limit) ↔ ((callers ≡ length script.now.clients) × IsNoLimit limit) }
 {
     if callers != usize::from(script.clients()) {
         return Err(CallersError::Count);
@@ -46,6 +27,26 @@ fn may_begin(script: &Script, callers: usize, limit: u32) -> Result<(), CallersE
         return Err(CallersError::Limit);
     }
     Ok(())
+}
+
+/// The stations of the script, whose nodes make up to `limit` moves each, and a desk for each client, with its caller.
+pub(crate) fn begin<C: Caller + Drop>(
+    alloc: Global,
+    script: &Script,
+    callers: Vec<C>,
+    limit: u32,
+) -> Result<(Vec<Station>, Vec<Desk<C>>), AllocError>
+    requires commands { script.now.commands ≡ [] }
+    requires count { length callers.items ≡ length script.now.clients }
+    requires limit { (0 < limit) × (limit ≤ MAX_MOVES) }
+    ensures opened { IfOk result (λ begun. WereOpened script.now limit begun.0.items) }
+    ensures serving { IfOk result (λ begun.
+        AreServing C.goes 0 script.now limit callers.items begun.0.items begun.1.items) }
+{
+    law_live_lasts();
+    let (stations, sessions) = open(alloc, script, limit, share_of(script))?;
+    let desks = desks_of(alloc, callers, sessions)?;
+    Ok((stations, desks))
 }
 
 // How many commands each session may submit, or one where there is none: so its ring has a place for each.
@@ -77,6 +78,7 @@ fn desks_of<C: Drop>(
             caller,
             session,
             refused: None,
+            done: false,
         })?;
     }
     Ok(desks)

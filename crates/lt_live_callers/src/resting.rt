@@ -1,6 +1,7 @@
 // Stations on one thread, until they are at rest.
 ghost use Rattle.std.specs.Prelude.{◌<◌, length};
-ghost use Rattle.lt_live_callers.specs.Desks.{StationsGoOn};
+ghost use Rattle.lt_live_callers.specs.Desks.{MakesTurns, StationsGoOn};
+ghost use Rattle.lt_live_callers.specs.Places.{OneAt};
 
 use lt_live::Station;
 use lt_runner::{Open, Turned};
@@ -10,11 +11,10 @@ const TURNS: u32 = 1_000_000;
 
 /// Lets the stations make turns until none of them makes a move in two turns: what one sends in a turn it gives to
 /// the ring in its next one.
-#[tactic(auto, using(crate::proofs::GoingOn::stations_itself))]
 pub(crate) fn come_to_rest(stations: &mut Vec<Station>)
-    ensures { StationsGoOn stations.old.items stations.new.items }
+    ensures { StationsGoOn 1 stations.old.items stations.new.items }
 {
-    for _turn in 0..TURNS {
+    for turn in 0..TURNS {
         if !turn_twice(stations) {
             return;
         }
@@ -23,14 +23,14 @@ pub(crate) fn come_to_rest(stations: &mut Vec<Station>)
 
 // Each station makes two turns; tells whether one made a move.
 fn turn_twice(stations: &mut Vec<Station>) -> bool
-    ensures { StationsGoOn stations.old.items stations.new.items }
+    ensures { StationsGoOn 1 stations.old.items stations.new.items }
 {
     let moved = turn_each(stations);
     turn_each(stations) || moved
 }
 
 fn turn_each(stations: &mut Vec<Station>) -> bool
-    ensures { StationsGoOn stations.old.items stations.new.items }
+    ensures { StationsGoOn 1 stations.old.items stations.new.items }
 {
     let mut moved = false;
     for place in 0..stations.len() {
@@ -41,7 +41,7 @@ fn turn_each(stations: &mut Vec<Station>) -> bool
 
 fn turn_at(stations: &mut Vec<Station>, place: usize) -> bool
     requires { place < length stations.old.items }
-    ensures { StationsGoOn stations.old.items stations.new.items }
+    ensures { OneAt (MakesTurns 1) place stations.old.items stations.new.items }
 {
     stations[place].turn(&Open) == Turned::Moved
 }

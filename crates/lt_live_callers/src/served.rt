@@ -1,5 +1,6 @@
 // What callers are given back.
-ghost use Rattle.std.specs.Prelude.{◌≡◌, IfOk};
+ghost use Rattle.std.specs.Prelude.{◌≡◌, ◌↔◌, IsTrue, IfOk};
+ghost use Rattle.lt_live_callers.specs.Over.{AreDone};
 ghost use Rattle.lt_live_callers.specs.Served.{with_journal};
 
 use crate::ending::LiveEnding;
@@ -13,19 +14,30 @@ use std::alloc::{AllocError, Global};
 #[derive(Drop)]
 pub struct Called<C> {
     pub caller: C,
+    /// What it answered at the end, asked whether it is done.
+    pub done: bool,
     pub refused: Option<Command>,
 }
 
-/// The script with the commands that were appended, the run of it, how that ended, and the callers.
+/// The script with the commands that were appended, the run of it, how that ended, and the callers, after so many
+/// rounds.
 #[derive(Drop)]
 pub struct Served<C> {
     pub script: Script,
     pub run: Run,
     pub ending: LiveEnding,
+    pub rounds: u32,
     pub callers: Vec<Called<C>>,
 }
 
 impl<C> Served<C> {
+    /// Whether each caller said at the end that it is done.
+    pub fn all_done(&self) -> bool
+        ensures { IsTrue result ↔ AreDone self.now.callers.items }
+    {
+        self.callers.iter().all(|called| called.done)
+    }
+
     /// The script, the line `journal` and the journal of the run, as `lockrun check` reads them.
     pub fn text(&self, alloc: Global) -> Result<Vec<u8>, AllocError>
         ensures { IfOk result (λ text. text.items ≡ with_journal self.now.script self.now.run.entries) }

@@ -1,17 +1,22 @@
 // Callers serve a script.
-ghost use Rattle.std.specs.Prelude.{◌≡◌, ◌≢◌, ◌⊎◌, ◌<◌, [], length, map, IfOk, IfErr};
+ghost use Rattle.std.specs.Prelude.{◌≡◌, ◌≢◌, ◌↔◌, ◌≤◌, ◌<◌, ◌*◌, [], length, map, Err, IfOk};
 ghost use Rattle.lt_spec.specs.declared.moves.TheConstants.{MAX_MOVES};
+ghost use Rattle.lt_threads.specs.Pushes.{HasLimit};
+ghost use Rattle.lt_threads.specs.Threads.{StaysWithin, GoesFar};
 ghost use Rattle.lt_live.specs.Live.{AreLive};
+ghost use Rattle.lt_live.specs.Stations.{runner_of};
 ghost use Rattle.lt_live_callers.specs.declared.error.CallersError.TheVariants as errors;
+ghost use Rattle.lt_live_callers.specs.declared.turning.TheConstants.{TIMES_A_ROUND};
 ghost use Rattle.lt_live_callers.specs.Desks.{called_of, session_of};
-ghost use Rattle.lt_live_callers.specs.Served.{IsServedBy, AreEnded};
+ghost use Rattle.lt_live_callers.specs.Over.{AreOver, HaveSaid};
+ghost use Rattle.lt_live_callers.specs.Served.{IsServedIn, AreEnded, AreServed, ComesOfTurns, IsNoLimit};
 
 use crate::alone::work_alone;
 use crate::caller::Caller;
 use crate::desk::Desk;
 use crate::ending::end_run;
 use crate::error::CallersError;
-use crate::opening::begin;
+use crate::opening::{begin, may_begin};
 use crate::served::{Called, Served};
 use crate::turning::work;
 use lt_live::{Session, Station, law_live_lasts};
@@ -23,7 +28,8 @@ use std::thread::Threads;
 /// beside them on as many more. A node makes up to `limit` moves.
 ///
 /// They work in rounds, until each caller is done or has a command that it might not submit, or the rounds are over.
-/// Then the nodes make the moves that are left. The script's own commands are left out.
+/// Then the nodes make the moves that are left. The script's own commands are left out. Where there isn't a caller for
+/// each client, that is the answer, whatever the limit, and nothing is begun.
 pub fn serve_callers<R: Threads + Sync, C: Caller + Send + Drop>(
     rt: &R,
     alloc: Global,
@@ -33,15 +39,21 @@ pub fn serve_callers<R: Threads + Sync, C: Caller + Send + Drop>(
     threads: usize,
     rounds: u32,
 ) -> Result<Served<C>, CallersError>
-    ensures served { IfOk result (λ served. IsServedBy C.goes (record script.now { commands = [] }) callers.items served) }
-    ensures count { IfErr result (λ error. error ≡ errors.Count → length callers.items ≢ length script.now.clients) }
-    ensures limit { IfErr result (λ error. error ≡ errors.Limit → (limit ≡ 0) ⊎ (MAX_MOVES < limit)) }
+    ensures served { IfOk result (λ served.
+        IsServedIn C.goes (served.rounds * TIMES_A_ROUND) (record script.now { commands = [] }) callers.items served) }
+    ensures said { IfOk result (λ served. HaveSaid C.says served.callers.items) }
+    ensures rounds { IfOk result (λ served.
+        (served.rounds ≤ rounds) × (served.rounds < rounds → AreOver served.callers.items)) }
+    ensures turned { IfOk result (λ served.
+        ComesOfTurns (record script.now { commands = [] }) limit (served.rounds * TIMES_A_ROUND) served.run.entries) }
+    ensures within { IfOk result (λ served. StaysWithin limit served.script served.run.entries) }
+    ensures far { IfOk result (λ served. GoesFar limit served.script served.run.entries) }
+    ensures count { (result ≡ Err errors.Count) ↔ (length callers.items ≢ length script.now.clients) }
+    ensures limit { (result ≡ Err errors.Limit)
+        ↔ ((length callers.items ≡ length script.now.clients) × IsNoLimit limit) }
 {
-    law_live_lasts();
-    let bare = script.without_commands(alloc)?;
-    let (mut stations, mut desks) = begin(alloc, &bare, callers, limit)?;
-    work(rt, &mut stations, &mut desks, threads, rounds);
-    let served = end(alloc, &bare, stations, desks)?;
+    may_begin(script, callers.len(), limit)?;
+    let served = serve(rt, alloc, script, callers, limit, threads, rounds)?;
     Ok(served)
 }
 
@@ -54,15 +66,66 @@ pub fn serve_callers_alone<C: Caller + Drop>(
     limit: u32,
     rounds: u32,
 ) -> Result<Served<C>, CallersError>
-    ensures served { IfOk result (λ served. IsServedBy C.goes (record script.now { commands = [] }) callers.items served) }
-    ensures count { IfErr result (λ error. error ≡ errors.Count → length callers.items ≢ length script.now.clients) }
-    ensures limit { IfErr result (λ error. error ≡ errors.Limit → (limit ≡ 0) ⊎ (MAX_MOVES < limit)) }
+    ensures served { IfOk result (λ served.
+        IsServedIn C.goes served.rounds (record script.now { commands = [] }) callers.items served) }
+    ensures said { IfOk result (λ served. HaveSaid C.says served.callers.items) }
+    ensures rounds { IfOk result (λ served.
+        (served.rounds ≤ rounds) × (served.rounds < rounds → AreOver served.callers.items)) }
+    ensures turned { IfOk result (λ served.
+        ComesOfTurns (record script.now { commands = [] }) limit served.rounds served.run.entries) }
+    ensures within { IfOk result (λ served. StaysWithin limit served.script served.run.entries) }
+    ensures far { IfOk result (λ served. GoesFar limit served.script served.run.entries) }
+    ensures count { (result ≡ Err errors.Count) ↔ (length callers.items ≢ length script.now.clients) }
+    ensures limit { (result ≡ Err errors.Limit)
+        ↔ ((length callers.items ≡ length script.now.clients) × IsNoLimit limit) }
+{
+    may_begin(script, callers.len(), limit)?;
+    let served = serve_alone(alloc, script, callers, limit, rounds)?;
+    Ok(served)
+}
+
+// A caller for each client, on threads.
+fn serve<R: Threads + Sync, C: Caller + Send + Drop>(
+    rt: &R,
+    alloc: Global,
+    script: &Script,
+    callers: Vec<C>,
+    limit: u32,
+    threads: usize,
+    rounds: u32,
+) -> Result<Served<C>, AllocError>
+    requires count { length callers.items ≡ length script.now.clients }
+    requires limit { (0 < limit) × (limit ≤ MAX_MOVES) }
+    ensures { IfOk result (λ served.
+        AreServed C.goes C.says rounds (served.rounds * TIMES_A_ROUND) limit
+        (record script.now { commands = [] }) callers.items served) }
 {
     law_live_lasts();
     let bare = script.without_commands(alloc)?;
     let (mut stations, mut desks) = begin(alloc, &bare, callers, limit)?;
-    work_alone(&mut stations, &mut desks, rounds);
-    let served = end(alloc, &bare, stations, desks)?;
+    let made = work(rt, &mut stations, &mut desks, threads, rounds);
+    let served = end(alloc, &bare, stations, desks, limit, made)?;
+    Ok(served)
+}
+
+// A caller for each client, on this thread.
+fn serve_alone<C: Caller + Drop>(
+    alloc: Global,
+    script: &Script,
+    callers: Vec<C>,
+    limit: u32,
+    rounds: u32,
+) -> Result<Served<C>, AllocError>
+    requires count { length callers.items ≡ length script.now.clients }
+    requires limit { (0 < limit) × (limit ≤ MAX_MOVES) }
+    ensures { IfOk result (λ served.
+        AreServed C.goes C.says rounds served.rounds limit (record script.now { commands = [] }) callers.items served) }
+{
+    law_live_lasts();
+    let bare = script.without_commands(alloc)?;
+    let (mut stations, mut desks) = begin(alloc, &bare, callers, limit)?;
+    let made = work_alone(&mut stations, &mut desks, rounds);
+    let served = end(alloc, &bare, stations, desks, limit, made)?;
     Ok(served)
 }
 
@@ -72,16 +135,21 @@ fn end<C: Drop>(
     _script: &Script,
     stations: Vec<Station>,
     desks: Vec<Desk<C>>,
+    limit: u32,
+    rounds: u32,
 ) -> Result<Served<C>, AllocError>
-    requires { AreLive _script.now stations.items (map session_of desks.items) }
-    ensures { IfOk result (λ served. AreEnded _script.now desks.items served) }
+    requires live { AreLive _script.now stations.items (map session_of desks.items) }
+    requires limits { HasLimit limit (map runner_of stations.items) }
+    ensures ended { IfOk result (λ served. AreEnded _script.now limit stations.items desks.items served) }
+    ensures rounds { IfOk result (λ served. served.rounds ≡ rounds) }
 {
     let (callers, sessions) = part(alloc, desks)?;
-    let (script, run, ending) = end_run(alloc, stations, sessions)?;
+    let (script, run, ending) = end_run(alloc, stations, sessions, limit)?;
     Ok(Served {
         script,
         run,
         ending,
+        rounds,
         callers,
     })
 }
@@ -99,6 +167,7 @@ fn part<C: Drop>(
     for desk in desks {
         callers.push(Called {
             caller: desk.caller,
+            done: desk.done,
             refused: desk.refused,
         })?;
         sessions.push(desk.session)?;

@@ -1,10 +1,9 @@
--- One desk made a step.
-use Rattle.lt_live_callers.proofs.GoingOn.{desks_set}
-use Rattle.lt_live_callers.proofs.Made.{found}
+-- One caller made a step.
+use Rattle.lt_live_callers.specs.Desks.{DeskGoesOn}
+use Rattle.lt_live_callers.proofs.Places.{one_set}
 use Rattle.lt_live_callers.proofs.alone.step_at.Goals as goal
 
 pub returns : goal.returns
 returns g c =
     let desk = c.index_mut.result.now in
-    desks_set g.C.Caller.goes c.args.desks.now.items c.args.place desk c.step.new.self
-    (found c.args.desks.now.items c.args.place desk c.requires c.index_mut.ensures.value) c.step.ensures
+    one_set (DeskGoesOn g.C.Caller.goes 1) c.args.place c.args.desks.now.items desk desk c.step.new.self c.requires c.index_mut.ensures.value c.step.ensures

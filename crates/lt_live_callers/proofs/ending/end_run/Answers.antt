@@ -1,27 +1,61 @@
--- The runners are those of the script, and have made the run that the sessions were served in.
-use Rattle.std.proofs.Common.{List, subst, ◌∙◌}
+-- The runners are those of the script, and made the run that the sessions were served in.
+use Rattle.std.proofs.Common.{List, sym, subst, ◌∙◌}
 use Rattle.lt_runner.specs.declared.parts.Parts.{Parts}
 use Rattle.lt_threads.specs.Meeting.{IsJoined}
-use Rattle.lt_live.proofs.Finished.{finishes, never_many}
-use Rattle.lt_live_callers.proofs.Ended.{shared, ends_so}
+use Rattle.lt_live.proofs.Finished.{never_many}
+use Rattle.lt_live_callers.specs.declared.ending.LiveEnding.{LiveEnding}
+use Rattle.lt_live_callers.specs.Served.{CallersEndSo}
+use Rattle.lt_live_callers.proofs.Grown.{serves, ends, keeps, have_made}
 use Rattle.lt_live_callers.proofs.ending.end_run.Goals as goal
 
 pub join-requires-clause-few : goal.join-requires-clause-few
 join-requires-clause-few c =
     never_many c.args.stations.items c.settle_all.new.stations.items c.args.sessions.items c.settle_all.new.sessions.items c.deref.result.now
-    c.requires c.settle_all.ensures (c.deref.ensures.value ∙ c.take_runners-runners.ensures)
+    c.requires.live c.settle_all.ensures (c.deref.ensures.value ∙ c.take_runners-runners.ensures)
+
+pub move_on-requires : goal.move_on-requires
+move_on-requires c =
+    (subst (λ (rs : List Parts). IsJoined rs c.in_ok-script.script) c.deref.ensures.value c.in_ok-script.ensures).crew
 
 pub returns-clause-served : goal.returns-clause-served
 returns-clause-served c =
     let runners = c.take_runners-runners.result.items in
-    let later = c.ending_of-ending.new.runners.items in
-    let made = c.in_ok-run.run'.entries in
-    finishes c.args.stations.items c.settle_all.new.stations.items c.args.sessions.items c.settle_all.new.sessions.items runners
-    c.in_ok-script.script made c.settle_all.ensures c.take_runners-runners.ensures
-    (shared c.in_ok-script.script runners later c.in_ok-logs.logs.items made c.ending_of-ending.ensures.same c.in_ok-logs.ensures c.in_ok-run.ensures
-    (subst (λ (rs : List Parts). IsJoined rs c.in_ok-script.script) c.deref.ensures.value c.in_ok-script.ensures))
+    serves c.args.stations.items c.settle_all.new.stations.items c.args.sessions.items c.settle_all.new.sessions.items runners c.move_on.new.runners.items
+    c.in_ok-script.script c.in_ok-ending.ending c.in_ok-logs.logs.items c.in_ok-run.run'.entries c.settle_all.ensures c.take_runners-runners.ensures
+    (subst (λ (rs : List Parts). IsJoined rs c.in_ok-script.script) c.deref.ensures.value c.in_ok-script.ensures) c.in_ok-ending.ensures
+    c.in_ok-logs.ensures c.in_ok-run.ensures c.law_live_lasts.ensures.last
 
 pub returns-clause-ends : goal.returns-clause-ends
 returns-clause-ends c =
-    ends_so c.in_ok-script.script c.take_runners-runners.result.items c.ending_of-ending.new.runners.items c.in_ok-logs.logs.items
-    c.in_ok-run.run'.entries c.ending_of-ending.ensures.same c.in_ok-logs.ensures c.in_ok-run.ensures c.ending_of-ending.result c.ending_of-ending.ensures.ends
+    let runners = c.take_runners-runners.result.items in
+    subst (λ (e : LiveEnding). CallersEndSo e c.in_ok-script.script c.in_ok-run.run'.entries) (sym c.live_ending.ensures)
+    (ends c.args.stations.items c.settle_all.new.stations.items c.args.sessions.items c.settle_all.new.sessions.items runners c.move_on.new.runners.items
+    c.in_ok-script.script c.in_ok-ending.ending c.in_ok-logs.logs.items c.in_ok-run.run'.entries c.settle_all.ensures c.take_runners-runners.ensures
+    (subst (λ (rs : List Parts). IsJoined rs c.in_ok-script.script) c.deref.ensures.value c.in_ok-script.ensures) c.in_ok-ending.ensures
+    c.in_ok-logs.ensures c.in_ok-run.ensures)
+
+pub returns-clause-within : goal.returns-clause-within
+returns-clause-within c =
+    let runners = c.take_runners-runners.result.items in
+    (keeps c.args.stations.items c.settle_all.new.stations.items c.args.sessions.items c.settle_all.new.sessions.items runners c.move_on.new.runners.items
+    c.in_ok-script.script c.in_ok-ending.ending c.in_ok-logs.logs.items c.in_ok-run.run'.entries c.settle_all.ensures c.take_runners-runners.ensures
+    (subst (λ (rs : List Parts). IsJoined rs c.in_ok-script.script) c.deref.ensures.value c.in_ok-script.ensures) c.in_ok-ending.ensures
+    c.in_ok-logs.ensures c.in_ok-run.ensures c.law_can_move.ensures.rest c.args._limit
+    (c.settle_all.ensures c.requires.live.0 c.requires.live.1).runners c.requires.limits).within
+
+pub returns-clause-far : goal.returns-clause-far
+returns-clause-far c =
+    let runners = c.take_runners-runners.result.items in
+    (keeps c.args.stations.items c.settle_all.new.stations.items c.args.sessions.items c.settle_all.new.sessions.items runners c.move_on.new.runners.items
+    c.in_ok-script.script c.in_ok-ending.ending c.in_ok-logs.logs.items c.in_ok-run.run'.entries c.settle_all.ensures c.take_runners-runners.ensures
+    (subst (λ (rs : List Parts). IsJoined rs c.in_ok-script.script) c.deref.ensures.value c.in_ok-script.ensures) c.in_ok-ending.ensures
+    c.in_ok-logs.ensures c.in_ok-run.ensures c.law_can_move.ensures.rest c.args._limit
+    (c.settle_all.ensures c.requires.live.0 c.requires.live.1).runners c.requires.limits).far
+
+pub returns-clause-made : goal.returns-clause-made
+returns-clause-made c =
+    let runners = c.take_runners-runners.result.items in
+    have_made c.args.stations.items c.settle_all.new.stations.items c.args.sessions.items c.settle_all.new.sessions.items runners c.move_on.new.runners.items
+    c.in_ok-script.script c.in_ok-ending.ending c.in_ok-logs.logs.items c.in_ok-run.run'.entries c.settle_all.ensures c.take_runners-runners.ensures
+    (subst (λ (rs : List Parts). IsJoined rs c.in_ok-script.script) c.deref.ensures.value c.in_ok-script.ensures) c.in_ok-ending.ensures
+    c.in_ok-logs.ensures c.in_ok-run.ensures (c.settle_all.ensures c.requires.live.0 c.requires.live.1).runners

@@ -1,5 +1,5 @@
 -- One desk more.
-use Rattle.std.proofs.Common.{rules, refl, sym, subst, List, None, length, ◌<◌}
+use Rattle.std.proofs.Common.{rules, refl, sym, subst, List, None, false, length, ◌<◌}
 use Rattle.lt_live_callers.specs.declared.desk.Desk.{Desk}
 use Rattle.lt_live_callers.specs.Desks.{caller_of, session_of}
 use Rattle.lt_live_callers.specs.Served.{NoneRefused}
@@ -10,7 +10,7 @@ pub loop-callers-preserved : goal.loop-callers-preserved
 loop-callers-preserved g c =
     let more-callers : 0 < length c.loop-callers.callers.items = search rules in
     let more-sessions : 0 < length c.loop-callers.sessions.items = search rules in
-    let desk : Desk g.row.C.Denot = record { caller = c.remove-caller.result; session = c.remove-session.result; refused = None } in
+    let desk : Desk g.row.C.Denot = record { caller = c.remove-caller.result; session = c.remove-session.result; refused = None; done = false } in
     record {
       same = search rules;
       callers = took_one caller_of c.loop-callers.desks.items c.push.new.self.items desk c.loop-callers.callers.items c.remove-caller.new.self.items

@@ -1,16 +1,20 @@
 -- One station after the other.
-use Rattle.std.proofs.Common.{refl, ◌∙◌}
-use Rattle.lt_live.specs.Live.{StationGoesOn}
-use Rattle.lt_live.proofs.SeatLists.{alike_len}
-use Rattle.lt_live_callers.proofs.GoingOn.{stations_itself, stations_join}
+use Rattle.std.proofs.Common.{arith}
+use Rattle.lt_live_callers.specs.Desks.{MakesTurns}
+use Rattle.lt_live_callers.proofs.Places.{first_none, first_more, first_all}
 use Rattle.lt_live_callers.proofs.resting.turn_each.Goals as goal
 
+pub turn_at-requires : goal.turn_at-requires
+turn_at-requires c = let count = c.loop-place.invariant.count in omega (arith, count)
+
 pub loop-place-init : goal.loop-place-init
-loop-place-init c = record { stations = stations_itself c.args.stations.now.items; count = refl }
+loop-place-init c = first_none (MakesTurns 1) c.args.stations.now.items
 
 pub loop-place-preserved : goal.loop-place-preserved
-loop-place-preserved c = record {
-  stations = stations_join c.args.stations.now.items c.loop-place.stations.items c.turn_at.new.stations.items
-      c.loop-place.invariant.stations c.turn_at.ensures;
-  count = alike_len StationGoesOn c.loop-place.stations.items c.turn_at.new.stations.items c.turn_at.ensures ∙ c.loop-place.invariant.count;
-}
+loop-place-preserved c =
+    first_more (MakesTurns 1) c.loop-place.place c.args.stations.now.items c.loop-place.stations.items c.turn_at.new.stations.items
+    c.loop-place.invariant c.turn_at.ensures
+
+pub returns : goal.returns
+returns c =
+    first_all (MakesTurns 1) c.loop-place.place c.args.stations.now.items c.loop-place.stations.items (omega arith) c.loop-place.invariant

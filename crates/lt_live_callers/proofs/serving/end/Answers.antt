@@ -4,19 +4,22 @@ use Rattle.lt_live.specs.declared.ends.Session.{Session}
 use Rattle.lt_live.specs.Live.{AreLive, IsServedRun}
 use Rattle.lt_live_callers.proofs.serving.end.Goals as goal
 
-pub end_run-requires : goal.end_run-requires
-end_run-requires g c = (
+pub end_run-requires-clause-live : goal.end_run-requires-clause-live
+end_run-requires-clause-live g c = (
   c.args._script.now,
-  subst (λ (all : List Session). AreLive c.args._script.now c.args.stations.items all) (sym c.in_ok-callers.ensures.sessions) c.requires,
+  subst (λ (all : List Session). AreLive c.args._script.now c.args.stations.items all) (sym c.in_ok-callers.ensures.sessions) c.requires.live,
 )
 
-pub returns : goal.returns
-returns g c =
+pub returns-clause-ended : goal.returns-clause-ended
+returns-clause-ended g c =
     let live : AreLive c.args._script.now c.args.stations.items c.in_ok-callers.sessions.items =
-    subst (λ (all : List Session). AreLive c.args._script.now c.args.stations.items all) (sym c.in_ok-callers.ensures.sessions) c.requires in
+    subst (λ (all : List Session). AreLive c.args._script.now c.args.stations.items all) (sym c.in_ok-callers.ensures.sessions) c.requires.live in
     record {
       serves = subst (λ (all : List Session). IsServedRun c.args._script.now all c.in_ok-script.script c.in_ok-script.run'.entries)
           c.in_ok-callers.ensures.sessions (c.in_ok-script.ensures.served c.args._script.now live);
       ends = c.in_ok-script.ensures.ends;
+      within = c.in_ok-script.ensures.within;
+      far = c.in_ok-script.ensures.far;
+      made = c.in_ok-script.ensures.made;
       callers = sym c.in_ok-callers.ensures.callers;
     }
