@@ -1,5 +1,6 @@
 -- Each field of what is said of small inputs of nested transactions.
 use Rattle.std.proofs.Common.{◌≡◌, ◌<◌, ◌⊎◌, ◌++◌, ◌∷◌, ℕ, List, [], Ok, Err, IsOk, Option, Some, None, IfSome, refl, sym, ap, subst, inl, inr, arith, ◌∙◌, Result, codes}
+use Rattle.std.proofs.lemmas.Bool.{false≢true}
 use Rattle.std.specs.Fmt.{digits}
 use Rattle.std.specs.Io.KnownBytes.{Appends}
 use Rattle.lt_modes.specs.Modes.{conflicts}
@@ -140,7 +141,7 @@ unfolding text.cut_at text.lines text.words input.input_after_line input.read_li
 first_refused = refl
 
 not_wanted : LinesMayWantMemory refused_first → ⊥
-not_wanted (inl ok) = subst (λ (r : Result InputData ℕ). IsOk r) first_refused ok
+not_wanted (inl ok) = false≢true (subst (λ (r : Result InputData ℕ). IsOk r) first_refused ok)
 not_wanted (inr well) =
     none_well (codes "p lock s read") (codes "set s" ∷ []) well.first well.later well.read (sym first_lines ∙ well.parts) first_line well.good well.some
 
