@@ -79,23 +79,3 @@ fn the_most_begin(rt: HostRuntime) {
     holds(&rt, nest.begin(None) == Err(BeginError::Full));
     kept(&nest);
 }
-
-// A child of the writer needn't wait behind four readers, who do.
-#[test]
-fn a_child_passes_who_waits(rt: HostRuntime) {
-    let mut nest = Nest::new(rt.alloc(), 1).expect(&rt, "memory");
-    holds(&rt, nest.begin(None) == Ok(0));
-    holds(&rt, nest.lock(0, 0, Mode::Write) == Ok(Asked::Granted));
-    holds(&rt, nest.begin(Some(0)) == Ok(1));
-    for reader in 2..6 {
-        holds(&rt, nest.begin(None) == Ok(reader));
-        holds(
-            &rt,
-            nest.lock(reader, 0, Mode::IntentionRead) == Ok(Asked::Waits),
-        );
-    }
-    holds(
-        &rt,
-        nest.lock(1, 0, Mode::IntentionRead) == Ok(Asked::Granted),
-    );
-}
