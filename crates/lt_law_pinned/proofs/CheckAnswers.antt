@@ -1,5 +1,5 @@
 -- What `check` says of the small journals.
-use Rattle.std.proofs.Common.{◌≡◌, ℕ, List, [], ◌∷◌, ◌++◌, Ok, Err, Some, refl, ap, ap₂, subst, ◌∙◌, arith, inl, inr, drop, ◌≢◌, ◌+◌, true, sym, subst₂, Result, take, codes, length, Option}
+use Rattle.std.proofs.Common.{◌≡◌, ℕ, List, [], ◌∷◌, ◌++◌, Ok, Err, Some, refl, ap, ap₂, subst, ◌∙◌, arith, inl, inr, drop, ◌≢◌, ◌+◌, true, sym, subst₂, Result, take, codes, decimal, length, Option}
 use Rattle.std.proofs.lemmas.Bool.{false≢true}
 use Rattle.lt_modes.specs.Script.{ScriptData}
 use Rattle.lt_modes.specs.Modes.{conflicts}
@@ -25,7 +25,7 @@ use Rattle.lt_checker.specs.declared.limits.TheConstants.{MAX_JOURNAL}
 use Rattle.lt_call.specs.Outcomes.{IsEnding, SaysOfSource, SaysOfSink, WritesNothing}
 use Rattle.lt_call.specs.Scripts.{HasFault}
 use Rattle.lt_serve.specs.declared.status.Status.TheVariants.{Done, Stuck, Usage, Refused, TooLong, ReadFault, WriteFault, NoMemory, Cut, BadJournal}
-use Rattle.lt_serve.specs.TopCall.{Checks, ok_text, Did}
+use Rattle.lt_serve.specs.TopCall.{Checks, Did}
 use Rattle.lt_serve.specs.declared.limits.TheConstants.{MAX_INPUT}
 use Rattle.lt_serve.specs.declared.status.Status.{Status}
 use Rattle.lt_serve.specs.Status.{outcome_of}
@@ -112,6 +112,9 @@ never_bad line is =
 pub without_fault : (fault : ScriptFault) → HasFaultBefore (Some checked_lock) fault → ⊥
 without_fault fault h =
     script_or_fault one_lock_script fault (read_of one_lock) one_lock_read (subst (λ (bytes : List ℕ). read_of bytes ≡ Err fault) right_before h)
+
+ok_text : List Logged → List ℕ
+ok_text run = codes "ok " ++ decimal (length run) ++ codes "\n"
 
 ok_one : ok_text (the_move ∷ []) ≡ codes "ok 1\n"
 ok_one = ap (λ (number : List ℕ). codes "ok " ++ number ++ codes "\n") one_text
@@ -287,7 +290,7 @@ serves_say state held faults = record {
     | inr wants ↦ not_wanted (subst₂ (λ (x y : SourceState). WantsMemory x y) at_first lastly wants)
   ];
   wrong_words = λ answer s t k l h.
-      let usage = h.causes.no_command refl in
+      let usage = h.causes.usage.1 refl in
       (usage, h.unread refl, h.unwritten (subst (λ (a : Status). WritesNothing (outcome_of a)) (sym usage) tt));
   complete = λ answer s t k l h at_first lastly none still there.
       complete_says.check answer.status (complete_so answer.status (state s) (state t) (faults k) (faults l) at_first lastly none still h.complete) there;

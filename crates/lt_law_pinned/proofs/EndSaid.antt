@@ -48,9 +48,9 @@ order_says = record {
       t.2 ∙ ap (λ (text : List ℕ). old ++ text) (t.1.told ∙ (ap line_of same ∙ given_up_line));
   no_run = λ run old new t. t.1.no_run;
   never_stuck = λ run old new t. not_done t.1.done;
-  never_first = λ h. h.stuck refl given_up_script given_up_read given_up_ordered;
-  never_drawn = λ seed h. h.stuck refl given_up_script given_up_read given_up_ordered;
-  never_on_threads = λ h. h.stuck refl given_up_script given_up_read given_up_ordered;
+  never_first = λ h. h.stuck refl (given_up_script, given_up_read, given_up_ordered);
+  never_drawn = λ seed h. h.stuck refl (given_up_script, given_up_read, given_up_ordered);
+  never_on_threads = λ h. h.stuck refl (given_up_script, given_up_read, given_up_ordered);
 }
   where
     not_done : Stuck ≡ Done → ⊥

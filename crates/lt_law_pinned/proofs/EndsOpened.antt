@@ -29,9 +29,9 @@ soak_well seed answer there =
 
 pub order_ends : OrderEnds
 order_ends = record {
-  first_never = λ bytes script so h. h.stuck refl script so.read so.ordered;
-  drawn_never = λ seed bytes script so h. h.stuck refl script so.read so.ordered;
-  threads_never = λ bytes script so h. h.stuck refl script so.read so.ordered;
+  first_never = λ bytes script so h. h.stuck refl (script, so.read, so.ordered);
+  drawn_never = λ seed bytes script so h. h.stuck refl (script, so.read, so.ordered);
+  threads_never = λ bytes script so h. h.stuck refl (script, so.read, so.ordered);
   first_done = λ bytes script answer before after w v is so well ends.
       ends.ordered well (denotes before.left bytes script is so);
   drawn_done = λ seed bytes script answer before after w v is so well ends.

@@ -11,8 +11,8 @@ use Rattle.lt_law_pinned.specs.OtherAnswers.{WordsSay, FaultSays, CountsSay, no_
 
 pub words_say : WordsSay
 words_say = record {
-  wrong = λ left answer h. h.no_command refl;
-  right = λ left h. not_none (h.usage refl);
+  wrong = λ left answer h. h.usage.1 refl;
+  right = λ left h. not_none (h.usage.0 refl);
   nothing = λ run old new t. (t.0, same_bytes new old t.1);
   no_command = λ answer run old new t. (t.0, same_bytes new old t.1);
 }

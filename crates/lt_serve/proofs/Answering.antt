@@ -23,19 +23,19 @@ use Rattle.lt_call.proofs.Answering.{HasWritten, is_other, rose, written_reading
 use Rattle.lt_call.specs.Outcomes.{IsEnding, WritesNothing, SaysOfSource, SaysOfSink}
 use Rattle.lt_serve.specs.declared.status.Status.{Status}
 use Rattle.lt_serve.specs.declared.status.Status.TheVariants.{Stuck, Done, Usage, Refused, TooLong, ReadFault, WriteFault, NoMemory, Cut, BadJournal}
-use Rattle.lt_serve.specs.Causes.{HasStatusCause, MayGetStuck, CanBeMade, IsRefusal, IsUnordered, WantsToRead, reads, limit_of}
+use Rattle.lt_serve.specs.Causes.{HasStatusCause, CanBeMade, IsRefusal, RunsOrdered, WantsToRead, reads, limit_of}
 use Rattle.lt_serve.specs.Status.{outcome_of}
 use Rattle.lt_serve.specs.Endings.{EndsAs, RanTo, status_of_end}
 use Rattle.lt_serve.specs.TopCall.{Journals, JournalsBy, DidOf}
 use Rattle.lt_serve.specs.declared.serving.Served.{Served}
 use Rattle.lt_serve.specs.Serves.{IsComplete, IsAnswered, Serves}
 use Rattle.lt_serve.proofs.Completing.{complete_of, refusal_complete}
+use Rattle.lt_serve.proofs.Stuck.{stuck_unordered}
 
 pub written_causes : (asked : Option Command) (command : Command) (left : Option (List ℕ)) (status : Status) → asked ≡ Some command
-    → HasWritten (outcome_of status) → (status ≡ Stuck → MayGetStuck asked left) → HasStatusCause asked left status
+    → HasWritten (outcome_of status) → (status ≡ Stuck → RunsOrdered asked left → ⊥) → HasStatusCause asked left status
 written_causes asked command left status is h stuck = record {
-  usage = λ e. absurd (is_other (outcome_of status) outcome.Usage h tt (ap outcome_of e));
-  no_command = λ none. absurd (not_none (sym none ∙ is));
+  usage = (λ e. absurd (is_other (outcome_of status) outcome.Usage h tt (ap outcome_of e)), λ none. absurd (not_none (sym none ∙ is)));
   refused = λ fault e. absurd (is_other (outcome_of status) outcome.Refused h tt (ap outcome_of e));
   bad_journal = λ line e. absurd (is_other (outcome_of status) outcome.BadJournal h tt (ap outcome_of e));
   stuck = stuck;
@@ -49,8 +49,7 @@ written_causes asked command left status is h stuck = record {
 pub refused_causes : (asked : Option Command) (command : Command) (left : Option (List ℕ)) (status : Status) → asked ≡ Some command
     → IsRefusal command left status → HasStatusCause asked left status
 refused_causes asked command left status is h = subst (λ (a : Option Command). HasStatusCause a left status) (sym is) (record {
-  usage = λ e. absurd (subst (λ (s : Status). IsRefusal command left s) e h);
-  no_command = λ none. absurd (not_none none);
+  usage = (λ e. absurd (subst (λ (s : Status). IsRefusal command left s) e h), λ none. absurd (not_none none));
   refused = λ fault e. (subst (λ (s : Status). IsRefusal command left s) e h).1;
   bad_journal = λ line e. let k = subst (λ (s : Status). IsRefusal command left s) e h in (ap Some k.1, k.2);
   stuck = λ e. absurd (subst (λ (s : Status). IsRefusal command left s) e h);
@@ -128,34 +127,6 @@ ran_to moves end script run promises finish is_script is_run within e = record {
   promised = promises script run (whole script is_script) is_run;
   ordered = not_stuck moves end script run is_script is_run e finish;
 }
-
--- of bytes that denote an ordered script no run ended with a client waiting
-unordered : (moves : ℕ) (left : Option (List ℕ)) (run : List Logged) (text : List ℕ) → Journals moves Stuck left run text → IsUnordered left
-unordered moves None run text j = tt
-unordered moves (Some bytes) run text j =
-    λ script read ordered. j.ran.ordered (subst IsOrdered (same script j.script (read_of bytes) read j.denoted) ordered) refl
-  where
-    same : (a b : ScriptData) (answer : Result ScriptData ScriptFault) → answer ≡ Ok a → answer ≡ Ok b → a ≡ b
-    same a b answer e f = cc
-
-not_done : Stuck ≡ Done → ⊥
-not_done e = cc
-
-by_stuck : (moves : ℕ) (command : Command) (left : Option (List ℕ)) (run : List Logged) (text : List ℕ) → JournalsBy moves command Stuck left run text
-    → MayGetStuck (Some command) left
-by_stuck moves SimFirst left run text does = unordered moves left run text does.journals
-by_stuck moves (Sim seed) left run text does = unordered moves left run text does.journals
-by_stuck moves Run left run text does = unordered moves left run text does.journals
-by_stuck moves (Soak seed) left run text does = λ ordered. does.ran.ordered ordered refl
-by_stuck moves (Make nodes clients commands seed) left run text does = not_done does.0
-by_stuck moves Check left run text does = not_done does.done
-by_stuck moves Order left run text does = not_done does.done
-
-pub stuck_cause : (moves : ℕ) (command : Command) (status : Status) (left : Option (List ℕ)) (run : List Logged) (old new : Option (List ℕ))
-    → DidOf moves command status left run old new → status ≡ Stuck → MayGetStuck (Some command) left
-stuck_cause moves command status left run old new told e =
-    let wrote = subst (λ (s : Status). DidOf moves command s left run old new) e told in
-    by_stuck moves command left run wrote.0 wrote.1
 
 -- What an answer says of a command: once its text is written, and where it came to no end.
 
@@ -255,7 +226,7 @@ written_serves state held write_faults moves asked command answer before after s
     subst (λ (a : Option Command). Serves state held write_faults moves a answer before after sink sink_after) (sym is) (record {
       did = told;
       causes = written_causes (Some command) command (state before).left answer.status refl written
-          (stuck_cause moves command answer.status (state before).left answer.run.entries (held sink) (held sink_after) told);
+          (stuck_unordered moves command answer.status (state before).left answer.run.entries (held sink) (held sink_after) told);
       memory = λ e asks. absurd (is_other (outcome_of answer.status) outcome.NoMemory written tt (ap outcome_of e));
       reading = λ read. written_reading (limit_of (Some command)) (outcome_of answer.status) (state before) (state after) (whole read) written;
       unread = unread;

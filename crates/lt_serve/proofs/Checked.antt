@@ -1,5 +1,5 @@
 -- What `check` answers, by what its input says.
-use Rattle.std.proofs.Common.{◌≡◌, ◌∙◌, ℕ, List, Option, refl, sym, ap, subst}
+use Rattle.std.proofs.Common.{◌≡◌, ◌∙◌, ◌++◌, ℕ, List, length, codes, decimal, Option, refl, sym, ap, subst}
 use Rattle.lt_io.specs.Streams.{SourceState, IsReadWhole}
 use Rattle.lt_call.specs.declared.outcome.Outcome.TheVariants as outcome
 use Rattle.lt_call.specs.Outcomes.{SaysOfSource}
@@ -19,12 +19,12 @@ use Rattle.lt_serve.specs.declared.made.Made.{Made}
 use Rattle.lt_serve.specs.declared.status.Status.TheVariants.{Done, NoMemory}
 use Rattle.lt_serve.specs.Causes.{IsRefusal, status_of_input}
 use Rattle.lt_serve.specs.Status.{outcome_of}
-use Rattle.lt_serve.specs.TopCall.{Checks, ok_text}
+use Rattle.lt_serve.specs.TopCall.{Checks}
 
 -- the number of moves of the run is the answer to the input that tells the run
 pub counted : (left : Option (List ℕ)) (script : ScriptData) (world : WorldData) (run : List Logged) (made : Made) → IsScript script → IsEndedRun left script world
     → run ≡ world.run → Promised script world.run
-    → (made.ending ≡ Done) × (made.run.entries ≡ run) × (made.text.items ≡ ok_text run) → Checks made.ending left made.run.entries made.text.items
+    → (made.ending ≡ Done) × (made.run.entries ≡ run) × (made.text.items ≡ codes "ok " ++ decimal (length run) ++ codes "\n") → Checks made.ending left made.run.entries made.text.items
 counted left script world run made kept ended is promised h =
     let same : world.run ≡ made.run.entries = sym is ∙ sym h.1 in
     record {
@@ -35,7 +35,7 @@ counted left script world run made kept ended is promised h =
       accepted = subst (λ (r : List Logged). IsJournalOf left script r) same ended.accepted;
       finished = subst (λ (r : List Logged). IsFinished script r) same ended.finished;
       promised = subst (λ (r : List Logged). Promised script r) same promised;
-      counted = h.2 ∙ ap ok_text (sym h.1);
+      counted = h.2 ∙ ap (λ (r : List Logged). codes "ok " ++ decimal (length r) ++ codes "\n") (sym h.1);
     }
 
 -- what an answer says of the source, where the input says nothing

@@ -4,3 +4,4 @@ mod Completing
 pub mod NeverCut
 pub mod Ordered
 mod Rooms
+mod Stuck

@@ -5,14 +5,13 @@ use Rattle.lt_modes.specs.Script.{ScriptData}
 use Rattle.lt_spec.specs.World.{Logged}
 use Rattle.lt_law_ends.specs.EndLaws.{NeverCutAtAll}
 use Rattle.lt_call.specs.Outcomes.{IsEnding}
-use Rattle.lt_call.specs.Scripts.{DenotesOrdered}
 use Rattle.lt_words.specs.declared.command.Command.{Command}
 use Rattle.lt_words.specs.declared.command.Command.TheVariants.{Run, SimFirst, Sim, Check, Make, Soak, Order}
 use Rattle.lt_serve.specs.declared.serving.Served.{Served}
 use Rattle.lt_serve.specs.declared.status.Status.{Status}
 use Rattle.lt_serve.specs.declared.status.Status.TheVariants.{Done, Stuck, Usage, Refused, TooLong, ReadFault, WriteFault, NoMemory, Cut, BadJournal}
-use Rattle.lt_serve.specs.Causes.{MayGetStuck, IsUnordered}
-use Rattle.lt_serve.specs.Serves.{IsComplete, IsAnswered, GoesWell, Ends, RunsOrdered, Serves}
+use Rattle.lt_serve.specs.Causes.{RunsOrdered}
+use Rattle.lt_serve.specs.Serves.{IsComplete, IsAnswered, GoesWell, Ends, Serves}
 use Rattle.lt_serve.specs.Endings.{RanTo}
 use Rattle.lt_serve.specs.Status.{outcome_of}
 use Rattle.lt_serve.specs.TopCall.{JournalsBy, DidOf, Did, greatest_script}
@@ -75,24 +74,10 @@ rests : (asked : Option Command) (status : Status) (before after : SourceState) 
 rests asked status before after w v complete uncut well =
     answered_rests well.command status (complete well) uncut
 
-denoted_not_stuck : (left : Option (List ℕ)) → DenotesOrdered left → IsUnordered left → ⊥
-denoted_not_stuck None ordered unordered = ordered
-denoted_not_stuck (Some bytes) ordered unordered = unordered ordered.0 ordered.1 ordered.2
-
-not_stuck : (asked : Option Command) (left : Option (List ℕ)) → RunsOrdered asked left → MayGetStuck asked left → ⊥
-not_stuck None left ordered stuck = ordered
-not_stuck (Some SimFirst) left ordered stuck = denoted_not_stuck left ordered stuck
-not_stuck (Some (Sim seed)) left ordered stuck = denoted_not_stuck left ordered stuck
-not_stuck (Some Run) left ordered stuck = denoted_not_stuck left ordered stuck
-not_stuck (Some (Soak seed)) left ordered stuck = stuck ordered
-not_stuck (Some Check) left ordered stuck = ordered
-not_stuck (Some Order) left ordered stuck = ordered
-not_stuck (Some (Make nodes clients commands seed)) left ordered stuck = ordered
-
 done_of : (asked : Option Command) (status : Status) (left : Option (List ℕ)) → (status ≡ Done) ⊎ (status ≡ Stuck)
-    → (status ≡ Stuck → MayGetStuck asked left) → RunsOrdered asked left → status ≡ Done
+    → (status ≡ Stuck → RunsOrdered asked left → ⊥) → RunsOrdered asked left → status ≡ Done
 done_of asked status left (inl done) stuck ordered = done
-done_of asked status left (inr same) stuck ordered = absurd (not_stuck asked left ordered (stuck same))
+done_of asked status left (inr same) stuck ordered = absurd (stuck same ordered)
 
 -- the usual limit of moves
 pub usual_is_far : 2 ^ 30 ≤ 1073741824
@@ -107,7 +92,7 @@ ends state held write_faults moves asked answer before after sink sink_after nev
     let w = write_faults sink in
     let v = write_faults sink_after in
     let uncut = never_cut moves asked answer.status (state before).left answer.run.entries (held sink) (held sink_after) never far
-    serves.did serves.causes.no_command in
+    serves.did serves.causes.usage.1 in
     let rest = rests asked answer.status (state before) (state after) w v serves.complete uncut in
     record {
       never_cut = uncut;

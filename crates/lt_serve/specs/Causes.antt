@@ -1,10 +1,10 @@
 -- Why an answer comes, and what it says of the source and the sink.
-use Rattle.std.specs.Prelude.{◌≡◌, Bool, true, false, ℕ, Option, Some, None, IfSome, Ok, List}
+use Rattle.std.specs.Prelude.{◌≡◌, ◌↔◌, Bool, true, false, ℕ, Option, Some, None, IfSome, Ok, List}
 use Rattle.lt_io.specs.Streams.{Rose, SourceState}
 use Rattle.lt_script.specs.declared.fault.ScriptFault.{ScriptFault}
 use Rattle.lt_script.specs.Reading.{read_of}
 use Rattle.lt_spec.specs.Script.{IsOrdered}
-use Rattle.lt_call.specs.Scripts.{HasFault}
+use Rattle.lt_call.specs.Scripts.{HasFault, DenotesOrdered}
 use Rattle.lt_words.specs.declared.command.Command.{Command}
 use Rattle.lt_words.specs.declared.command.Command.TheVariants.{Run, SimFirst, Sim, Check, Make, Soak}
 use Rattle.lt_modes.specs.Script.{ScriptData}
@@ -35,6 +35,27 @@ abbrev pub HasFirstFault : Option Command → Option (List ℕ) → ScriptFault 
 HasFirstFault (Some Check) left fault = HasFaultBefore left fault
 HasFirstFault other left fault = HasFault left fault
 
+-- the command makes a run, of an ordered script
+abbrev pub RunsOrdered : Option Command → Option (List ℕ) → Type 0
+RunsOrdered (Some SimFirst) left = DenotesOrdered left
+RunsOrdered (Some (Sim seed)) left = DenotesOrdered left
+RunsOrdered (Some Run) left = DenotesOrdered left
+RunsOrdered (Some (Soak seed)) left = IsOrdered (greatest_script seed)
+RunsOrdered other left = ⊥
+
+-- why a command is answered so, where the source had these bytes left: each answer has a cause here but want of memory, and but
+-- for the other ends of a run, of which `Did` speaks
+pub record HasStatusCause (asked : Option Command) (left : Option (List ℕ)) (answer : Status) : Type 0 where
+  pub usage : answer ≡ Usage ↔ asked ≡ None
+  pub refused : (fault : ScriptFault) → answer ≡ Refused fault → HasFirstFault asked left fault
+  pub bad_journal : (line : ℕ) → answer ≡ BadJournal line → (asked ≡ Some Check) × IsBad left line
+  pub stuck : answer ≡ Stuck → RunsOrdered asked left → ⊥
+  -- these come of reading alone
+  pub read_fault : answer ≡ ReadFault → reads asked ≡ true
+  pub too_long : answer ≡ TooLong → reads asked ≡ true
+
+-- Which command may be answered that its run is stuck, at all.
+
 -- if the bytes are known, the script that they denote isn't ordered
 abbrev pub IsUnordered : Option (List ℕ) → Type 0
 IsUnordered left = IfSome left (λ bytes. (script : ScriptData) → read_of bytes ≡ Ok script → IsOrdered script → ⊥)
@@ -46,18 +67,6 @@ MayGetStuck (Some (Sim seed)) left = IsUnordered left
 MayGetStuck (Some Run) left = IsUnordered left
 MayGetStuck (Some (Soak seed)) left = IsOrdered (greatest_script seed) → ⊥
 MayGetStuck other left = ⊥
-
--- why a command is answered so, where the source had these bytes left: each answer has a cause here but want of memory, and but
--- for the other ends of a run, of which `Did` speaks
-pub record HasStatusCause (asked : Option Command) (left : Option (List ℕ)) (answer : Status) : Type 0 where
-  pub usage : answer ≡ Usage → asked ≡ None
-  pub no_command : asked ≡ None → answer ≡ Usage
-  pub refused : (fault : ScriptFault) → answer ≡ Refused fault → HasFirstFault asked left fault
-  pub bad_journal : (line : ℕ) → answer ≡ BadJournal line → (asked ≡ Some Check) × IsBad left line
-  pub stuck : answer ≡ Stuck → MayGetStuck asked left
-  -- these come of reading alone
-  pub read_fault : answer ≡ ReadFault → reads asked ≡ true
-  pub too_long : answer ≡ TooLong → reads asked ≡ true
 
 -- where memory may be wanting, once a command reads: bytes came, and of what `check` read this is known
 abbrev pub WantsToRead : Option Command → SourceState → SourceState → Type 0

@@ -1,6 +1,5 @@
 -- What a command answers where nothing goes wrong.
 use Rattle.std.specs.Prelude.{◌≡◌, ◌≢◌, ◌<◌, true, ℕ, ◌+◌, length, Option, Some, ◌⊎◌, List, Err, false}
-use Rattle.lt_spec.specs.Script.{IsOrdered}
 use Rattle.lt_io.specs.Streams.{Rose, RoseBy, SourceState}
 use Rattle.lt_script.specs.declared.fault.ScriptFault.{ScriptFault}
 use Rattle.lt_script.specs.Reading.{read_of}
@@ -8,12 +7,11 @@ use Rattle.lt_words.specs.declared.command.Command.{Command}
 use Rattle.lt_words.specs.declared.command.Command.TheVariants.{Check, Make, Order, Run, SimFirst, Sim, Soak}
 use Rattle.lt_checker.specs.Input.{IsBad}
 use Rattle.lt_call.specs.Outcomes.{IsEnding, SaysOfSource, SaysOfSink, WritesNothing}
-use Rattle.lt_call.specs.Scripts.{DenotesOrdered}
 use Rattle.lt_serve.specs.declared.status.Status.{Status}
 use Rattle.lt_serve.specs.declared.status.Status.TheVariants.{Done, NoMemory, Stuck, Cut, Refused}
-use Rattle.lt_serve.specs.Causes.{HasFirstFault, reads, limit_of, HasStatusCause, WantsToRead}
+use Rattle.lt_serve.specs.Causes.{RunsOrdered, HasFirstFault, reads, limit_of, HasStatusCause, WantsToRead}
 use Rattle.lt_serve.specs.Status.{outcome_of}
-use Rattle.lt_serve.specs.TopCall.{greatest_script, Did}
+use Rattle.lt_serve.specs.TopCall.{Did}
 use Rattle.lt_serve.specs.declared.serving.Served.{Served}
 
 -- the source failed at no read and gave no more than the input may have, and its bytes are known: their script has no fault,
@@ -47,14 +45,6 @@ IsComplete asked answer before after writes_before writes_after =
     (well : GoesWell asked answer before after writes_before writes_after) → IsAnswered well.command answer
 
 -- That every run comes to rest, where a node may make more moves than any run has.
-
--- the command makes a run, of an ordered script
-abbrev pub RunsOrdered : Option Command → Option (List ℕ) → Type 0
-RunsOrdered (Some SimFirst) left = DenotesOrdered left
-RunsOrdered (Some (Sim seed)) left = DenotesOrdered left
-RunsOrdered (Some Run) left = DenotesOrdered left
-RunsOrdered (Some (Soak seed)) left = IsOrdered (greatest_script seed)
-RunsOrdered other left = ⊥
 
 -- no run is cut: each comes to rest, unless something goes wrong
 pub record Ends (asked : Option Command) (answer : Status) (before after : SourceState) (writes_before writes_after : ℕ) : Type 0 where

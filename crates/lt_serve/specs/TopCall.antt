@@ -65,11 +65,7 @@ abbrev pub Prints : ℕ → ℕ → ℕ → ℕ → Status → List Logged → L
 Prints nodes clients commands seed ending run text =
     (ending ≡ Done) × (run ≡ []) × (text ≡ print_of (script_of nodes clients commands seed))
 
--- `ok` and the number of moves
-abbrev pub ok_text : List Logged → List ℕ
-ok_text run = codes "ok " ++ decimal (length run) ++ codes "\n"
-
--- the input is a script and the journal of a run of it that ended at rest, which is the answer's, and the number of its moves is written
+-- the input is a script and the journal of a run of it that ended at rest, which is the answer's, and `ok` with the number of its moves is written
 pub record Checks (ending : Status) (left : Option (List ℕ)) (run : List Logged) (text : List ℕ) : Type 0 where
   pub done : ending ≡ Done
   pub script : ScriptData
@@ -78,7 +74,7 @@ pub record Checks (ending : Status) (left : Option (List ℕ)) (run : List Logge
   pub accepted : IsJournalOf left script run
   pub finished : IsFinished script run
   pub promised : Promised script run
-  pub counted : text ≡ ok_text run
+  pub counted : text ≡ codes "ok " ++ decimal (length run) ++ codes "\n"
 
 -- `ordered`, or `not ordered` and this client
 abbrev pub order_answer : ScriptData → Option ℕ → List ℕ

@@ -1,4 +1,4 @@
-ghost use Rattle.std.specs.Prelude.{◌≡◌, ◌++◌, codes, IfOk, OnOk, IfErr};
+ghost use Rattle.std.specs.Prelude.{◌≡◌, ◌++◌, codes, length, IfOk, OnOk, IfErr};
 ghost use Rattle.std.specs.Fmt.{decimal};
 ghost use Rattle.std.specs.String.{string_bytes};
 ghost use Rattle.lt_call.specs.Outcomes.{SaysOfSource};
@@ -8,7 +8,7 @@ ghost use Rattle.lt_checker.specs.declared.limits.TheConstants.{MAX_JOURNAL};
 ghost use Rattle.lt_words.specs.declared.command.Command.TheVariants as command;
 ghost use Rattle.lt_serve.specs.Causes.{IsRefusal};
 ghost use Rattle.lt_serve.specs.Status.{outcome_of};
-ghost use Rattle.lt_serve.specs.TopCall.{Checks, ok_text};
+ghost use Rattle.lt_serve.specs.TopCall.{Checks};
 
 use crate::made::Made;
 use crate::status::Status;
@@ -39,7 +39,7 @@ pub(crate) fn checked<S: Source>(alloc: Global, source: &mut S) -> Result<Made, 
 
 // The run, with the line that says the number of its moves.
 fn with_count(alloc: Global, run: Run) -> Result<Made, AllocError>
-    ensures { IfOk result (λ made. (made.ending ≡ Status.Done) × (made.run.entries ≡ run.entries) × (made.text.items ≡ ok_text run.entries)) }
+    ensures { IfOk result (λ made. (made.ending ≡ Status.Done) × (made.run.entries ≡ run.entries) × (made.text.items ≡ codes "ok " ++ decimal (length run.entries) ++ codes "\n")) }
 {
     let text = count_line(alloc, run.len())?;
     Ok(Made {

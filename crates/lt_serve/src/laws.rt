@@ -1,7 +1,12 @@
-ghost use Rattle.std.specs.Prelude.{◌≡◌, List, length};
+ghost use Rattle.std.specs.Prelude.{◌≡◌, ℕ, List, Option, length};
 ghost use Rattle.lt_modes.specs.Script.{ScriptData};
 ghost use Rattle.lt_spec.specs.World.{Logged};
 ghost use Rattle.lt_spec.specs.FixedOrder.{first_run};
+ghost use Rattle.lt_words.specs.declared.command.Command.{Command};
+ghost use Rattle.lt_serve.specs.declared.status.Status.{Status};
+ghost use Rattle.lt_serve.specs.declared.status.Status.TheVariants.{Stuck};
+ghost use Rattle.lt_serve.specs.Causes.{HasStatusCause, MayGetStuck};
+ghost use Rattle.lt_serve.specs.TopCall.{Did};
 ghost use Rattle.lt_serve.specs.declared.schedule.Schedule.TheVariants.{First};
 ghost use Rattle.lt_serve.specs.Schedules.{AreInOrder};
 ghost use Rattle.lt_serve.specs.Literals.{CodesAre, TextsAre, SoakLimitsAre, SoakIs};
@@ -22,4 +27,11 @@ pub fn law_literals()
 pub fn law_fixed_order()
     ensures { (script : ScriptData) → (run : List Logged) → AreInOrder First script run
         → run ≡ first_run script (length run) }
+{}
+
+/// An answer that a run is stuck is that of a command that makes one, of a script that isn't ordered.
+pub fn law_stuck()
+    ensures { (moves : ℕ) → (asked : Option Command) → (status : Status) → (left : Option (List ℕ)) → (run : List Logged)
+        → (old new : Option (List ℕ)) → Did moves asked status left run old new → HasStatusCause asked left status
+        → status ≡ Stuck → MayGetStuck asked left }
 {}

@@ -18,7 +18,7 @@ mod status;
 mod threaded;
 
 pub use arguments::program;
-pub use laws::{law_fixed_order, law_literals};
+pub use laws::{law_fixed_order, law_literals, law_stuck};
 pub use limits::MAX_INPUT;
 pub use lt_checker::MAX_JOURNAL;
 pub use lt_mail::MAX_CAPACITY;
