@@ -37,6 +37,14 @@ exit 0'
 # The stand-in for the toolchain: an empty input has a fault. It says more than the program, and its own status may be
 # another one than the program's; the first line of the input may ask for that.
 toolchain='#!/bin/sh
+if [ "$2" = --cases ]; then
+  for words in "$3"/*.args; do
+    case=${words%.args}
+    cat "$case" >/dev/null && case $(tail -n 1 "$words") in *5) status=7 ;; *8) status=6 ;; *) status=3 ;; esac
+    echo "case=${case##*/} run=ended status=$status runners=1 races=unchecked proved=no" >&2
+  done
+  exit 0
+fi
 shift 2
 [ -d /dev/stdin ] && exit 99
 printf "<%s>" "$@"; echo
@@ -195,8 +203,11 @@ status 4' "$(said "$top/lockrun" seeds 1 2 </)"
 expect 'seeds on a full disk' 'lockrun: write fault
 status 5' "$(echo x | said sh -c "'$top/lockrun' seeds 1 2 >/dev/full")"
 expect 'seeds, unproved' 'lockrun: not proved: no program is built from these sources (./build makes it), so this takes a minute or more
-lockrun: so each further seed takes as long as the first
-status 3' "$(echo '# stuck' | (PATH=$with_rt && said "$room/bare/lockrun" seeds 1 2) | grep -e '^lockrun' -e '^status [0-9]')"
+lockrun: so the further seeds take as long together as the first
+0, done           0
+3, stuck          8   first: 1
+7, cut            1   first: 5
+status 3' "$(echo '# stuck' | (PATH=$with_rt && said "$room/bare/lockrun" seeds 1 9) | grep -e '^lockrun' -e '^[037],' -e '^status [0-9]')"
 expect 'seeds, no toolchain' 'status 127' "$( (PATH=$room/no-rt && said "$room/bare/lockrun" seeds 1 2 </dev/null) | tail -n 1)"
 yes | "$top/lockrun" seeds 1 1 >/dev/null
 expect 'seeds of an endless input' 1048577 "$(wc -c <"$top/crates/lockrun/out/lockrun.input")"
