@@ -1,6 +1,8 @@
 pub mod ScriptLemmas
 pub mod PartsLemmas
 pub mod NameLemmas
+pub mod FirstLineEnd
+pub mod OneModeLemmas
 pub mod FaultOrder
 pub mod PrintedLines
 pub mod RoundTrips

@@ -6,3 +6,4 @@ pub mod Reading
 pub mod Steps
 pub mod Printing
 pub mod Hints
+pub mod OneMode

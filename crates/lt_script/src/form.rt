@@ -155,9 +155,8 @@ fn command_form<'a>(client: &'a [u8], line: &'a [u8]) -> Option<Form<'a>>
     Some(Form::Command { client, asked })
 }
 
-/// What is asked for in a command's line, by what stands behind the client's name.
-#[inline(always)]
-pub fn asked_of<'a>(line: &'a [u8]) -> Option<CommandWords<'a>>
+// What is asked for in a command's line, by what stands behind the client's name.
+fn asked_of<'a>(line: &'a [u8]) -> Option<CommandWords<'a>>
     ensures { option_map asked_seen result ≡ asked_of (words line.now) }
 {
     let Some((verb, rest)) = next_word(line) else {

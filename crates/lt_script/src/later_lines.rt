@@ -3,27 +3,42 @@ ghost use Rattle.std.specs.Prelude.{◌≡◌, ◌∷◌, None, Some, IfOk, OnOk
 ghost use Rattle.lt_text.specs.Text.{words};
 ghost use Rattle.lt_script.specs.Forms.{form_seen, asked_seen, SetForm, SetWithForm, ClientForm, CommandForm};
 ghost use Rattle.lt_script.specs.Faults.{form_fault, after_form};
+ghost use Rattle.lt_script.specs.OneMode.{one_mode_seen};
 ghost use Rattle.lt_script.specs.Steps.{ReadsForm, ReadsWords};
 
 use crate::fault::Fault;
-use crate::form::{CommandWords, Form, asked_of, begins_declaration, form_of};
+use crate::form::{CommandWords, Form, begins_declaration, form_of};
 use crate::line::{client_fault, later_nodes_fault, request_of, set_fault, set_with_fault};
+use crate::one_mode::{OneMode, one_mode, request_of_one_mode};
 use crate::script::Script;
 use lt_text::number;
 use std::alloc::AllocError;
 
 /// Adds what a line with these words says, or tells its first fault.
+#[inline(always)]
 pub fn add_line(script: &mut Script, word: &[u8], rest: &[u8]) -> Result<Option<Fault>, AllocError>
     ensures { IfOk result (λ fault. ReadsWords fault script.old script.new (word.now ∷ words rest.now)) }
 {
     if begins_declaration(word) {
-        let Some(form) = form_of(word, rest) else {
-            return Ok(Some(Fault::Form));
-        };
-        return add_form(script, form);
+        return add_other_line(script, word, rest);
     }
-    match asked_of(rest) {
-        Some(asked) => add_command_line(script, word, asked),
+    match one_mode(rest) {
+        Some(asked) => add_one_mode(script, word, asked),
+        None => add_other_line(script, word, rest),
+    }
+}
+
+// The same of a line of any form. Its code stays out of that for most lines.
+#[inline(never)]
+fn add_other_line(
+    script: &mut Script,
+    word: &[u8],
+    rest: &[u8],
+) -> Result<Option<Fault>, AllocError>
+    ensures { IfOk result (λ fault. ReadsWords fault script.old script.new (word.now ∷ words rest.now)) }
+{
+    match form_of(word, rest) {
+        Some(form) => add_form(script, form),
         None => Ok(Some(Fault::Form)),
     }
 }
@@ -111,7 +126,6 @@ fn add_client(script: &mut Script, name: &[u8], node: &[u8]) -> Result<(), Alloc
 }
 
 // Adds the command, or tells its line's first fault.
-#[inline(always)]
 fn add_command_line(
     script: &mut Script,
     client: &[u8],
@@ -121,6 +135,25 @@ fn add_command_line(
         (λ fault. ReadsForm fault script.old script.new (CommandForm client.now (asked_seen asked.entry))) }
 {
     match request_of(script, client, asked) {
+        Ok((client, command)) => {
+            script.add_command(client, command)?;
+            Ok(None)
+        }
+        Err(fault) => Ok(Some(fault)),
+    }
+}
+
+// The same of a command of one mode.
+#[inline(always)]
+fn add_one_mode(
+    script: &mut Script,
+    client: &[u8],
+    asked: OneMode<'_>,
+) -> Result<Option<Fault>, AllocError>
+    ensures { IfOk result
+        (λ fault. ReadsForm fault script.old script.new (CommandForm client.now (one_mode_seen asked.entry))) }
+{
+    match request_of_one_mode(script, client, asked) {
         Ok((client, command)) => {
             script.add_command(client, command)?;
             Ok(None)

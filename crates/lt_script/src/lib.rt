@@ -1,6 +1,7 @@
 //! Scripts: the nodes, the lock sets, the clients, and the commands that the clients make.
 #![tactic(auto)]
 
+mod cutting;
 mod declarations;
 mod fault;
 mod form;
@@ -10,6 +11,7 @@ mod laws;
 mod limits;
 mod line;
 mod name;
+mod one_mode;
 mod printing;
 mod reading;
 mod script;

@@ -5,13 +5,14 @@ ghost use Rattle.lt_script.specs.Faults.{declared, form_fault, after_form};
 ghost use Rattle.lt_script.specs.Reading.{ReadsLine, Reads, is_skipped, says_version, line_step, script_body, read_of};
 ghost use Rattle.lt_script.specs.Steps.{begins_comment, words_step, is_plain_line};
 
+use crate::cutting::first_line;
 use crate::fault::{Fault, ReadError, ScriptFault};
 use crate::form::{Form, form_of};
 use crate::later_lines::add_line;
 use crate::line::{fault_before_nodes, is_plain_line, is_plain_text};
 use crate::script::Script;
 use lt_spec::MAX_LINE;
-use lt_text::{next_line, next_word, number};
+use lt_text::{next_word, number};
 use std::alloc::{AllocError, Global};
 
 /// Reads a script.
@@ -27,7 +28,7 @@ pub fn read(alloc: Global, bytes: &[u8]) -> Result<Script, ReadError>
     let mut rest = body.rest;
     let mut number = body.number;
     let is_plain = is_plain_text(rest);
-    while let Some((line, after)) = next_line(rest) {
+    while let Some((line, after)) = first_line(rest) {
         let Ok(fault) = read_line(alloc, body.version, &mut script, line, is_plain) else {
             return Err(ReadError::Memory);
         };
@@ -68,7 +69,7 @@ fn body_of<'a>(bytes: &'a [u8]) -> Body<'a>
 {
     let mut rest = bytes;
     let mut number: u32 = 1;
-    while let Some((line, after)) = next_line(rest) {
+    while let Some((line, after)) = first_line(rest) {
         if !is_skipped(line) {
             if says_version(line) {
                 return Body {
