@@ -6,6 +6,6 @@ use Rattle.lt_script.specs.Views.{SayTheSame}
 -- parts and those that take their place, which are the same ones or a copy
 pub same_or_copy : (old new : Parts) → (new ≡ old) ⊎ SayTheSame old new → SayTheSame old new
 same_or_copy old new h = elim h [
-  | inl same ↦ rw same (refl, refl, refl)
+  | inl same ↦ rw same (refl, refl, refl, refl)
   | inr copy ↦ copy
 ]

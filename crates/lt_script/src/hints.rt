@@ -1,4 +1,4 @@
-ghost use Rattle.std.specs.Prelude.{◌≡◌, ◌<◌, replicate, slice_index, slice_set};
+ghost use Rattle.std.specs.Prelude.{◌≡◌, ◌<◌, length, replicate, slice_index, slice_set};
 ghost use Rattle.lt_script.specs.Hints.{slot_of};
 ghost use Rattle.lt_script.specs.declared.hints.TheConstants.{SLOTS};
 
@@ -7,7 +7,8 @@ const SLOTS: usize = 2048;
 /// Where names were declared, as guesses.
 ///
 /// A name has one of 2048 slots, and a slot keeps the place that was noted in it last. Names may have a slot in
-/// common, so whoever is told a place looks whether the name stands there: a wrong guess costs time alone.
+/// common, so whoever is told a place looks whether the name stands there: a wrong guess costs time alone. Where places
+/// are noted in rising order, no name stands behind the place in its slot.
 #[derive(Clone, Copy, Debug)]
 pub struct Hints {
     places: [u8; SLOTS],
@@ -22,7 +23,8 @@ impl Hints {
 
     /// Notes the place of the name.
     pub fn note(&mut self, name: &[u8], place: u8)
-        ensures { self.new.places ≡ slice_set self.old.places (slot_of name.now) place }
+        ensures noted { self.new.places ≡ slice_set self.old.places (slot_of name.now) place }
+        ensures inside { slot_of name.now < length self.old.places }
     {
         self.places[slot(name)] = place;
     }

@@ -30,12 +30,11 @@ impl Model for Script {
 
     ghost Value = { ScriptData };
 
-    ghost use Rattle.lt_spec.specs.Script.{IsScript};
-    ghost use Rattle.lt_script.specs.Views.{script_data};
+    ghost use Rattle.lt_script.specs.Views.{script_data, noted_places, IsNotedScript};
 
     ghost view = { script_data };
 
-    ghost invariant = { λ s. IsScript (script_data s) };
+    ghost invariant = { λ s. IsNotedScript (script_data s) (noted_places s) };
 }
 
 impl Script {

@@ -1,5 +1,5 @@
 // Sets and clients by their names.
-ghost use Rattle.std.specs.Prelude.{◌≡◌, ◌<◌, Some, length, position, IfSome, IsTrue};
+ghost use Rattle.std.specs.Prelude.{◌≡◌, ◌<◌, ◌+◌, Some, length, take, position, IfSome, IsTrue};
 ghost use Rattle.std.specs.Str.{bytes_eq};
 ghost use Rattle.lt_modes.specs.Script.{SetData, ClientData};
 ghost use Rattle.lt_spec.specs.Script.{set_number, client_number, is_declared};
@@ -34,7 +34,17 @@ impl Script {
         if self.is_client(guess, name) {
             return Some(guess);
         }
-        let Some(place) = place_of_client(&self.parts.clients, name) else {
+        self.searched_client(name)
+    }
+
+    // The same by a search, up to the place that is noted in the name's slot.
+    #[inline(never)]
+    fn searched_client(&self, name: &[u8]) -> Option<u16>
+        ensures number { result ≡ client_number self.now name.now }
+        ensures inside { IfSome result (λ client. client < length self.now.clients) }
+    {
+        let last = self.parts.client_hints.guess(name);
+        let Some(place) = place_of_client(first_clients(&self.parts.clients, last), name) else {
             return None;
         };
         Some(place as u16)
@@ -75,6 +85,18 @@ fn place_of_set(sets: &[SetDecl], name: &[u8]) -> Option<usize>
     ensures inside { IfSome result (λ place. place < length sets.now) }
 {
     sets.iter().position(|set| set.is_named(name))
+}
+
+// The clients up to this place.
+fn first_clients(clients: &[ClientDecl], last: u8) -> &[ClientDecl]
+    ensures { result.now ≡ take (last + 1) clients.now }
+{
+    let count = usize::from(last) + 1;
+    if clients.len() <= count {
+        return clients;
+    }
+    let (first, _) = clients.split_at(count);
+    first
 }
 
 // The place of the first client with this name.

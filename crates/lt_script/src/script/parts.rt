@@ -50,6 +50,7 @@ impl Parts {
         ensures sets { IfOk result (λ parts. parts.sets.items ≡ self.now.sets.items) }
         ensures clients { IfOk result (λ parts. parts.clients.items ≡ self.now.clients.items) }
         ensures commands { IfOk result (λ parts. parts.commands.items ≡ []) }
+        ensures noted { IfOk result (λ parts. parts.client_hints.places ≡ self.now.client_hints.places) }
     {
         let sets = self.sets.to_vec(alloc)?;
         let clients = self.clients.to_vec(alloc)?;

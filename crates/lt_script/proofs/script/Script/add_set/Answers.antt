@@ -14,4 +14,4 @@ invariant_of-self-2 c =
     let new = subst (λ (v : ScriptData). is_declared v x.name ≡ false) (sym at) c.requires.new in
     let room = subst (λ (v : ScriptData). length v.sets < MAX_SETS) (sym at) c.requires.room in
     let fits = subst (λ (v : ScriptData). IsFamilyOfNext v.sets x.family) (sym at) c.requires.family in
-    rw (c.in_ok-push.ensures.items, c.in-Some.ensures.value, c.in_ok-set.ensures) (set_added s x c.self-2.invariant c.requires.name new room fits)
+    rw (c.in_ok-push.ensures.items, c.in-Some.ensures.value, c.in_ok-set.ensures) (record { script = set_added s x c.self-2.invariant.script c.requires.name new room fits; noted = c.self-2.invariant.noted })

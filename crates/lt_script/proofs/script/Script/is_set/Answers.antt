@@ -13,4 +13,4 @@ returns-in-Some c = λ yes.
     let at = slice_get_read c.deref-2.result.now (length c.deref-2.result.now) c.from.result found refl c.in-Some.ensures.lookup.3.0 c.in-Some.ensures.lookup.1 in
     let here : slice_get s.sets c.args.set ≡ Some found = rw (sym c.deref.ensures, sym c.deref-2.ensures.value, sym c.from.ensures) at in
     subst (λ (v : ScriptData). (c.args.set < length v.sets) × (set_number v c.args.name.now ≡ Some c.args.set)) c.self.view_is
-    (set_named s c.args.set found c.args.name.now c.self.invariant here (sym c.is_named.ensures ∙ yes))
+    (set_named s c.args.set found c.args.name.now c.self.invariant.script here (sym c.is_named.ensures ∙ yes))
