@@ -3,3 +3,4 @@ pub mod LineFits
 pub mod Grammar
 pub mod Split
 pub mod Wording
+pub mod Page

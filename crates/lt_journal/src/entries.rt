@@ -1,16 +1,16 @@
 // The lines of a move and its events, as they are written fast.
 ghost use Rattle.std.specs.Prelude.{◌≡◌, ◌++◌, [], ◌∷◌, OnOk};
 ghost use Rattle.lt_journal.specs.declared.line.Line.TheVariants.{Move as MoveLine, Event as EventLine};
+ghost use Rattle.std.specs.Fmt.{decimal};
 ghost use Rattle.lt_modes.specs.Modes.{word_of};
 ghost use Rattle.lt_modes.specs.Script.{set_name, client_name};
 ghost use Rattle.lt_text.specs.Text.{after_space};
 ghost use Rattle.lt_journal.specs.RunLines.{line_text};
 
-use crate::events::words_of_event;
+use crate::events::{words_of_event, words_of_modes};
 use crate::text::Text;
 use crate::wording::Wording;
 use lt_modes::{Event, Mode, Move, Step};
-use lt_script::Script;
 use std::alloc::AllocError;
 
 /// Writes the line of a move: `move CLOCK NODE act CLIENT` or `move CLOCK NODE take FROM`.
@@ -19,17 +19,12 @@ pub(crate) fn move_line(text: &mut Text, wording: &Wording, made: Move) -> Resul
 {
     text.first_word("move")?;
     text.number(made.stamp.clock)?;
-    text.number(u64::from(made.stamp.node))?;
     match made.step {
         Step::Act(client) => {
-            text.word(b"act")?;
+            text.act(made.stamp.node)?;
             wording.last_client(text, client)
         }
-        Step::Take(from) => {
-            text.word(b"take")?;
-            text.number(u64::from(from))?;
-            text.end_line()
-        }
+        Step::Take(from) => text.take_line(made.stamp.node, from),
     }
 }
 
@@ -51,7 +46,12 @@ pub fn event_line(text: &mut Text, wording: &Wording, event: Event) -> Result<()
             text.first_word("unlock")?;
             last_words(text, wording, client, set, mode)
         }
-        other => other_line(text, wording.script(), other),
+        Event::Token { set, to, epoch } => {
+            letter(text, wording, "token", set, to)?;
+            text.number(epoch)?;
+            text.end_line()
+        }
+        other => other_line(text, wording, other),
     }
 }
 
@@ -71,10 +71,50 @@ fn last_words(
     wording.last_lock(text, set, mode)
 }
 
-// Writes the line of any event.
-fn other_line(text: &mut Text, script: &Script, event: Event) -> Result<(), AllocError>
-    ensures { OnOk result (text.new ≡ text.old ++ line_text script.now (EventLine event)) }
+// Writes the words that say which letter goes to which node.
+#[inline(always)]
+fn letter(
+    text: &mut Text,
+    wording: &Wording,
+    first: &str,
+    set: u8,
+    to: u8,
+) -> Result<(), AllocError>
+    ensures { OnOk result (text.new ≡ text.old ++ first.now
+        ++ after_space (set_name wording.now set) ++ after_space (decimal to)) }
 {
-    words_of_event(text, script, event)?;
+    text.first_word(first)?;
+    wording.set(text, set)?;
+    text.number(u64::from(to))
+}
+
+// Writes the line of any event.
+#[inline(never)]
+fn other_line(text: &mut Text, wording: &Wording, event: Event) -> Result<(), AllocError>
+    ensures { OnOk result (text.new ≡ text.old ++ line_text wording.now (EventLine event)) }
+{
+    match event {
+        Event::Copy {
+            set,
+            to,
+            client,
+            mode,
+        } => {
+            letter(text, wording, "copy", set, to)?;
+            wording.client(text, client)?;
+            text.word(mode.word().as_bytes())?;
+        }
+        Event::Freeze {
+            set,
+            to,
+            number,
+            modes,
+        } => {
+            letter(text, wording, "freeze", set, to)?;
+            text.number(number)?;
+            words_of_modes(text, modes)?;
+        }
+        other => words_of_event(text, wording.script(), other)?,
+    }
     text.end_line()
 }

@@ -139,8 +139,8 @@ fn letter(text: &mut Text, script: &Script, first: &str, set: u8, to: u8) -> Res
     text.number(u64::from(to))
 }
 
-// Writes the words of a set of modes in order, or `none`.
-fn words_of_modes(text: &mut Text, modes: ModeSet) -> Result<(), AllocError>
+/// Writes the words of a set of modes in order, or `none`.
+pub(crate) fn words_of_modes(text: &mut Text, modes: ModeSet) -> Result<(), AllocError>
     ensures { OnOk result (text.new ≡ text.old ++ flat_map after_space (words_of_modes modes)) }
 {
     if modes.is_empty() {

@@ -48,6 +48,7 @@ mod meaning;
 mod moves;
 mod names;
 mod padded;
+mod page;
 mod reading;
 mod splitting;
 mod text;

@@ -1,10 +1,10 @@
-ghost use Rattle.std.specs.Prelude.{◌≡◌, ◌≤◌, ◌++◌, [], ◌∷◌, take, OnOk, IfSome};
+ghost use Rattle.std.specs.Prelude.{◌≡◌, ◌≤◌, ◌++◌, [], ◌∷◌, IfSome};
 
-use std::alloc::AllocError;
+use crate::page::Page;
 use std::marker::Model;
 
 /// Words at the front of a block of one size, with a line end behind them. They are written without asking how
-/// long they are: the whole block is, and then the text is cut.
+/// long they are: the whole block is, and then the page is cut.
 #[derive(Debug, Drop)]
 pub(crate) struct Padded {
     block: [u8; 32],
@@ -38,30 +38,20 @@ impl Padded {
     }
 
     /// Writes the words.
-    pub fn write(&self, bytes: &mut Vec<u8>) -> Result<(), AllocError>
-        ensures { OnOk result (bytes.new.items ≡ bytes.old.items ++ self.now) }
+    #[inline(always)]
+    pub fn write(&self, page: &mut Page)
+        requires { 32 ≤ page.old.room }
+        ensures { page.new.text ≡ page.old.text ++ self.now }
     {
-        push_front(bytes, &self.block, self.len)
+        page.put_front(&self.block, self.len);
     }
 
     /// Writes the words with a line end.
-    pub fn write_line(&self, bytes: &mut Vec<u8>) -> Result<(), AllocError>
-        ensures { OnOk result (bytes.new.items ≡ bytes.old.items ++ self.now ++ 10 ∷ []) }
+    #[inline(always)]
+    pub fn write_line(&self, page: &mut Page)
+        requires { 32 ≤ page.old.room }
+        ensures { page.new.text ≡ page.old.text ++ self.now ++ 10 ∷ [] }
     {
-        push_front(bytes, &self.block, self.len + 1)
+        page.put_front(&self.block, self.len + 1);
     }
-}
-
-// Adds the first bytes of a block, so many of them.
-#[tactic(auto, using(crate::proofs::Blocks::cut))]
-fn push_front(bytes: &mut Vec<u8>, block: &[u8; 32], count: usize) -> Result<(), AllocError>
-    requires { count ≤ 32 }
-    ensures { OnOk result (bytes.new.items ≡ bytes.old.items ++ take count block.now) }
-{
-    let end = bytes.len() + count;
-    // A copy in a local variable can't overlap what is written.
-    let block = *block;
-    bytes.extend_from_slice(&block)?;
-    bytes.truncate(end);
-    Ok(())
 }

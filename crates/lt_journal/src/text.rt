@@ -1,8 +1,9 @@
-ghost use Rattle.std.specs.Prelude.{◌≡◌, ◌<◌, ◌≤◌, [], ◌∷◌, ◌++◌, OnOk, IfOk};
+ghost use Rattle.std.specs.Prelude.{◌≡◌, [], ◌∷◌, ◌++◌, codes, OnOk, IfOk};
 ghost use Rattle.std.specs.Fmt.{decimal};
 ghost use Rattle.lt_text.specs.Text.{after_space};
 
 use crate::padded::Padded;
+use crate::page::Page;
 use itoa::Buffer;
 use std::alloc::{AllocError, Global};
 use std::marker::Model;
@@ -10,7 +11,7 @@ use std::marker::Model;
 /// A text that is being written: lines of words with one space between them.
 #[derive(Debug, Drop)]
 pub struct Text {
-    bytes: Vec<u8>,
+    page: Page,
 }
 
 impl Model for Text {
@@ -18,7 +19,7 @@ impl Model for Text {
 
     ghost Value = { List ℕ };
 
-    ghost view = { λ t. t.bytes.items };
+    ghost view = { λ t. t.page.text };
 }
 
 impl Text {
@@ -26,32 +27,39 @@ impl Text {
         ensures { result ≡ [] }
     {
         Text {
-            bytes: Vec::new(alloc),
+            page: Page::new(alloc),
         }
     }
 
-    /// The text of nothing, with room for so many bytes.
+    /// The text of nothing, with memory for so many bytes.
     pub(crate) fn with_room(alloc: Global, bytes: usize) -> Result<Text, AllocError>
         ensures { IfOk result (λ text. text ≡ []) }
     {
         Ok(Text {
-            bytes: Vec::with_capacity(alloc, bytes)?,
+            page: Page::with_memory(alloc, bytes)?,
         })
     }
 
     /// Writes the first word of a line.
+    #[inline(always)]
     pub fn first_word(&mut self, word: &str) -> Result<(), AllocError>
         ensures { OnOk result (self.new ≡ self.old ++ word.now) }
     {
-        self.bytes.extend_from_slice(word.as_bytes())
+        let word = word.as_bytes();
+        self.page.make_room(word.len())?;
+        self.page.put(word);
+        Ok(())
     }
 
     /// Writes a later word of a line.
     pub fn word(&mut self, word: &[u8]) -> Result<(), AllocError>
         ensures { OnOk result (self.new ≡ self.old ++ after_space word.now) }
     {
-        self.bytes.push(b' ')?;
-        self.bytes.extend_from_slice(word)
+        self.page.make_room(1)?;
+        self.page.put(b" ");
+        self.page.make_room(word.len())?;
+        self.page.put(word);
+        Ok(())
     }
 
     /// Writes a number as a later word of a line.
@@ -59,13 +67,12 @@ impl Text {
     pub fn number(&mut self, number: u64) -> Result<(), AllocError>
         ensures { OnOk result (self.new ≡ self.old ++ after_space (decimal number)) }
     {
-        if number < 100 {
-            return self.short_number(number);
+        if number >= 10_000 {
+            return self.long_number(number);
         }
-        if number < 10_000 {
-            return self.middle_number(number);
-        }
-        self.long_number(number)
+        self.page.make_room(5)?;
+        self.page.put_number(number);
+        Ok(())
     }
 
     // Writes any number. It stands apart, so that its buffer doesn't burden the others.
@@ -78,60 +85,57 @@ impl Text {
         self.word(digits.format(number).as_bytes())
     }
 
-    // Writes a number of one or two digits as a later word of a line.
-    #[tactic(auto, using(crate::proofs::Plain::one_digit, crate::proofs::Plain::two_digits))]
+    /// Writes the node and the word `act` of a move's line.
     #[inline(always)]
-    fn short_number(&mut self, number: u64) -> Result<(), AllocError>
-        requires { number < 100 }
-        ensures { OnOk result (self.new ≡ self.old ++ after_space (decimal number)) }
+    pub(crate) fn act(&mut self, node: u8) -> Result<(), AllocError>
+        ensures { OnOk result (self.new ≡ self.old ++ after_space (decimal node) ++ after_space (codes "act")) }
     {
-        if number < 10 {
-            return self.bytes.extend_from_slice(&[b' ', b'0' + number as u8]);
-        }
-        let first = b'0' + (number / 10) as u8;
-        let last = b'0' + (number % 10) as u8;
-        self.bytes.extend_from_slice(&[b' ', first, last])
+        self.page.make_room(9)?;
+        self.page.put_number(u64::from(node));
+        self.page.put(b" act");
+        Ok(())
     }
 
-    // Writes a number of three or four digits as a later word of a line.
-    #[inline(never)]
-    #[tactic(auto, using(crate::proofs::Plain::three_digits, crate::proofs::Plain::four_digits))]
-    fn middle_number(&mut self, number: u64) -> Result<(), AllocError>
-        requires many { 100 ≤ number }
-        requires few { number < 10000 }
-        ensures { OnOk result (self.new ≡ self.old ++ after_space (decimal number)) }
+    /// Writes the node, the word `take`, the sender and the line end of a move's line.
+    #[inline(always)]
+    pub(crate) fn take_line(&mut self, node: u8, from: u8) -> Result<(), AllocError>
+        ensures { OnOk result (self.new ≡ self.old ++ after_space (decimal node) ++ after_space (codes "take")
+            ++ after_space (decimal from) ++ 10 ∷ []) }
     {
-        let hundreds = number / 10 / 10;
-        let third = b'0' + (number / 10 % 10) as u8;
-        let last = b'0' + (number % 10) as u8;
-        if number < 1000 {
-            let first = b'0' + hundreds as u8;
-            return self.bytes.extend_from_slice(&[b' ', first, third, last]);
-        }
-        let first = b'0' + (hundreds / 10) as u8;
-        let second = b'0' + (hundreds % 10) as u8;
-        self.bytes
-            .extend_from_slice(&[b' ', first, second, third, last])
+        self.page.make_room(16)?;
+        self.page.put_number(u64::from(node));
+        self.page.put(b" take");
+        self.page.put_number(u64::from(from));
+        self.page.put(b"\n");
+        Ok(())
     }
 
     /// Writes words that stand in a block.
+    #[inline(always)]
     pub(crate) fn padded(&mut self, words: &Padded) -> Result<(), AllocError>
         ensures { OnOk result (self.new ≡ self.old ++ words.now) }
     {
-        words.write(&mut self.bytes)
+        self.page.make_room(32)?;
+        words.write(&mut self.page);
+        Ok(())
     }
 
     /// Writes words that stand in a block, and a line end.
+    #[inline(always)]
     pub(crate) fn padded_line(&mut self, words: &Padded) -> Result<(), AllocError>
         ensures { OnOk result (self.new ≡ self.old ++ words.now ++ 10 ∷ []) }
     {
-        words.write_line(&mut self.bytes)
+        self.page.make_room(32)?;
+        words.write_line(&mut self.page);
+        Ok(())
     }
 
+    #[inline(always)]
     pub fn end_line(&mut self) -> Result<(), AllocError>
         ensures { OnOk result (self.new ≡ self.old ++ 10 ∷ []) }
     {
-        self.bytes.push(b'\n')?;
+        self.page.make_room(1)?;
+        self.page.put(b"\n");
         Ok(())
     }
 
@@ -139,18 +143,18 @@ impl Text {
     pub fn clear(&mut self)
         ensures { self.new ≡ [] }
     {
-        self.bytes.clear();
+        self.page.clear();
     }
 
     pub fn bytes(&self) -> &[u8]
         ensures { result.now ≡ self.now }
     {
-        &self.bytes
+        self.page.bytes()
     }
 
     pub fn into_bytes(self) -> Vec<u8>
         ensures { result.items ≡ self }
     {
-        self.bytes
+        self.page.into_bytes()
     }
 }

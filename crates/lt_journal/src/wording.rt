@@ -3,7 +3,7 @@ ghost use Rattle.std.specs.Prelude.{◌≡◌, ◌<◌, ◌++◌, [], ◌∷◌,
 ghost use Rattle.lt_modes.specs.Modes.{word_of};
 ghost use Rattle.lt_modes.specs.Script.{set_name, client_name};
 ghost use Rattle.lt_text.specs.Text.{after_space};
-ghost use Rattle.lt_journal.specs.Wording.{AreClientWords, AreLockWords};
+ghost use Rattle.lt_journal.specs.Wording.{AreClientWords, AreSetWords, AreLockWords};
 
 use crate::names::{client_name, set_name};
 use crate::padded::Padded;
@@ -17,6 +17,13 @@ use std::marker::Model;
 #[derive(Debug, Drop)]
 pub(crate) struct ClientWord {
     client: u16,
+    word: Option<Padded>,
+}
+
+// A set, and its name with the space before it, where that is short.
+#[derive(Debug, Drop)]
+pub(crate) struct SetWord {
+    set: u8,
     word: Option<Padded>,
 }
 
@@ -34,18 +41,20 @@ pub(crate) struct LockWords {
 pub struct Wording {
     script: Script,
     clients: Vec<ClientWord>,
+    sets: Vec<SetWord>,
     locks: Vec<LockWords>,
 }
 
 impl Model for Wording {
     ghost use Rattle.lt_modes.specs.Script.{ScriptData};
-    ghost use Rattle.lt_journal.specs.Wording.{AreClientWords, AreLockWords};
+    ghost use Rattle.lt_journal.specs.Wording.{AreClientWords, AreSetWords, AreLockWords};
 
     ghost Value = { ScriptData };
 
     ghost view = { λ s. s.script };
 
-    ghost invariant = { λ s. AreClientWords s.script s.clients.items × AreLockWords s.script s.locks.items };
+    ghost invariant = { λ s. AreClientWords s.script s.clients.items × AreSetWords s.script s.sets.items
+        × AreLockWords s.script s.locks.items };
 }
 
 impl Wording {
@@ -54,11 +63,13 @@ impl Wording {
         ensures { IfOk result (λ s. s ≡ script.now) }
     {
         let clients = client_words(alloc, script)?;
+        let sets = set_words(alloc, script)?;
         let locks = lock_words(alloc, script)?;
         let script = script.copy(alloc)?;
         Ok(Wording {
             script,
             clients,
+            sets,
             locks,
         })
     }
@@ -92,7 +103,19 @@ impl Wording {
         text.end_line()
     }
 
+    /// Writes the set's name as a later word of a line.
+    #[inline(always)]
+    pub(crate) fn set(&self, text: &mut Text, set: u8) -> Result<(), AllocError>
+        ensures { OnOk result (text.new ≡ text.old ++ after_space (set_name self.now set)) }
+    {
+        match self.word_of_set(set) {
+            Some(word) => text.padded(word),
+            None => text.word(set_name(&self.script, set)),
+        }
+    }
+
     /// Writes the set and the mode as the last words of a line, with the line end.
+    #[inline(always)]
     pub(crate) fn last_lock(&self, text: &mut Text, set: u8, mode: Mode) -> Result<(), AllocError>
         ensures { OnOk result (text.new ≡ text.old
             ++ after_space (set_name self.now set) ++ after_space (word_of mode) ++ 10 ∷ []) }
@@ -106,6 +129,7 @@ impl Wording {
     }
 
     // The client's word, if it is kept.
+    #[inline(always)]
     fn word_of_client(&self, client: u16) -> Option<&Padded>
         ensures { IfSome result (λ word. word.now ≡ after_space (client_name self.now client)) }
     {
@@ -120,7 +144,24 @@ impl Wording {
         }
     }
 
+    // The set's word, if it is kept.
+    #[inline(always)]
+    fn word_of_set(&self, set: u8) -> Option<&Padded>
+        ensures { IfSome result (λ word. word.now ≡ after_space (set_name self.now set)) }
+    {
+        let place = usize::from(set);
+        if place >= self.sets.len() {
+            return None;
+        }
+        let own = &self.sets[place];
+        match &own.word {
+            Some(word) if own.set == set => Some(word),
+            _ => None,
+        }
+    }
+
     // The words of the set and the mode, if they are kept.
+    #[inline(always)]
     fn words_of_lock(&self, set: u8, mode: Mode) -> Option<&Padded>
         ensures { IfSome result (λ words. words.now ≡ after_space (set_name self.now set) ++ after_space (word_of mode)) }
     {
@@ -141,13 +182,29 @@ fn client_words(alloc: Global, script: &Script) -> Result<Vec<ClientWord>, Alloc
     ensures { IfOk result (λ words. AreClientWords script.now words.items) }
 {
     let mut clients = Vec::new(alloc);
+    let mut name = Text::new(alloc);
     for client in 0..script.clients() {
-        let mut name = Text::new(alloc);
+        name.clear();
         name.word(client_name(script, client))?;
         let word = Padded::new(name.bytes());
         clients.push(ClientWord { client, word })?;
     }
     Ok(clients)
+}
+
+// The words of all sets, in order.
+fn set_words(alloc: Global, script: &Script) -> Result<Vec<SetWord>, AllocError>
+    ensures { IfOk result (λ words. AreSetWords script.now words.items) }
+{
+    let mut sets = Vec::new(alloc);
+    let mut name = Text::new(alloc);
+    for set in 0..script.sets() {
+        name.clear();
+        name.word(set_name(script, set))?;
+        let word = Padded::new(name.bytes());
+        sets.push(SetWord { set, word })?;
+    }
+    Ok(sets)
 }
 
 // The words of all sets with each mode, in order.
@@ -171,8 +228,9 @@ fn push_set(
     requires { AreLockWords script.now locks.old.items }
     ensures { OnOk result (AreLockWords script.now locks.new.items) }
 {
+    let mut both = Text::new(alloc);
     for mode in &MODES {
-        let mut both = Text::new(alloc);
+        both.clear();
         both.word(set_name(script, set))?;
         both.word(mode.word().as_bytes())?;
         let words = Padded::new(both.bytes());
