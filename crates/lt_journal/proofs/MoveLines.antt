@@ -1,5 +1,5 @@
 -- A line that begins with the word `move` and two numbers.
-use Rattle.std.proofs.Common.{◌≡◌, ◌∙◌, ℕ, zero, suc, ◌+◌, ◌-◌, ◌*◌, ◌<◌, ◌≤◌, ◌^◌, ◌&&◌, nat_lt, nat_le, Bool, true, false, List, [], ◌∷◌, ◌++◌, codes, length, take, drop, get_or, Option, Some, None, refl, sym, ap, subst, arith, take-append-drop, length-take-le, lt-ltb, le-leb, leb-true, ne_eqb}
+use Rattle.std.proofs.Common.{◌≡◌, ◌∙◌, ℕ, zero, suc, ◌+◌, ◌-◌, ◌*◌, ◌<◌, ◌≤◌, ◌^◌, ◌&&◌, nat_lt, nat_le, Bool, true, false, List, [], ◌∷◌, ◌++◌, codes, length, take, drop, get_or, Option, Some, None, option_map, take_all, refl, sym, ap, subst, arith, length-take-le, lt-ltb, le-leb, leb-true, ne_eqb}
 use denote.Ref.{Bor}
 use Rattle.std.specs.Char.{is_ascii_digit}
 use Rattle.std.specs.Str.Parse.{digits_value}
@@ -10,18 +10,34 @@ use Rattle.std.proofs.lemmas.Int.Digits.{digits_value_more}
 use Rattle.std.proofs.lemmas.Str.{digit_value_digit}
 use Rattle.lt_text.specs.Text.{fields, is_space, HasNone}
 use Rattle.lt_text.specs.Number.{are_digits, has_leading_zero, exact_number}
-use Rattle.lt_text.proofs.TextLemmas.{field_piece}
+use Rattle.lt_text.proofs.TextLemmas.{field_piece, field_last}
 use Rattle.lt_text.proofs.NumberLemmas.{few_digits}
+use Rattle.lt_modes.specs.declared.moves.Step.TheVariants.{Act, Take}
 use Rattle.lt_modes.specs.Script.{ScriptData}
 use Rattle.lt_spec.specs.Holdings.{Holding}
 use Rattle.lt_journal.specs.declared.line.Line.TheVariants.{Bad}
-use Rattle.lt_journal.specs.Grammar.{lock_of, lock_line, line_of, move_told, step_line, BeginsWithNumber}
+use Rattle.lt_journal.specs.Grammar.{lock_of, lock_line, line_of, move_told, step_line, move_line, step_told, node_told, client_told, BeginsWithNumber, AreFirstDigits, below}
 
 -- the word `move` is the first field
-pub move_first : (line : List ℕ) → take 5 line ≡ codes "move " → fields line ≡ codes "move" ∷ fields (drop 5 line)
-move_first line first =
-    ap fields (sym (take-append-drop 5 line) ∙ ap (λ (front : List ℕ). front ++ drop 5 line) first)
-    ∙ field_piece (codes "move") 32 (drop 5 line) (refl, (refl, (refl, (refl, tt)))) refl
+pub move_first : (line : List ℕ) → 5 ≤ length line → get_or line 0 0 ≡ 109 → get_or line 1 0 ≡ 111 → get_or line 2 0 ≡ 118 → get_or line 3 0 ≡ 101
+    → get_or line 4 0 ≡ 32 → fields line ≡ codes "move" ∷ fields (drop 5 line)
+move_first (m ∷ o ∷ v ∷ e ∷ s ∷ rest) long is_m is_o is_v is_e is_s =
+    rw (is_m, is_o, is_v, is_e, is_s) (field_piece (codes "move") 32 rest (refl, (refl, (refl, (refl, tt)))) refl)
+move_first _ long is_m is_o is_v is_e is_s = absurd (omega (arith, long))
+
+-- the word `act` is
+pub act_first : (words : List ℕ) → 4 ≤ length words → get_or words 0 0 ≡ 97 → get_or words 1 0 ≡ 99 → get_or words 2 0 ≡ 116 → get_or words 3 0 ≡ 32
+    → fields words ≡ codes "act" ∷ fields (drop 4 words)
+act_first (a ∷ c ∷ t ∷ s ∷ rest) long is_a is_c is_t is_s =
+    rw (is_a, is_c, is_t, is_s) (field_piece (codes "act") 32 rest (refl, (refl, (refl, tt))) refl)
+act_first _ long is_a is_c is_t is_s = absurd (omega (arith, long))
+
+-- the word `take` is
+pub take_first : (words : List ℕ) → 5 ≤ length words → get_or words 0 0 ≡ 116 → get_or words 1 0 ≡ 97 → get_or words 2 0 ≡ 107 → get_or words 3 0 ≡ 101
+    → get_or words 4 0 ≡ 32 → fields words ≡ codes "take" ∷ fields (drop 5 words)
+take_first (t ∷ a ∷ k ∷ e ∷ s ∷ rest) long is_t is_a is_k is_e is_s =
+    rw (is_t, is_a, is_k, is_e, is_s) (field_piece (codes "take") 32 rest (refl, (refl, (refl, (refl, tt)))) refl)
+take_first _ long is_t is_a is_k is_e is_s = absurd (omega (arith, long))
 
 -- What a number's digits are, one by one.
 
@@ -40,30 +56,23 @@ no_spaces (x ∷ front) digits =
     not_space : (x : ℕ) → is_ascii_digit x ≡ true → is_space x ≡ false
     not_space x digit = ne_eqb x 32 (λ space. let h : is_ascii_digit 32 ≡ true = subst (λ (n : ℕ). is_ascii_digit n ≡ true) space digit in cc)
 
--- the first bytes are the digits of this number
-pub record IsNumberSoFar (words : List ℕ) (k value : ℕ) : Type 0 where
-  pub digits : are_digits (take k words) ≡ true
-  pub value_is : value ≡ digits_value 10 (take k words)
-  pub few : k ≤ 9
-  pub inside : k ≤ length words
+pub no_digits : (words : List ℕ) → AreFirstDigits words 0 0
+no_digits [] = record { digits = refl; number_is = refl; few = omega arith; inside = omega arith }
+no_digits (x ∷ words) = record { digits = refl; number_is = refl; few = omega arith; inside = omega arith }
 
-pub no_digits : (words : List ℕ) → IsNumberSoFar words 0 0
-no_digits [] = record { digits = refl; value_is = refl; few = omega arith; inside = omega arith }
-no_digits (x ∷ words) = record { digits = refl; value_is = refl; few = omega arith; inside = omega arith }
-
-pub small_value : (words : List ℕ) (k value : ℕ) → IsNumberSoFar words k value → k < 9 → value < 10 ^ 8
+pub small_value : (words : List ℕ) (k value : ℕ) → AreFirstDigits words k value → k < 9 → value < 10 ^ 8
 small_value words k value is few =
-    omega (arith, is.value_is, few_digits (take k words) 8 is.digits (omega (arith, few, length-take-le k words is.inside)))
+    omega (arith, is.number_is, few_digits (take k words) 8 is.digits (omega (arith, few, length-take-le k words is.inside)))
 
-pub digit_more : (words : List ℕ) (k value : ℕ) → IsNumberSoFar words k value → k < length words → k < 9 → is_ascii_digit (get_or words k 0) ≡ true
-    → IsNumberSoFar words (k + 1) (value * 10 + (get_or words k 0 - 48))
+pub digit_more : (words : List ℕ) (k value : ℕ) → AreFirstDigits words k value → k < length words → k < 9 → is_ascii_digit (get_or words k 0) ≡ true
+    → AreFirstDigits words (k + 1) (value * 10 + (get_or words k 0 - 48))
 digit_more words k value is inside few digit =
     let parts = and_parts (nat_le 48 (get_or words k 0)) (nat_le (get_or words k 0) 57) digit in
     record {
       digits = ap are_digits (take_more words k 0 inside) ∙ digits_push (take k words) (get_or words k 0) is.digits digit;
-      value_is = omega (
+      number_is = omega (
         arith,
-        is.value_is,
+        is.number_is,
         digits_value_more 10 words k inside,
         digit_value_digit (get_or words k 0) (leb-true 48 (get_or words k 0) parts.0, leb-true (get_or words k 0) 57 parts.1),
       );
@@ -94,7 +103,7 @@ exact_short word some few digits none =
     ) refl
 
 -- the number ends at a space
-pub number_first : (words : List ℕ) (k : ℕ) (found : ℕ × Bor (List ℕ)) → IsNumberSoFar words k found.0 → k < length words → get_or words k 0 ≡ 32
+pub number_first : (words : List ℕ) (k : ℕ) (found : ℕ × Bor (List ℕ)) → AreFirstDigits words k found.0 → k < length words → get_or words k 0 ≡ 32
     → (k ≡ 0 → ⊥) → (1 < k → get_or words 0 0 ≡ 48 → ⊥) → found.1.now ≡ drop (k + 1) words → BeginsWithNumber (fields words) (Some found)
 number_first words k found is inside space some other rest =
     let word = take k words in
@@ -106,10 +115,42 @@ number_first words k found is inside space some other rest =
     ∙ (ap (λ (n : ℕ). word ++ 32 ∷ drop n words) next ∙ ap (λ (bytes : List ℕ). word ++ 32 ∷ bytes) (sym rest))) in
     let cut : fields words ≡ word ∷ fields found.1.now = ap fields parts ∙ field_piece word 32 found.1.now (no_spaces word is.digits) refl in
     let exact : exact_number word ≡ Some found.0 =
-    exact_short word (omega (arith, size, some)) (omega (arith, size, is.few)) is.digits (leading words k other) ∙ ap (λ (n : ℕ). Some n) (sym is.value_is) in
+    exact_short word (omega (arith, size, some)) (omega (arith, size, is.few)) is.digits (leading words k other) ∙ ap (λ (n : ℕ). Some n) (sym is.number_is) in
     subst (λ (ws : List (List ℕ)). BeginsWithNumber ws (Some found)) (sym cut) (exact, refl)
 
+-- the only word is a number
+pub only_number : (script : ScriptData) (words : List ℕ) (count number : ℕ) → AreFirstDigits words count number → count ≡ length words → 0 < count
+    → (1 < count → get_or words 0 0 ≡ 48 → ⊥) → node_told script (fields words) ≡ below script.nodes (Some number)
+only_number script words count number is all some other =
+    let whole : take count words ≡ words = take_all count words (omega (arith, all)) in
+    let digits : are_digits words ≡ true = ap are_digits (sym whole) ∙ is.digits in
+    let exact : exact_number words ≡ Some number =
+    exact_short words (omega (arith, all, some)) (omega (arith, all, is.few)) digits (ap has_leading_zero (sym whole) ∙ leading words count other)
+    ∙ ap (λ (n : ℕ). Some n) (ap (digits_value 10) (sym whole) ∙ sym is.number_is) in
+    ap (node_told script) (field_last words (no_spaces words digits)) ∙ ap (below script.nodes) exact
+
 -- What a line of the word `move` says.
+
+pub take_told : (script : ScriptData) (words : List (List ℕ)) → step_told script (codes "take" ∷ words) ≡ option_map Take (node_told script words)
+take_told script [] = refl
+take_told script (word ∷ []) = refl
+take_told script (word ∷ next ∷ later) = refl
+
+pub act_told : (script : ScriptData) (words : List (List ℕ)) → step_told script (codes "act" ∷ words) ≡ option_map Act (client_told script words)
+act_told script [] = refl
+act_told script (word ∷ []) = refl
+act_told script (word ∷ next ∷ later) = refl
+
+no_step : (clock : ℕ) (node : Option ℕ) → Bad ≡ move_line (Some clock) node None
+no_step clock None = refl
+no_step clock (Some node) = refl
+
+pub by_step : (script : ScriptData) (clock node : ℕ) (words : List (List ℕ))
+    → step_line script clock node words ≡ move_line (Some clock) (below script.nodes (Some node)) (step_told script words)
+by_step script clock node [] = no_step clock (below script.nodes (Some node))
+by_step script clock node (verb ∷ []) = no_step clock (below script.nodes (Some node))
+by_step script clock node (verb ∷ word ∷ []) = refl
+by_step script clock node (verb ∷ word ∷ next ∷ later) = no_step clock (below script.nodes (Some node))
 
 pub says_move : (script : ScriptData) (words : List (List ℕ)) → line_of script (codes "move" ∷ words) ≡ move_told script words
 says_move script [] = refl

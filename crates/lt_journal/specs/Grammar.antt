@@ -1,5 +1,5 @@
 -- What a line of a journal says, by its words: a line that has none of the forms is bad.
-use Rattle.std.specs.Prelude.{List, [], ◌∷◌, ℕ, map, Bool, true, false, Option, Some, None, ◌≡◌, if◌then◌else◌, codes, nat_lt, option_map, bytes_eq}
+use Rattle.std.specs.Prelude.{List, [], ◌∷◌, ℕ, map, Bool, true, false, Option, Some, None, ◌≡◌, ◌≤◌, take, length, if◌then◌else◌, codes, nat_lt, option_map, bytes_eq}
 use Rattle.lt_modes.specs.declared.mode.Mode.{Mode}
 use Rattle.lt_modes.specs.declared.moves.Step.{Step}
 use Rattle.lt_modes.specs.declared.moves.Step.TheVariants.{Act, Take}
@@ -8,7 +8,8 @@ use Rattle.lt_modes.specs.Modes.{Modes, no_modes, with_mode, word_of, mode_of, m
 use Rattle.lt_modes.specs.Script.{ScriptData}
 use Rattle.lt_spec.specs.Script.{set_number, client_number}
 use Rattle.lt_text.specs.Text.{lines, fields}
-use Rattle.lt_text.specs.Number.{exact_number}
+use Rattle.lt_text.specs.Number.{are_digits, exact_number}
+use Rattle.std.specs.Str.Parse.{digits_value}
 use denote.Ref.{Bor}
 use Rattle.lt_journal.specs.declared.line.Line.{Line}
 use Rattle.lt_journal.specs.declared.line.Line.TheVariants.{Version, Move as MoveLine, Event as EventLine, Held, Waiting, Owner, End, Cut, Bad}
@@ -138,6 +139,28 @@ abbrev pub step_line : ScriptData → ℕ → ℕ → List (List ℕ) → Line
 step_line script clock node (c ∷ d ∷ []) =
     move_line (Some clock) (below script.nodes (Some node)) (step_said script c d)
 step_line script clock node words = Bad
+
+-- what a move does, where these are the only two words of it
+abbrev pub step_told : ScriptData → List (List ℕ) → Option Step
+step_told script (verb ∷ word ∷ []) = step_said script verb word
+step_told script words = None
+
+-- the node that the only word names
+abbrev pub node_told : ScriptData → List (List ℕ) → Option ℕ
+node_told script (word ∷ []) = node_of script word
+node_told script words = None
+
+-- the client that the only word names
+abbrev pub client_told : ScriptData → List (List ℕ) → Option ℕ
+client_told script (word ∷ []) = client_number script word
+client_told script words = None
+
+-- the first bytes, so many and nine at most, are the digits of this number
+pub record AreFirstDigits (bytes : List ℕ) (count number : ℕ) : Type 0 where
+  pub digits : are_digits (take count bytes) ≡ true
+  pub number_is : number ≡ digits_value 10 (take count bytes)
+  pub few : count ≤ 9
+  pub inside : count ≤ length bytes
 
 -- the first of these words is this number, and further ones follow, which these bytes have; or that isn't so
 abbrev pub BeginsWithNumber : List (List ℕ) → Option (ℕ × Bor (List ℕ)) → Type 0

@@ -1,5 +1,6 @@
 -- Where an input is cut into a script and a journal.
-use Rattle.std.specs.Prelude.{List, [], ◌∷◌, ℕ, zero, suc, ◌+◌, ◌-◌, Bool, false, Option, Some, None, if◌then◌else◌, codes, length, position, bytes_eq}
+use Rattle.std.specs.Prelude.{◌≡◌, ◌≤◌, drop, List, [], ◌∷◌, ℕ, zero, suc, ◌+◌, ◌-◌, Bool, false, Option, Some, None, if◌then◌else◌, codes, length, position, bytes_eq}
+use Rattle.std.specs.List.{position_from}
 use Rattle.lt_text.specs.Text.{lines, words, is_line_end}
 use Rattle.lt_journal.specs.declared.splitting.Parts.{Parts}
 
@@ -34,3 +35,11 @@ parts_at bytes (Some k) = record { script = place_of_line bytes k; journal = pla
 -- the parts of an input: the script ends before the first line whose only word is `journal`, and the journal begins after it
 abbrev pub input_parts : List ℕ → Parts
 input_parts bytes = parts_at bytes (position is_journal_line (lines bytes))
+
+-- so many lines stand before this place, which begins a line, and none of them is `journal`
+pub record ArePassed (bytes : List ℕ) (from count : ℕ) : Type 0 where
+  pub within : from ≤ length bytes
+  pub few : count ≤ from
+  pub passed : drop from bytes ≡ after_lines count bytes
+  pub none : position is_journal_line (lines bytes) ≡ position_from is_journal_line count (lines (drop from bytes))
+  pub count_is : count + length (lines (drop from bytes)) ≡ length (lines bytes)

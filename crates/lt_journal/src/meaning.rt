@@ -1,8 +1,8 @@
-ghost use Rattle.std.specs.Prelude.{◌≡◌, List, ◌∷◌};
+ghost use Rattle.std.specs.Prelude.{◌≡◌, Some, List, ◌∷◌};
 ghost use Rattle.lt_modes.specs.declared.mode.Mode.{Mode as AnyMode};
 ghost use Rattle.lt_modes.specs.Modes.{no_modes, modes_in_order};
 ghost use Rattle.lt_text.specs.Text.{fields};
-ghost use Rattle.lt_journal.specs.Grammar.{node_of, step_said, lock_of, bool_of, says_none, modes_of, with_words, words_left};
+ghost use Rattle.lt_journal.specs.Grammar.{below, node_of, step_said, lock_of, bool_of, says_none, modes_of, with_words, words_left};
 
 use lt_modes::{MODES, Mode, ModeSet, Step};
 use lt_script::Script;
@@ -13,7 +13,14 @@ use lt_text::{exact_number, is, next_field};
 pub(crate) fn node(script: &Script, word: &[u8]) -> Option<u8>
     ensures { result ≡ node_of script.now word.now }
 {
-    let node = exact_number(word)?;
+    node_below(script, exact_number(word)?)
+}
+
+/// The node of this number, if the script has it.
+#[inline(always)]
+pub(crate) fn node_below(script: &Script, node: u32) -> Option<u8>
+    ensures { result ≡ below script.now.nodes (Some node) }
+{
     if node < u32::from(script.nodes()) {
         Some(node as u8)
     } else {

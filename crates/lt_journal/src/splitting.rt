@@ -1,6 +1,6 @@
 ghost use Rattle.std.specs.Prelude.{◌≡◌, ◌<◌, ◌^◌, length, position, IfSome};
 ghost use Rattle.lt_text.specs.Text.{lines, is_line_end, first_and, LeavesLess};
-ghost use Rattle.lt_journal.specs.Split.{is_journal_line, after_first_line, input_parts};
+ghost use Rattle.lt_journal.specs.Split.{ArePassed, is_journal_line, after_first_line, input_parts};
 
 use lt_text::{is, next_word, trim_return};
 use memchr::memchr;
@@ -22,8 +22,17 @@ pub fn split(bytes: &[u8]) -> Parts
     requires { length bytes.now < 2 ^ 32 }
     ensures { result ≡ input_parts bytes.now }
 {
-    let mut rest = bytes;
-    let mut lines: u32 = 0;
+    split_from(bytes, 0, 0)
+}
+
+/// The same, where so many lines stand before place `from`, and none of them is `journal`.
+pub fn split_from(bytes: &[u8], from: usize, before: u32) -> Parts
+    requires few { length bytes.now < 2 ^ 32 }
+    requires passed { ArePassed bytes.now from before }
+    ensures { result ≡ input_parts bytes.now }
+{
+    let (_, mut rest) = bytes.split_at(from);
+    let mut lines = before;
     while let Some((line, after)) = first_line(rest) {
         if is_journal_line(line) {
             return Parts {
@@ -43,8 +52,9 @@ pub fn split(bytes: &[u8]) -> Parts
     }
 }
 
-// Whether `journal` is the only word of the line. Most lines are told apart by their first byte.
-fn is_journal_line(line: &[u8]) -> bool
+/// Whether `journal` is the only word of the line. Most lines are told apart by their first byte.
+#[inline(always)]
+pub fn is_journal_line(line: &[u8]) -> bool
     ensures { result ≡ is_journal_line line.now }
 {
     if line.is_empty() {
@@ -54,6 +64,13 @@ fn is_journal_line(line: &[u8]) -> bool
     if first != b'j' && first != b' ' && first != b'\t' {
         return false;
     }
+    says_journal(line)
+}
+
+// The same by its words.
+fn says_journal(line: &[u8]) -> bool
+    ensures { result ≡ is_journal_line line.now }
+{
     let Some((word, rest)) = next_word(line) else {
         return false;
     };
@@ -79,9 +96,13 @@ fn first_line(bytes: &[u8]) -> Option<(&[u8], &[u8])>
     }
 }
 
-// The place of the first line feed.
-fn line_end(bytes: &[u8]) -> Option<usize>
+/// The place of the first line feed. An empty line is known by its first byte.
+#[inline(always)]
+pub fn line_end(bytes: &[u8]) -> Option<usize>
     ensures { result ≡ position is_line_end bytes.now }
 {
+    if !bytes.is_empty() && bytes[0] == b'\n' {
+        return Some(0);
+    }
     memchr(b'\n', bytes)
 }

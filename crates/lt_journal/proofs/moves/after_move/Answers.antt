@@ -1,8 +1,9 @@
-use Rattle.std.proofs.Common.{codes, sym, ◌∙◌}
-use Rattle.lt_journal.proofs.Written.{same_word}
+use Rattle.std.proofs.Common.{◌∙◌, ◌∷◌, List, ℕ, codes, sym, ap, arith}
+use Rattle.lt_text.specs.Text.{fields}
 use Rattle.lt_journal.proofs.MoveLines.{move_first}
 use Rattle.lt_journal.proofs.moves.after_move.Goals as goal
 
-pub returns-then-is : goal.returns-then-is
-returns-then-is c =
-    rw c.split_at.ensures.back (move_first c.args.line.now (sym c.split_at.ensures.front ∙ same_word c.split_at.result.0.now (codes "move ") (sym c.is.ensures ∙ c.if-is.true)))
+pub returns : goal.returns
+returns c =
+    move_first c.args.line.now (omega (arith, c.if-line-lt5.false)) c.if-line-ne109.false c.if-line-ne111.false c.if-line-ne118.false c.if-line-ne101.false c.if-line-ne32.false
+    ∙ ap (λ (rest : List ℕ). codes "move" ∷ fields rest) (sym c.split_at.ensures.back)

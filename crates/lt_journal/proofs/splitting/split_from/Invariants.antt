@@ -2,7 +2,7 @@ use Rattle.std.proofs.Common.{◌≡◌, ◌≤◌, ◌+◌, length, position}
 use Rattle.std.specs.List.{position_from}
 use Rattle.lt_text.specs.Text.{lines}
 use Rattle.lt_journal.specs.Split.{is_journal_line, after_lines}
-use Rattle.lt_journal.proofs.splitting.split.Given as goal
+use Rattle.lt_journal.proofs.splitting.split_from.Given as goal
 
 -- so many lines are passed, and none of them was `journal`
 abbrev pub invariant-loop-line : goal.invariant-loop-line
