@@ -1,17 +1,14 @@
 -- Where the last line of some bytes begins, and when the line `journal` has come.
-use Rattle.std.proofs.Common.{◌≡◌, ◌∙◌, ℕ, zero, suc, ◌+◌, ◌-◌, ◌<◌, ◌≤◌, Bool, true, false, cond, List, [], ◌∷◌, ◌++◌, Option, Some, None, get_or, length, take, drop, position, if◌then◌else◌, refl, sym, ap, subst, inl, inr, arith, take-add, take-append-drop, take_all, take_at, length-drop, drop-cons, get_or-drop, length-take-le, length-append, eqb-true}
+use Rattle.std.proofs.Common.{◌≡◌, ◌∙◌, ℕ, ◌+◌, ◌-◌, ◌<◌, ◌≤◌, Bool, true, false, cond, List, [], ◌∷◌, ◌++◌, Option, Some, None, get_or, length, take, drop, position, if◌then◌else◌, refl, sym, ap, subst, inl, inr, arith, take-add, take-append-drop, take_all, take_at, length-drop, get_or-drop, length-take-le, length-append, eqb-true}
 use Rattle.std.specs.List.{AllByRecursion, position_from}
 use Rattle.std.proofs.lemmas.Iterator.Adapters.{position_from-zero}
 use Rattle.std.proofs.lemmas.List.{take_more, take-append-le, drop-append-le, drop-take, drop_all, length-map, length_push, take-take}
 use Rattle.std.proofs.lemmas.List.Quantifiers.{position-Some}
-use Rattle.memchr.specs.Find.{IsFirstByte, is_byte}
 use Rattle.lt_text.specs.Text.{cut_at, lines, put_front, without_return, is_line_end, HasNone}
-use Rattle.lt_text.proofs.TextLemmas.{cut_last}
-use Rattle.lt_journal.specs.Split.{is_journal_line, after_first_line, after_lines, parts_at, place_of_line, input_parts}
-use Rattle.lt_checker.proofs.Pieces.{first_cut, none_found}
-use Rattle.lt_journal.proofs.Plain.{first_line}
+use Rattle.lt_text.proofs.TextLemmas.{cut_last, found_at, none_found}
+use Rattle.lt_journal.specs.Split.{is_journal_line, input_parts}
 use Rattle.lt_law_journals.specs.Checking.{EndsInLineFeed, EndsLine, after_place}
-use Rattle.lt_law_journals.proofs.Inputs.{journal_part, lines_after, lines_split, no_lines}
+use Rattle.lt_law_journals.proofs.Inputs.{journal_part, lines_split, no_lines}
 use Rattle.lt_checker.specs.Heads.{HasNoJournal, IsLastLine}
 
 -- a line feed ends a line
@@ -47,7 +44,7 @@ abbrev IsOther : List ℕ → Type 0
 IsOther line = is_journal_line line ≡ false
 
 -- after a line end the lines go on with those of the rest
-lines_both : (front rest : List ℕ) → EndsLine front → lines (front ++ rest) ≡ lines front ++ lines rest
+pub lines_both : (front rest : List ℕ) → EndsLine front → lines (front ++ rest) ≡ lines front ++ lines rest
 lines_both front rest (inl none) =
     ap (λ (t : List ℕ). lines (t ++ rest)) none
     ∙ sym (ap (λ (t : List ℕ). lines t ++ lines rest) none ∙ ap (λ (ls : List (List ℕ)). ls ++ lines rest) no_lines)
@@ -108,20 +105,19 @@ pub record EndsAt (bytes : List ℕ) (from more : ℕ) : Type 0 where
 rest_of : (bytes : List ℕ) (from : ℕ) → take (length bytes - from) (drop from bytes) ≡ drop from bytes
 rest_of bytes from = take_all (length bytes - from) (drop from bytes) (omega (arith, length-drop from bytes))
 
-pub ends_at : (bytes : List ℕ) (from more : ℕ) → IsFirstByte (is_byte 10) (take (length bytes - from) (drop from bytes)) (Some more) → EndsAt bytes from more
+pub ends_at : (bytes : List ℕ) (from more : ℕ) → Some more ≡ position is_line_end (take (length bytes - from) (drop from bytes)) → EndsAt bytes from more
 ends_at bytes from more searched =
-    let found = subst (λ (left : List ℕ). IsFirstByte (is_byte 10) left (Some more)) (rest_of bytes from) searched in
-    let cut = first_cut (drop from bytes) more found in
+    let found = found_at is_line_end (drop from bytes) more (sym (searched ∙ ap (position is_line_end) (rest_of bytes from))) in
     record {
-      inside = omega (arith, cut.inside, length-drop from bytes);
-      ends = sym (get_or-drop from bytes more 0) ∙ eqb-true (get_or (drop from bytes) more 0) 10 found.1;
-      none = cut.none;
+      inside = omega (arith, found.inside, length-drop from bytes);
+      ends = sym (get_or-drop from bytes more 0) ∙ eqb-true (get_or (drop from bytes) more 0) 10 (position-Some is_line_end (drop from bytes) more 0 (sym (searched ∙ ap (position is_line_end) (rest_of bytes from)))).1;
+      none = found.none_earlier;
     }
 
 -- where none is found there is none
-pub none_after : (bytes : List ℕ) (from : ℕ) → IsFirstByte (is_byte 10) (take (length bytes - from) (drop from bytes)) None → HasNone is_line_end (drop from bytes)
+pub none_after : (bytes : List ℕ) (from : ℕ) → None ≡ position is_line_end (take (length bytes - from) (drop from bytes)) → HasNone is_line_end (drop from bytes)
 none_after bytes from searched =
-    none_found (drop from bytes) (subst (λ (left : List ℕ). IsFirstByte (is_byte 10) left None) (rest_of bytes from) searched)
+    none_found is_line_end (drop from bytes) (sym (searched ∙ ap (position is_line_end) (rest_of bytes from)))
 
 pub next_line_end : (bytes : List ℕ) (k last : ℕ) → last ≤ k → k < length bytes → get_or bytes k 0 ≡ 10 → IsLastLine (take k bytes) last
     → HasNoJournal (take (k + 1 - last) (drop last bytes)) → IsLastLine (take (k + 1) bytes) (k + 1)
@@ -137,45 +133,6 @@ next_line_end bytes k last before inside e is none =
 -- more bytes, none of which was looked at
 pub so_far : (bytes more : List ℕ) (n last : ℕ) → n ≡ length bytes → IsLastLine bytes last → IsLastLine (take n (bytes ++ more)) last
 so_far bytes more n last size is = subst (λ (b : List ℕ). IsLastLine b last) (sym (take_at bytes more n (sym size))) is
-
--- Bytes without the line `journal`.
-
-none_from : {X : Type 0} (test : X → Bool) (i : ℕ) (xs : List X) → position_from test i xs ≡ None → AllByRecursion (λ x. test x ≡ false) xs
-none_from test i [] e = tt
-none_from test i (x ∷ xs) e = by_test (test x) refl e (none_from test (i + 1) xs)
-  where
-    by_test : (b : Bool) → test x ≡ b → cond b (Some i) (position_from test (i + 1) xs) ≡ None
-        → (position_from test (i + 1) xs ≡ None → AllByRecursion (λ x. test x ≡ false) xs) → AllByRecursion (λ x. test x ≡ false) (x ∷ xs)
-    by_test true is at again = absurd (cc)
-    by_test false is at again = (is, again at)
-
-after_short : (bytes : List ℕ) → length (after_first_line bytes) ≤ length bytes
-unfolding after_first_line
-after_short [] = omega arith
-after_short (byte ∷ bytes) = by_end (is_line_end byte) (after_short bytes)
-  where
-    by_end : (b : Bool) → length (after_first_line bytes) ≤ length bytes → length (if b then bytes else after_first_line bytes) ≤ suc (length bytes)
-    by_end true short = omega arith
-    by_end false short = omega (arith, short)
-
-lines_short : (k : ℕ) (bytes : List ℕ) → length (after_lines k bytes) ≤ length bytes
-lines_short zero bytes = omega arith
-lines_short (suc k) bytes = omega (arith, after_short (after_lines k bytes), lines_short k bytes)
-
--- a line takes some bytes
-line_later : (bytes : List ℕ) (k : ℕ) → k < length (lines bytes) → place_of_line bytes k < place_of_line bytes (k + 1)
-line_later bytes k inside =
-    let next : suc k ≡ k + 1 = omega arith in
-    let shorter = (first_line (after_lines k bytes) (get_or (lines bytes) k []) (drop (suc k) (lines bytes))
-    (lines_after k bytes (omega (arith, inside)) ∙ drop-cons (lines bytes) k [] (omega (arith, inside)))).shorter in
-    subst (λ (n : ℕ). place_of_line bytes k < place_of_line bytes n) next (omega (arith, shorter, lines_short k bytes))
-
-pub no_journal_in : (bytes : List ℕ) → ((input_parts bytes).script < (input_parts bytes).journal → ⊥) → HasNoJournal bytes
-no_journal_in bytes none = by_place (position is_journal_line (lines bytes)) refl none
-  where
-    by_place : (o : Option ℕ) → position is_journal_line (lines bytes) ≡ o → ((parts_at bytes o).script < (parts_at bytes o).journal → ⊥) → HasNoJournal bytes
-    by_place None e none = none_from is_journal_line 0 (lines bytes) (sym (position_from-zero is_journal_line (lines bytes)) ∙ e)
-    by_place (Some k) e none = absurd (none (line_later bytes k (position-Some is_journal_line (lines bytes) k [] e).0))
 
 -- where it is none of the first ones, it is the last
 found_last : {X : Type 0} (test : X → Bool) (i k : ℕ) (xs ys : List X) → AllByRecursion (λ x. test x ≡ false) xs → length ys ≤ 1

@@ -39,7 +39,7 @@ few_pieces ends (byte ∷ bytes) = by_end (few_pieces ends bytes) (ends byte)
     by_end few true = omega (arith, few)
     by_end few false = omega (arith, few, few_fronts byte (cut_at ends bytes))
 
-few_lines : (bytes : List ℕ) → length (lines bytes) ≤ length bytes
+pub few_lines : (bytes : List ℕ) → length (lines bytes) ≤ length bytes
 unfolding lines
 few_lines bytes = omega (arith, length-map (cut_at is_line_end bytes) without_return, few_pieces is_line_end bytes)
 

@@ -130,18 +130,18 @@ fn feed_all(
         ≡ fed_piece reader.old.script (record { reader = reader.old.reader; rest = rest.old.items }) piece.now) }
     ensures cause { IsErr result → MayReadOn (record { reader = reader.old.reader; rest = rest.old.items }) piece.now }
 {
-    if reader.is_bad() {
-        skip_lines(rest, piece);
-        return Ok(());
-    }
     let mut left = piece;
-    while let Some(end) = memchr(b'\n', left) {
+    while !reader.is_bad() {
+        let Some(end) = memchr(b'\n', left) else {
+            keep(rest, left);
+            return Ok(());
+        };
         let (line, _) = left.split_at(end);
         end_line(reader, rest, line)?;
         let (_, later) = left.split_at(end + 1);
         left = later;
     }
-    keep(rest, left);
+    skip_lines(rest, left);
     Ok(())
 }
 

@@ -3,7 +3,7 @@ ghost use Rattle.lt_io.specs.Streams.{IsReadWhole};
 ghost use Rattle.lt_text.specs.Text.{lines};
 ghost use Rattle.lt_spec.specs.Script.{IsScript};
 ghost use Rattle.lt_script.specs.Reading.{read_of};
-ghost use Rattle.lt_journal.specs.Split.{input_parts};
+ghost use Rattle.lt_journal.specs.Split.{ArePassed, input_parts};
 ghost use Rattle.lt_checker.specs.declared.limits.TheConstants.{MAX_JOURNAL};
 ghost use Rattle.lt_checker.specs.Checker.{StandsFor};
 ghost use Rattle.lt_checker.specs.Heads.{IsHeadCut, IsRest, FailsRest, IsRoom, IsLineOf, IsJournalAnswer, AnswersInput};
@@ -11,10 +11,10 @@ ghost use Rattle.lt_checker.specs.Input.{IsEndedRun, FailsInput, WantsMemory};
 
 use crate::checker::Checker;
 use crate::error::{InputError, ReplayError};
-use crate::head::read_head;
+use crate::head::{LastLine, read_head};
 use crate::rest::{feed_rest, skip_rest};
 use lt_io::{ReadFailure, Source};
-use lt_journal::split;
+use lt_journal::split_from;
 use lt_law_journals::law_means;
 use lt_script::{Fault, ReadError, Script, ScriptFault, read};
 use lt_world::World;
@@ -43,7 +43,7 @@ pub fn check_input<S: Source>(alloc: Global, source: &mut S) -> Result<EndedRun,
             fault: Fault::Nodes,
         }));
     }
-    judged(alloc, source, &head.bytes, head.room)?
+    judged(alloc, source, &head.bytes, head.last, head.room)?
 }
 
 // Reads what comes after the first bytes of an input, and answers the whole input. A script with a fault is the answer
@@ -52,16 +52,18 @@ fn judged<S: Source>(
     alloc: Global,
     source: &mut S,
     bytes: &[u8],
+    last: LastLine,
     room: Option<usize>,
 ) -> Result<Result<EndedRun, InputError>, ReadFailure>
     requires few { length bytes.now ≤ MAX_JOURNAL }
     requires cut { IsHeadCut bytes.now room }
+    requires passed { ArePassed bytes.now last.place last.before }
     requires room { IsRoom room }
     ensures answer { IfOk result (λ answer. (rest : List ℕ) × AnswersInput (bytes.now ++ rest) answer × IsRest room rest (S.state source.old) (S.state source.new)) }
     ensures kept { IfOk result (λ answer. IfOk answer (λ ended. IsScript ended.script)) }
     ensures err { IfErr result (λ why. FailsRest room why (S.state source.old) (S.state source.new)) }
 {
-    let parts = split(bytes);
+    let parts = split_from(bytes, last.place, last.before);
     let script = match read(alloc, &bytes[..parts.script as usize]) {
         Ok(script) => script,
         Err(ReadError::Memory) => return Err(ReadFailure::Memory),

@@ -1,4 +1,4 @@
-use Rattle.std.proofs.Common.{◌≡◌, ◌≢◌, None, length}
+use Rattle.std.proofs.Common.{◌≡◌, None, length}
 use Rattle.lt_text.specs.Text.{is_line_end, HasNone}
 use Rattle.lt_law_journals.specs.Checking.{fed_piece}
 use Rattle.lt_checker.proofs.checker.feed_all.Given as goal
@@ -7,7 +7,7 @@ use Rattle.lt_checker.proofs.checker.feed_all.Given as goal
 abbrev pub invariant-loop-end : goal.invariant-loop-end
 invariant-loop-end l = record {
   script : l.reader.script ≡ l.fn.reader.script;
-  good : l.fn.reader.reader.place ≢ None;
+  good : l.fn.reader.reader.place ≡ None → l.reader.reader.place ≡ None;
   tail : HasNone is_line_end l.fn.piece → HasNone is_line_end l.left;
   fed : fed_piece l.fn.reader.script (record { reader = l.reader.reader; rest = l.rest.items }) l.left
       ≡ fed_piece l.fn.reader.script (record { reader = l.fn.reader.reader; rest = l.fn.rest.items }) l.piece;

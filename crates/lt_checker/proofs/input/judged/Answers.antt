@@ -15,7 +15,7 @@ returns-clause-answer g c =
     let heard = c.in_ok-told.ensures.told in
     let rest = heard.0 in
     let same = same_parts bytes rest c.args.room _ _ c.requires.cut heard.2 in
-    let parts : c.split-parts.result ≡ input_parts bytes = c.split-parts.ensures in
+    let parts : c.split_from-parts.result ≡ input_parts bytes = c.split_from-parts.ensures in
     let read : read_of (take (input_parts bytes).script bytes) ≡ Ok script = search rules in
     let journal : c.split_at.result.1.now ≡ drop (input_parts bytes).journal bytes =
     c.split_at.ensures.back ∙ ap (λ (p : Parts). drop p.journal bytes) parts in (
@@ -27,11 +27,11 @@ returns-clause-answer g c =
     )
 
 pub answered-requires-clause-few : goal.answered-requires-clause-few
-answered-requires-clause-few g c = subst (λ (p : Parts). p.lines ≤ MAX_JOURNAL) (sym c.split-parts.ensures) (lines_few c.args.bytes.now c.requires.few)
+answered-requires-clause-few g c = subst (λ (p : Parts). p.lines ≤ MAX_JOURNAL) (sym c.split_from-parts.ensures) (lines_few c.args.bytes.now c.requires.few)
 
 pub answered-requires-clause-line : goal.answered-requires-clause-line
 answered-requires-clause-line g c =
     let heard = c.in_ok-told.ensures.told in
-    let few = journal_few c.args.bytes.now heard.0 c.split-parts.result.journal c.args.room _ _ c.requires.few c.requires.room heard.2 in
+    let few = journal_few c.args.bytes.now heard.0 c.split_from-parts.result.journal c.args.room _ _ c.requires.few c.requires.room heard.2 in
     line_within c.in-Ok.script (c.split_at.result.1.now ++ heard.0) c.in_ok-told.told (2 * MAX_JOURNAL) heard.1.answer
     (subst (λ (first : List ℕ). length (first ++ heard.0) ≤ 2 * MAX_JOURNAL) (sym c.split_at.ensures.back) few)
