@@ -1,9 +1,10 @@
--- The nodes of a mask, one after the other.
-use Rattle.std.proofs.Common.{◌≡◌, ◌∙◌, ℕ, zero, suc, ◌+◌, ◌-◌, ◌<◌, ◌≤◌, Bool, true, false, List, [], ◌∷◌, ◌++◌, length, refl, sym, ap, subst, arith, append_assoc, append-nil, length-append, map, Option, Some, None, if◌then◌else◌, ◌==◌, remove}
+-- The nodes of a mask, one after the other; and what else steps of a move come to.
+use Rattle.std.proofs.Common.{◌≡◌, ◌∙◌, ℕ, zero, suc, ◌+◌, ◌-◌, ◌<◌, ◌≤◌, Bool, true, false, List, [], ◌∷◌, ◌++◌, length, refl, sym, ap, subst, arith, append_assoc, append-nil, length-append, map, Option, Some, None, if◌then◌else◌, ◌==◌, ◌||◌, remove}
 use Rattle.std.specs.Int.{bit_at}
 use Rattle.std.proofs.lemmas.Nat.Bits.{bit_at-zero}
 use Rattle.std.proofs.lemmas.List.Edits.{length-remove}
-use Rattle.lt_modes.specs.Modes.{Modes, locks_in}
+use Rattle.lt_modes.specs.Modes.{Modes, locks_in, bars, same_modes}
+use Rattle.lt_modes.proofs.ModeAlgebra.{same_modes-true}
 use Rattle.lt_modes.specs.State.{SetState, Desk, FreezeBody, Made, post_of, Parked, silent, then_do}
 use Rattle.lt_modes.specs.declared.stamp.Stamp.{Stamp}
 use Rattle.lt_modes.specs.declared.event.Event.TheVariants.{Freeze}
@@ -13,6 +14,7 @@ use Rattle.lt_modes.specs.declared.ask.Ask.{Ask}
 use Rattle.lt_modes.specs.Fits.{Numbers}
 use Rattle.lt_modes.specs.Sound.{SoundDesk}
 use Rattle.lt_desk.specs.DeskData.{bits_from, OutData, FitsOut, out_after}
+use Rattle.lt_desk.proofs.MaskLemmas.{same_itself}
 use Rattle.lt_desk.proofs.SeenLemmas.{draw_kept}
 use Rattle.lt_core.specs.CoreData.{CoreData, Does, HasRoom, waiting_here, epoch_of, freeze_number_of, MovesHaveRoom}
 use Rattle.lt_core.specs.Bound.{notices, node_if}
@@ -277,3 +279,13 @@ moves_have_room numbers q clock now core sound later locks memory =
       number = omega (arith, early.1, later);
       tells = memory.tells;
     }
+
+-- Where two sets of modes are the same, they bar the same.
+
+or_implied : (t u : Bool) → (t ≡ true → u ≡ true) → (t || u) ≡ u
+or_implied true u h = sym (h refl)
+or_implied false u h = refl
+
+pub bars_or_same : (a b : Modes) → (same_modes a b || same_modes (bars a) (bars b)) ≡ same_modes (bars a) (bars b)
+bars_or_same a b = or_implied (same_modes a b) (same_modes (bars a) (bars b))
+    (λ e. ap (λ (m : Modes). same_modes (bars a) (bars m)) (sym (same_modes-true a b e)) ∙ same_itself (bars a))

@@ -1,3 +1,4 @@
 pub mod StampLemmas
 mod RecountLemmas
 mod CountLemmas
+mod KnownLemmas

@@ -112,7 +112,7 @@ all_were_told es seen all kept frozen b are is same test holds =
 
 -- The counts of a table, as one of its entries changes and as they are read.
 
-seen_at : (es : List Entry) (x : ℕ) (d : Entry) → x < length es → entry_at (map entry_seen es) x ≡ entry_seen (slice_index_or es x d)
+pub seen_at : (es : List Entry) (x : ℕ) (d : Entry) → x < length es → entry_at (map entry_seen es) x ≡ entry_seen (slice_index_or es x d)
 seen_at [] x d h = absurd (omega (arith, h))
 seen_at (e ∷ es) zero d h = refl
 seen_at (e ∷ es) (suc x) d h = seen_at es x d (omega (arith, h))

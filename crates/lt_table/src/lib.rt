@@ -3,6 +3,7 @@
 #![tactic(auto)]
 
 mod entry;
+mod mask;
 mod pending;
 mod table;
 mod unanswered;

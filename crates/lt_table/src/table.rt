@@ -1,16 +1,20 @@
-ghost use Rattle.std.specs.Prelude.{◌≡◌, ◌≤◌, ◌<◌, ◌+◌, List, true, length, map, replicate, IfOk, OnOk, OnErr, ◌==◌, ◌&&◌, not, nat_lt};
+ghost use Rattle.std.specs.Prelude.{◌≡◌, ◌≤◌, ◌<◌, ◌+◌, List, true, length, map, replicate, IfOk, OnOk, OnErr, IfSome, IfNone, ◌==◌, ◌&&◌, not, nat_lt};
 ghost use Rattle.lt_modes.specs.declared.ask.Ask.{Ask};
 ghost use Rattle.lt_modes.specs.State.{SetState, Desk, first_entry, record_of, modes_of_owed, still_owed, own_part, others};
 ghost use Rattle.lt_modes.specs.Modes.{held_modes};
 ghost use Rattle.lt_modes.specs.Serving.{told, is_newer, owing, stamps_of, settled};
-ghost use Rattle.lt_table.specs.TableData.{entry_at, put_by, ask_with, told_frozen, nodes_with, AreTold};
+ghost use Rattle.lt_table.specs.TableData.{entry_at, put_by, ask_with, told_frozen, nodes_with, AreTold, IsNextKnown, NoneKnown};
 ghost use Rattle.lt_table.specs.Seen.{entry_seen, spare_in};
 
 use crate::entry::{Entry, still_told};
+use crate::mask::{marked, next_bit};
 use crate::pending::Pending;
 use lt_modes::{Mode, ModeCounts, ModeSet, Stamp};
 use std::alloc::{AllocError, Global};
 use std::marker::Model;
+
+// For so many asks at least an entry gets places, so that there is seldom too little room.
+const FIRST_ASKS: u32 = 24;
 
 /// What the desk knows of each node, by the node's number.
 ///
@@ -20,6 +24,8 @@ pub struct Table {
     entries: Vec<Entry>,
     // For each mode, how many nodes have it in their record.
     counts: ModeCounts,
+    // Bit x: node x, which is below 64, has a record.
+    known: u64,
     // For so many asks more each entry has places.
     spare: u32,
     // The frozen modes that each node with a record was told, where it is known that they all were.
@@ -28,7 +34,7 @@ pub struct Table {
 
 impl Model for Table {
     ghost use Rattle.std.specs.Prelude.{◌<◌, ◌≤◌, map, length};
-    ghost use Rattle.lt_table.specs.TableData.{TableData, AreNodeCounts, AreToldLast};
+    ghost use Rattle.lt_table.specs.TableData.{TableData, AreNodeCounts, AreKnown, AreToldLast};
     ghost use Rattle.lt_table.specs.Seen.{entry_seen, spare_in};
 
     ghost Value = { TableData };
@@ -37,7 +43,8 @@ impl Model for Table {
 
     ghost invariant = { λ t. (length t.entries.items < 256)
         × (AreNodeCounts (map entry_seen t.entries.items) t.counts
-        × ((t.spare ≤ spare_in t.entries.items) × AreToldLast (map entry_seen t.entries.items) t.told)) };
+        × ((t.spare ≤ spare_in t.entries.items)
+        × (AreToldLast (map entry_seen t.entries.items) t.told × AreKnown (map entry_seen t.entries.items) t.known))) };
 }
 
 impl Table {
@@ -47,6 +54,7 @@ impl Table {
         Ok(Table {
             entries: first_entries(alloc, nodes)?,
             counts: ModeCounts::new(),
+            known: 0,
             spare: 0,
             told: None,
         })
@@ -59,6 +67,13 @@ impl Table {
         self.entries.len() as u8
     }
 
+    /// For how many asks more each entry has places, at least.
+    pub fn spare(&self) -> u32
+        ensures { result ≡ self.now.spare }
+    {
+        self.spare
+    }
+
     /// Makes room for so many further owed asks in each entry.
     pub fn reserve(&mut self, asks: u32) -> Result<(), AllocError>
         ensures entries { self.new.entries ≡ self.old.entries }
@@ -67,7 +82,7 @@ impl Table {
         ensures full { OnErr result (self.old.spare < asks) }
     {
         if self.spare < asks {
-            self.spare = reserve(&mut self.entries, asks)?;
+            self.spare = reserve(&mut self.entries, asks.max(FIRST_ASKS))?;
         }
         Ok(())
     }
@@ -107,6 +122,15 @@ impl Table {
         self.counts.get(mode)
     }
 
+    /// The first node from this number on that has a record.
+    pub fn next_known(&self, from: u8) -> Option<u8>
+        requires { length self.now.entries ≤ 64 }
+        ensures some { IfSome result (IsNextKnown self.now.entries from) }
+        ensures none { IfNone result (NoneKnown self.now.entries from) }
+    {
+        next_bit(self.known, from)
+    }
+
     /// Applies a tell of a node; false where it isn't newer than the last one.
     pub fn tell(&mut self, node: u8, modes: ModeSet, pending: &Pending, stamp: Stamp) -> bool
         ensures answer { result ≡ is_newer stamp (entry_at self.old.entries node).told_at }
@@ -123,6 +147,7 @@ impl Table {
             let after = entry.record();
             self.told = still_told(self.told, after, entry.frozen_told);
             self.counts = self.counts.shifted(before, after);
+            self.known = marked(self.known, node, !after.is_empty());
         }
         newer
     }
@@ -141,6 +166,7 @@ impl Table {
             let after = entry.record();
             self.told = still_told(self.told, after, entry.frozen_told);
             self.counts = self.counts.shifted(before, after);
+            self.known = marked(self.known, node, !after.is_empty());
             self.spare -= 1;
         }
     }
@@ -208,6 +234,7 @@ impl Table {
             let after = entry.record();
             self.told = still_told(self.told, after, entry.frozen_told);
             self.counts = self.counts.shifted(before, after);
+            self.known = marked(self.known, node, !after.is_empty());
         }
     }
 }

@@ -9,7 +9,7 @@ invariant_of-self c = (
     c.self.invariant.1.0,
     (
       c.self.invariant.1.1.0,
-      subst (λ entries. AreTold c.args.modes entries) (sym (ap (λ t. t.entries) c.self.view_is)) c.requires,
+      (subst (λ entries. AreTold c.args.modes entries) (sym (ap (λ t. t.entries) c.self.view_is)) c.requires, c.self.invariant.1.1.1.1),
     ),
   ),
 )

@@ -1,7 +1,8 @@
-use Rattle.std.proofs.Common.{◌<◌, length, ap, arith, refl, rules}
+use Rattle.std.proofs.Common.{◌<◌, length, ap, arith, refl, rules, not}
 use Rattle.lt_modes.specs.State.{Tell}
 use Rattle.lt_modes.specs.Serving.{told}
 use Rattle.lt_table.specs.Seen.{spare_of}
+use Rattle.lt_table.proofs.KnownLemmas.{known_kept}
 use Rattle.lt_table.proofs.RecountLemmas.{spare_set, entries_put, can_recount, recounted, still_kept}
 use Rattle.lt_table.proofs.table.Table.tell.Goals as goal
 
@@ -35,8 +36,12 @@ invariant_of-self c =
             c.self.invariant.1.0 within there c.record-before.ensures c.record-after.ensures c.shifted-self-inside.ensures,
         (
           omega (arith, c.self.invariant.1.1.0, spare_set es x new e 0 (omega (arith, c.tell.ensures.spare, ap spare_of there))),
-          still_kept es c.self.inside.told c.still_told-self-inside.result x e new c.record-after.result new.frozen_told
-              c.self.invariant.1.1.1 within there c.record-after.ensures refl c.still_told-self-inside.ensures,
+          (
+            still_kept es c.self.inside.told c.still_told-self-inside.result x e new c.record-after.result new.frozen_told
+                c.self.invariant.1.1.1.0 within there c.record-after.ensures refl c.still_told-self-inside.ensures,
+            known_kept es c.self.inside.known c.marked-self-inside.result x c.args.node e new c.record-after.result _
+                c.self.invariant.1.1.1.1 c.from-x.ensures within there c.record-after.ensures (ap not c.is_empty.ensures) c.marked-self-inside.ensures.own c.marked-self-inside.ensures.others,
+          ),
         ),
       ),
     )

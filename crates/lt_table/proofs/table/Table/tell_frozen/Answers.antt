@@ -2,6 +2,7 @@ use Rattle.std.proofs.Common.{◌≡◌, ◌<◌, length, map, ap, arith, rules,
 use Rattle.lt_modes.specs.State.{Entry, record_of}
 use Rattle.lt_table.specs.Seen.{entry_seen, spare_of}
 use Rattle.lt_table.specs.TableData.{put_by, told_frozen}
+use Rattle.lt_table.proofs.KnownLemmas.{known_same}
 use Rattle.lt_table.proofs.RecountLemmas.{spare_set, entries_put, recounted, still_kept}
 use Rattle.lt_table.proofs.table.Table.tell_frozen.Goals as goal
 
@@ -33,8 +34,11 @@ invariant_of-self c =
             c.self.invariant.1.0 within there refl (sym (ap record_of same)) (λ mode. refl),
         (
           omega (arith, c.self.invariant.1.1.0, spare_set es x new e 0 (omega (arith, c.tell_frozen.ensures.spare, ap spare_of there))),
-          still_kept es c.self.inside.told c.still_told-self-inside.result x e new c.record-known.result c.args.modes
-              c.self.invariant.1.1.1 within there c.record-known.ensures (sym (ap (λ (entry : Entry). entry.frozen_told) same)) c.still_told-self-inside.ensures,
+          (
+            still_kept es c.self.inside.told c.still_told-self-inside.result x e new c.record-known.result c.args.modes
+                c.self.invariant.1.1.1.0 within there c.record-known.ensures (sym (ap (λ (entry : Entry). entry.frozen_told) same)) c.still_told-self-inside.ensures,
+            known_same es c.self.inside.known x e new c.self.invariant.1.1.1.1 within there (ap record_of same),
+          ),
         ),
       ),
     )
