@@ -3,7 +3,7 @@ ghost use Rattle.lt_modes.specs.declared.ask.Ask.{Ask};
 ghost use Rattle.lt_modes.specs.State.{SetState, Desk, first_entry, record_of, modes_of_owed, still_owed, own_part, others};
 ghost use Rattle.lt_modes.specs.Modes.{held_modes};
 ghost use Rattle.lt_modes.specs.Serving.{told, is_newer, owing, stamps_of, settled};
-ghost use Rattle.lt_table.specs.TableData.{entry_at, put_by, ask_with, told_frozen, nodes_with, AreTold, IsNextKnown, NoneKnown};
+ghost use Rattle.lt_table.specs.TableData.{entry_at, put_by, ask_with, told_frozen, nodes_with, AreTold, IsNextKnown, NoRecordFrom};
 ghost use Rattle.lt_table.specs.Seen.{entry_seen, spare_in};
 
 use crate::entry::{Entry, still_told};
@@ -126,7 +126,7 @@ impl Table {
     pub fn next_known(&self, from: u8) -> Option<u8>
         requires { length self.now.entries ≤ 64 }
         ensures some { IfSome result (IsNextKnown self.now.entries from) }
-        ensures none { IfNone result (NoneKnown self.now.entries from) }
+        ensures none { IfNone result (NoRecordFrom self.now.entries from) }
     {
         next_bit(self.known, from)
     }
