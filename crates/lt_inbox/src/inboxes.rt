@@ -88,8 +88,7 @@ impl Inboxes {
         ensures { self.new ≡ record self.old { sent = self.old.sent ++ sent_of sender post.to (letter_seen post.letter) ∷ []; free = self.old.free - 1 } }
     {
         self.pairs.mark(sender, post.to);
-        self.sent
-            .push_back_reserved(Sent::new(sender, post.to, post.letter));
+        self.sent.push_back_reserved(Sent::new(sender, post));
     }
 
     /// Takes the front letter from the sender to the receiver.
@@ -111,8 +110,11 @@ impl Inboxes {
         ensures { self.new ≡ record self.old { sent = sent_of sender receiver (letter_seen letter) ∷ self.old.sent; free = self.old.free - 1 } }
     {
         self.pairs.mark(sender, receiver);
-        self.sent
-            .push_front_reserved(Sent::new(sender, receiver, letter));
+        let post = Post {
+            to: receiver,
+            letter,
+        };
+        self.sent.push_front_reserved(Sent::new(sender, post));
     }
 
     /// The number of takes.
