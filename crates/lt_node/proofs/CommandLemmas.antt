@@ -7,7 +7,7 @@ use Rattle.lt_modes.specs.Script.{ScriptData}
 use Rattle.lt_modes.specs.declared.command.Command.{Command}
 use Rattle.lt_spec.specs.Script.{IsScript}
 use Rattle.lt_spec.specs.NodeMove.{commands_of, home, command_if}
-use Rattle.lt_node.specs.Clients.{Progress, no_progress, progress_of, with_command, with_request_at, unstarted, HaveAmong, HaveFrom, AreAtStart}
+use Rattle.lt_node.specs.Clients.{Progress, no_progress, progress_of, with_command, with_request_at, unstarted, HaveAmong, CommandsData, HaveFrom, ListsFrom, AreAtStart, homes_in}
 use Rattle.lt_node.proofs.RequestLemmas.{among_more, none_of, one_of, client_of_request}
 
 pub none_among : (script : ScriptData) (lists : List Progress) → ((c : ℕ) → progress_of lists c ≡ no_progress) → HaveAmong script 0 lists
@@ -52,12 +52,21 @@ request_met script k requests d lists new known same inside count have is =
     )
 
 -- so all commands are in the lists
-pub from_first : (script : ScriptData) (lists : List Progress) → length lists ≡ length script.clients → HaveAmong script (length script.commands) lists → HaveFrom script 0 lists
+from_first : (script : ScriptData) (lists : List Progress) → length lists ≡ length script.clients → HaveAmong script (length script.commands) lists → ListsFrom script 0 lists
 from_first script lists count have = record {
   count = count;
   each = λ client within least. have client within
       ∙ ap (λ (cs : List (ℕ × Command)). unstarted (filter_map (command_if client) cs)) (take_all (length script.commands) script.commands (omega arith));
 }
+
+pub have_first : (script : ScriptData) (lists : List Progress) (homes : List ℕ) → IsScript script → length lists ≡ length script.clients
+    → HaveAmong script (length script.commands) lists → homes ≡ homes_in script → HaveFrom script 0 (record { lists = lists; homes = homes })
+have_first script lists homes known count have same = record { is_script = known; lists_are = from_first script lists count have; homes_are = same }
+
+-- a node took those of its own ones
+pub have_left : (script : ScriptData) (q : ℕ) (old new : CommandsData) → HaveFrom script q old → new.homes ≡ old.homes → ListsFrom script (q + 1) new.lists
+    → HaveFrom script (q + 1) new
+have_left script q old new have same left = record { is_script = have.is_script; lists_are = left; homes_are = same ∙ have.homes_are }
 
 -- The node has the first k clients as it keeps them; of the lists it took those of its own ones among them.
 pub record AreTaken (script : ScriptData) (q k : ℕ) (lists clients : List Progress) : Type 0 where
@@ -67,7 +76,7 @@ pub record AreTaken (script : ScriptData) (q k : ℕ) (lists clients : List Prog
   pub later : (client : ℕ) → k ≤ client → client < length lists → q ≤ home script client → progress_of lists client ≡ unstarted (commands_of script client)
   pub left : (client : ℕ) → client < length lists → q + 1 ≤ home script client → progress_of lists client ≡ unstarted (commands_of script client)
 
-pub none_taken : (script : ScriptData) (q : ℕ) (lists : List Progress) → HaveFrom script q lists → AreTaken script q 0 lists []
+pub none_taken : (script : ScriptData) (q : ℕ) (lists : List Progress) → ListsFrom script q lists → AreTaken script q 0 lists []
 none_taken script q lists have = record {
   made = refl;
   count = have.count;
@@ -76,7 +85,7 @@ none_taken script q lists have = record {
   left = λ client within here. have.each client within (omega (arith, here));
 }
 
-pub all_taken : (script : ScriptData) (q k : ℕ) (lists clients : List Progress) → AreTaken script q k lists clients → HaveFrom script (q + 1) lists
+pub all_taken : (script : ScriptData) (q k : ℕ) (lists clients : List Progress) → AreTaken script q k lists clients → ListsFrom script (q + 1) lists
 all_taken script q k lists clients taken = record { count = taken.count; each = taken.left }
 
 module _ (script : ScriptData) (q k : ℕ) (lists clients : List Progress) where

@@ -8,3 +8,4 @@ pub mod DropLemmas
 pub mod MarkLemmas
 pub mod OwnLemmas
 pub mod ReadyLemmas
+pub mod TouchLemmas

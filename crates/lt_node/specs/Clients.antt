@@ -5,6 +5,7 @@ use Rattle.lt_modes.specs.declared.command.Command.TheVariants as commands
 use Rattle.lt_modes.specs.Script.{ScriptData, ClientData, home_at}
 use Rattle.lt_modes.specs.declared.mode.Mode.TheVariants.{IntentionRead}
 use Rattle.lt_modes.specs.declared.command.Command.TheVariants.{Unlock}
+use Rattle.lt_spec.specs.Script.{IsScript}
 use Rattle.lt_spec.specs.NodeMove.{related, NodeState, node_waits, next_command, locks_in_sets, home, has_command, command_if, commands_of}
 use Rattle.lt_core.specs.declared.set_command.SetCommand.TheVariants as set_commands
 use Rattle.lt_core.specs.declared.set_command.Answer.{Answer}
@@ -135,11 +136,22 @@ HaveAmong script k lists =
     (client : ℕ) → client < length lists
     → progress_of lists client ≡ unstarted (filter_map (command_if client) (take k script.commands))
 
+-- a list for each client, and the node of each client
+pub record CommandsData : Type 0 where
+  pub lists : List Progress
+  pub homes : List ℕ
+
 -- the lists have the commands of the clients of node q, and of the nodes after it
-pub record HaveFrom (script : ScriptData) (q : ℕ) (lists : List Progress) : Type 0 where
+pub record ListsFrom (script : ScriptData) (q : ℕ) (lists : List Progress) : Type 0 where
   pub count : length lists ≡ length script.clients
   pub each : (client : ℕ) → client < length lists → q ≤ home script client
       → progress_of lists client ≡ unstarted (commands_of script client)
+
+-- they are commands of a script, whose lists have those from node q on
+pub record HaveFrom (script : ScriptData) (q : ℕ) (commands : CommandsData) : Type 0 where
+  pub is_script : IsScript script
+  pub lists_are : ListsFrom script q commands.lists
+  pub homes_are : commands.homes ≡ homes_in script
 
 -- the node knows the node of each client, and the commands of its own ones
 pub record KnowsClients (script : ScriptData) (q : ℕ) (homes : List ℕ) (clients : List Progress) : Type 0 where

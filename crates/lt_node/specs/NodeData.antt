@@ -3,6 +3,8 @@ use Rattle.std.specs.Prelude.{ℕ, zero, suc, Option, None, length, option_map, 
 use Rattle.std.specs.Option.{option_or}
 use Rattle.std.specs.Int.{bit_at}
 use Rattle.lt_modes.specs.declared.ask.Ask.{Ask}
+use Rattle.lt_modes.specs.declared.command.Command.{Command}
+use Rattle.lt_modes.specs.declared.command.Command.TheVariants as commands
 use Rattle.lt_modes.specs.Script.{ScriptData}
 use Rattle.lt_modes.specs.Waiting.{pending_ask}
 use Rattle.lt_modes.specs.State.{first_state, SetState, Made}
@@ -12,7 +14,7 @@ use Rattle.lt_modes.specs.Modes.{locks_in}
 use Rattle.lt_modes.specs.Fits.{has_client}
 use Rattle.lt_modes.specs.FiveModes.{bit_if}
 use Rattle.lt_modes.specs.Serving.{waits}
-use Rattle.lt_spec.specs.NodeMove.{NodeState, NodeMade, set_within}
+use Rattle.lt_spec.specs.NodeMove.{NodeState, NodeMade, set_within, next_command}
 use Rattle.lt_spec.specs.Script.{IsScript}
 use Rattle.lt_held.specs.HeldData.{most_locks}
 use Rattle.lt_desk.specs.DeskData.{OutData}
@@ -139,6 +141,38 @@ pub record RoomForLetter (core : CoreData) (letter : Letter) (out : OutData) : T
 abbrev pub RoomToTake : NodeData → Letter → OutData → Type 0
 RoomToTake n letter out = RoomForLetter (core_at n letter.set) letter out
 
+-- Room for a command that touches one set.
+
+-- the set that the command names, unless it is a drop
+abbrev pub touched_set : Command → Option ℕ
+touched_set (commands.Lock s mode) = Some s
+touched_set (commands.Try s mode) = Some s
+touched_set (commands.Unlock s mode) = Some s
+touched_set (commands.Change s gives_up mode) = Some s
+touched_set (commands.DropAll other s) = None
+
+abbrev pub touched_if : Option Command → Option ℕ
+touched_if None = None
+touched_if (Some command) = touched_set command
+
+-- the same of the client's next command
+abbrev pub next_set : ScriptData → NodeState → ℕ → Option ℕ
+next_set script n client = touched_if (next_command script n client)
+
+-- room for one command at the set
+pub record RoomInSet (core : CoreData) (out : OutData) : Type 0 where
+  pub memory : HasMemory 0 core
+  pub send : RoomToSend (most_sent core) out
+
+-- room for a command that touches this set alone, or for one that may touch all
+abbrev pub RoomToTouch : Option ℕ → NodeData → OutData → Type 0
+RoomToTouch None n out = RoomToAct n out
+RoomToTouch (Some s) n out = s < length n.cores → RoomInSet (core_at n s) out
+
+-- room for the client's next command
+abbrev pub RoomForNext : ℕ → NodeData → OutData → Type 0
+RoomForNext client n out = RoomToTouch (next_set n.script (state_of n) client) n out
+
 -- no more asks wait in the set than a script has clients
 abbrev pub HasFewAsks : CoreData → Type 0
 HasFewAsks core = waiting_here core.state ≤ 256
@@ -165,6 +199,21 @@ pub record IsReady (clock : ℕ) (cores : List CoreData) (out : OutData) : Type 
   pub rooms : All (HasRoom 2 clock) cores
   pub asks : All LeavesAsk cores
   pub send : RoomToSend (sum_by most_sent cores + 1) out
+
+-- the set is ready for a move with this clock
+pub record IsSetReady (clock : ℕ) (core : CoreData) (out : OutData) : Type 0 where
+  pub room : HasRoom 2 clock core
+  pub ask : LeavesAsk core
+  pub send : RoomToSend (most_sent core) out
+
+-- so is the set with this number
+pub record IsReadyAt (s clock : ℕ) (cores : List CoreData) (out : OutData) : Type 0 where
+  pub set_is : (core : CoreData) → core ≡ slice_index_or cores s core → IsSetReady clock core out
+
+-- so is this set, or all are
+abbrev pub IsReadyToTouch : Option ℕ → ℕ → List CoreData → OutData → Type 0
+IsReadyToTouch None clock cores out = IsReady clock cores out
+IsReadyToTouch (Some s) clock cores out = IsReadyAt s clock cores out
 
 -- Who waits in which sets of a node: a mask for each client.
 

@@ -3,7 +3,7 @@ ghost use Rattle.lt_core.specs.CoreData.{answer_of, move_of};
 ghost use Rattle.lt_spec.specs.NodeMove.{node_within, leaves_asks, home, node_waits, has_command, next_command, node_act, one_made, at_clock, obey, touched};
 ghost use Rattle.lt_spec.specs.Script.{HasTargets};
 ghost use Rattle.lt_modes.specs.declared.command.Command.TheVariants as commands;
-ghost use Rattle.lt_node.specs.NodeData.{NodeDoes, IsNode, state_of, RoomToAct, IsReady};
+ghost use Rattle.lt_node.specs.NodeData.{NodeDoes, IsNode, state_of, RoomToAct, RoomForNext, IsReady, IsReadyAt, IsReadyToTouch, touched_set};
 ghost use Rattle.lt_node.specs.Clients.{answer_of_act, answer_to};
 
 use crate::family;
@@ -24,6 +24,22 @@ impl Node {
         requires within { IsTrue (node_within self.old.script (state_of self.old)) }
         requires asks { IsTrue (leaves_asks self.old.script (state_of self.old)) }
         requires room { RoomToAct self.old out.old }
+        requires clock { self.old.clock + 1 < 2 ^ 32 }
+        ensures answer { Some result ≡ answer_of_act self.old.script self.old.me client (state_of self.old) }
+        ensures does { NodeDoes (node_act self.old.script self.old.me client (state_of self.old)) self.old out.old self.new out.new }
+    {
+        self.act_next(client, out)
+    }
+
+    /// The same, with room for what the command touches alone.
+    #[inline(always)]
+    pub fn act_next(&mut self, client: u16, out: &mut Out) -> Answer
+        requires client { client < length self.old.script.clients }
+        requires home { home self.old.script client ≡ self.old.me }
+        requires runnable { IsTrue (not (node_waits self.old.script (state_of self.old) client) && has_command self.old.script (state_of self.old) client) }
+        requires within { IsTrue (node_within self.old.script (state_of self.old)) }
+        requires asks { IsTrue (leaves_asks self.old.script (state_of self.old)) }
+        requires room { RoomForNext client self.old out.old }
         requires clock { self.old.clock + 1 < 2 ^ 32 }
         ensures answer { Some result ≡ answer_of_act self.old.script self.old.me client (state_of self.old) }
         ensures does { NodeDoes (node_act self.old.script self.old.me client (state_of self.old)) self.old out.old self.new out.new }
@@ -54,7 +70,7 @@ impl Node {
     fn obey(&mut self, client: u16, command: Command, stamp: Stamp, out: &mut Out) -> Answer
         requires node { stamp.node ≡ self.old.me }
         requires targets { HasTargets self.old.script.sets self.old.script.clients client command }
-        requires ready { IsReady stamp.clock self.old.cores out.old }
+        requires ready { IsReadyToTouch (touched_set command) stamp.clock self.old.cores out.old }
         ensures answer { result ≡ answer_to self.old.script self.old.me client (state_of self.old) command }
         ensures does { NodeDoes (obey self.old.script stamp client (Some command) (state_of self.old)) self.old out.old self.new out.new }
     {
@@ -103,7 +119,7 @@ impl Node {
     ) -> Answer
         requires node { stamp.node ≡ self.old.me }
         requires set { set < length self.old.script.sets }
-        requires ready { IsReady stamp.clock self.old.cores out.old }
+        requires ready { IsReadyAt set stamp.clock self.old.cores out.old }
         ensures answer { result ≡ answer_of self.old.me client command ((state_of self.old).set set) }
         ensures does { NodeDoes (touched (state_of self.old) set (move_of stamp client command set ((state_of self.old).set set))) self.old out.old self.new out.new }
     {

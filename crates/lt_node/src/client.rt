@@ -56,6 +56,14 @@ impl Client {
         (self.made as usize) < self.commands.len()
     }
 
+    /// The next command.
+    pub(crate) fn upcoming(&self) -> Command
+        requires { self.now.made < length self.now.commands }
+        ensures { result ≡ next_of self.now }
+    {
+        self.commands[self.made as usize]
+    }
+
     /// Hands out the next command.
     pub(crate) fn next(&mut self) -> Command
         requires left { self.old.made < length self.old.commands }
@@ -63,7 +71,7 @@ impl Client {
         ensures command { result ≡ next_of self.old }
         ensures made { self.new ≡ one_command_more self.old }
     {
-        let command = self.commands[self.made as usize];
+        let command = self.upcoming();
         self.made += 1;
         command
     }

@@ -1,9 +1,9 @@
 // The commands of a script by their clients, which all nodes get in one pass over the script.
 ghost use Rattle.std.specs.Prelude.{◌≡◌, ◌<◌, ◌+◌, ◌==◌, ℕ, length, IfOk, OnOk, slice_set, if◌then◌else◌};
 ghost use Rattle.lt_spec.specs.NodeMove.{home};
-ghost use Rattle.lt_node.specs.Clients.{HaveAmong, HaveFrom, AreAtStart, with_request_at, progress_of, no_progress};
+ghost use Rattle.lt_node.specs.Clients.{HaveAmong, HaveFrom, ListsFrom, AreAtStart, with_request_at, progress_of, no_progress};
 
-use crate::client::Client;
+use crate::client::{Client, homes_of};
 use lt_modes::Command;
 use lt_script::Script;
 use std::alloc::{AllocError, Global};
@@ -14,29 +14,41 @@ use std::mem::swap;
 #[derive(Drop)]
 pub struct Commands {
     lists: Vec<Client>,
+    // The node of each client.
+    homes: Vec<u8>,
 }
 
 impl Model for Commands {
-    ghost use Rattle.std.specs.Prelude.{List};
-    ghost use Rattle.lt_node.specs.Clients.{Progress};
+    ghost use Rattle.lt_node.specs.Clients.{CommandsData};
 
-    ghost Value = { List Progress };
+    ghost Value = { CommandsData };
 
-    ghost view = { λ c. c.lists.items };
+    ghost view = { λ c. record { lists = c.lists.items; homes = c.homes.items } };
 }
 
 impl Commands {
     /// The commands of all clients.
-    #[tactic(auto, using(crate::proofs::CommandLemmas::from_first))]
+    #[tactic(auto, using(crate::proofs::CommandLemmas::have_first))]
     pub fn new(alloc: Global, script: &Script) -> Result<Commands, AllocError>
         ensures { IfOk result (HaveFrom script.now 0) }
     {
         let mut lists = empty_lists(alloc, script)?;
         add_requests(&mut lists, script)?;
-        Ok(Commands { lists })
+        let homes = homes_of(alloc, script)?;
+        Ok(Commands { lists, homes })
+    }
+
+    /// The node of each client.
+    pub(crate) fn homes(&self, alloc: Global) -> Result<Vec<u8>, AllocError>
+        ensures { IfOk result (λ homes. homes.items ≡ self.now.homes) }
+    {
+        let mut homes = Vec::new(alloc);
+        homes.extend_from_slice(&self.homes)?;
+        Ok(homes)
     }
 
     /// The clients before their first command, as the node keeps them: it takes the lists of its own ones.
+    #[tactic(auto, using(crate::proofs::CommandLemmas::have_left))]
     pub(crate) fn take(
         &mut self,
         alloc: Global,
@@ -97,10 +109,10 @@ fn take_own(
     script: &Script,
     node: u8,
 ) -> Result<Vec<Client>, AllocError>
-    requires { HaveFrom script.now node lists.old.items }
+    requires { ListsFrom script.now node lists.old.items }
     ensures count { IfOk result (λ clients. length clients.items ≡ length script.now.clients) }
     ensures each { IfOk result (λ clients. AreAtStart script.now node clients.items) }
-    ensures left { OnOk result (HaveFrom script.now (node + 1) lists.new.items) }
+    ensures left { OnOk result (ListsFrom script.now (node + 1) lists.new.items) }
 {
     let mut clients = Vec::with_capacity(alloc, usize::from(script.clients()))?;
     for client in 0..script.clients() {

@@ -94,7 +94,7 @@ impl Node {
         ensures state { IfOk result (λ made. state_of made ≡ (start script.now).node node) }
         ensures left { OnOk result (HaveFrom script.now (node + 1) commands.new) }
     {
-        let homes = homes_of(alloc, script)?;
+        let homes = commands.homes(alloc)?;
         let clients = commands.take(alloc, script, node)?;
         Node::begin(alloc, script, node, homes, clients)
     }

@@ -1,29 +1,8 @@
-use Rattle.std.proofs.Common.{◌≡◌, ◌∙◌, ◌+◌, List, ℕ, Some, ap, arith, subst, sym}
-use Rattle.lt_modes.specs.declared.stamp.Stamp.{Stamp}
-use Rattle.lt_modes.specs.Script.{ScriptData}
-use Rattle.lt_core.specs.CoreData.{CoreData}
-use Rattle.lt_spec.specs.NodeMove.{NodeState}
-use Rattle.lt_node.specs.NodeData.{state_of, IsReady}
-use Rattle.lt_node.specs.Clients.{answer_to, answer_if}
-use Rattle.lt_node.proofs.DropLemmas.{answer_after}
-use Rattle.lt_node.proofs.NodeLemmas.{ready_to_act}
+use Rattle.lt_node.specs.NodeData.{next_set, state_of}
+use Rattle.lt_node.proofs.TouchLemmas.{room_by_all}
 use Rattle.lt_node.proofs.node.Node.act.Goals as goal
 
-pub obey-requires-clause-ready : goal.obey-requires-clause-ready
-obey-requires-clause-ready c =
-    let clock = ap (λ (s : Stamp). s.clock) c.stamp_of_act-stamp.ensures in
-    subst (λ (cores : List CoreData). IsReady c.stamp_of_act-stamp.result.clock cores c.args.out.now) (sym c.advance-command.ensures.cores)
-    (ready_to_act c.args.self.now c.args.out.now c.stamp_of_act-stamp.result.clock c.advance-command.ensures.kept c.requires.within c.requires.asks c.requires.room (omega (arith, clock)))
-
-pub returns-clause-answer : goal.returns-clause-answer
-returns-clause-answer c =
+pub act_next-requires-clause-room : goal.act_next-requires-clause-room
+act_next-requires-clause-room c =
     let n = c.args.self.now in
-    let mid = c.advance-command.new.self in
-    let place = c.advance-command.ensures.place in
-    let same : c.obey.result ≡ answer_to n.script n.me c.args.client (state_of n) c.advance-command.result =
-    c.obey.ensures.answer
-    ∙ ap (λ (script : ScriptData). answer_to script mid.me c.args.client (state_of mid) c.advance-command.result) place.0
-    ∙ ap (λ (q : ℕ). answer_to n.script q c.args.client (state_of mid) c.advance-command.result) place.1
-    ∙ ap (λ (s : NodeState). answer_to n.script n.me c.args.client s c.advance-command.result) c.advance-command.ensures.state
-    ∙ answer_after n.script n.me c.args.client (n.clock + 1) c.args.client (state_of n) c.advance-command.result in
-    ap Some same ∙ sym (ap (λ command. answer_if n.script n.me c.args.client (state_of n) command) c.advance-command.ensures.command)
+    room_by_all n c.args.out.now (next_set n.script (state_of n) c.args.client) c.requires.room

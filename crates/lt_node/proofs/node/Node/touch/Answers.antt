@@ -1,10 +1,10 @@
-use Rattle.std.proofs.Common.{◌∙◌, sym, ap, arith, subst, length}
+use Rattle.std.proofs.Common.{◌∙◌, sym, ap, arith, length}
 use Rattle.lt_core.specs.CoreData.{move_of}
-use Rattle.lt_node.specs.NodeData.{NodeData, IsCoreOf, IsReady}
+use Rattle.lt_node.specs.NodeData.{NodeData, IsCoreOf}
 use Rattle.lt_node.proofs.NodeLemmas.{touched_by, touch_done, node_kept}
 use Rattle.lt_node.proofs.MarkLemmas.{remarked, waiting_noted, within_forgotten}
 use Rattle.lt_node.proofs.ReadyLemmas.{known_forgotten}
-use Rattle.lt_node.proofs.FamilyLemmas.{command_fits}
+use Rattle.lt_node.proofs.TouchLemmas.{set_ready, room_at, fits_at}
 use Rattle.lt_node.proofs.node.Node.touch.Goals as goal
 
 pub act-answer-requires-clause-node : goal.act-answer-requires-clause-node
@@ -14,11 +14,13 @@ act-answer-requires-clause-node c =
 
 pub act-answer-requires-clause-fits : goal.act-answer-requires-clause-fits
 act-answer-requires-clause-fits c =
-    let touch = touched_by _ c.args.self.now c.from.result c.args.set c.index_mut-core.result.now c.self.view_is c.self.invariant.0 c.from.ensures c.requires.set c.index_mut-core.ensures.value in
-    let ready = subst (λ (n : NodeData). IsReady c.args.stamp.clock n.cores c.args.out.now) (sym c.self.view_is) c.requires.ready in
-    let inside = ap (λ (n : NodeData). length n.cores) c.self.view_is in
-    command_fits c.args.stamp.clock c.self.inside.cores.items c.args.out.now c.from.result c.index_mut-core.result.now c.args.stamp c.args.client c.args.command ready
-    (omega (arith, touch.inside, c.from.ensures, inside)) c.index_mut-core.ensures.value
+    let ready = set_ready _ c.args.self.now c.from.result c.args.set c.args.stamp.clock c.index_mut-core.result.now c.args.out.now c.self.view_is c.from.ensures c.index_mut-core.ensures.value c.requires.ready in
+    fits_at c.args.stamp.clock c.index_mut-core.result.now c.args.out.now c.args.stamp c.args.client c.args.command ready
+
+pub act-answer-requires-clause-room : goal.act-answer-requires-clause-room
+act-answer-requires-clause-room c =
+    let ready = set_ready _ c.args.self.now c.from.result c.args.set c.args.stamp.clock c.index_mut-core.result.now c.args.out.now c.self.view_is c.from.ensures c.index_mut-core.ensures.value c.requires.ready in
+    room_at c.args.stamp.clock c.index_mut-core.result.now c.args.out.now c.args.command ready
 
 pub returns-clause-does : goal.returns-clause-does
 returns-clause-does c =
