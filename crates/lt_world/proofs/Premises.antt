@@ -205,11 +205,11 @@ did script q state rule old had new out is does =
 
 -- A command of a client, from what its parts do.
 
-pub within_before : (script : ScriptData) (q client : ℕ) (nodes : List NodeData) (boxes : MailData) (had : OutData) (run : List Logged)
-    → Holds script nodes boxes had run → IsTrue (is_enabled script (world_after script run) q (Act client)) → IsWithin (node_at nodes q)
-within_before script q client nodes boxes had run h enabled =
-    let below = act_inside script (world_after script run) q client h.is_script enabled in
-    within script run q (node_at nodes q) h.is_script h.is_run below (h.world.nodes_are q below)
+pub acts_before : (script : ScriptData) (q client : ℕ) (nodes : List NodeData) (boxes : MailData) (had : OutData) (run : List Logged)
+    → Holds script nodes boxes had run → IsTrue (is_enabled script (world_after script run) q (Act client)) → length run + 1 < 2 ^ 32 → CanAct (node_at nodes q) client
+acts_before script q client nodes boxes had run h enabled few =
+    can_act script run q client (node_at nodes q) h.is_script h.is_run enabled few
+    (h.world.nodes_are q (act_inside script (world_after script run) q client h.is_script enabled))
 
 pub act_opened : (script : ScriptData) (q client : ℕ) (nodes : List NodeData) (boxes : MailData) (had : OutData) (run : List Logged)
     → Holds script nodes boxes had run → IsTrue (is_enabled script (world_after script run) q (Act client)) → length run + 1 < 2 ^ 32

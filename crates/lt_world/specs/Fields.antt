@@ -18,7 +18,7 @@ use Rattle.lt_spec.specs.Facts.{state_at}
 use Rattle.lt_merge.specs.Merging.{RunData, events_at}
 use Rattle.lt_desk.specs.DeskData.{OutData}
 use Rattle.lt_desk.specs.LetterSeen.{letter_seen}
-use Rattle.lt_node.specs.NodeData.{NodeData, SameNode, state_of, RoomToAct, RoomToTake}
+use Rattle.lt_node.specs.NodeData.{NodeData, SameNode, state_of, RoomForNext, RoomToTake}
 use Rattle.lt_inbox.specs.Mail.{MailData, mail_in}
 use Rattle.lt_world.specs.declared.network.Network.{Network}
 use Rattle.lt_world.specs.declared.reserved.Reserved.{Reserved}
@@ -146,7 +146,7 @@ step_of (Taking sender letter) = steps.Take sender
 
 -- the node has room for the move; a letter in hand is the front one of its sender, and can go back
 abbrev pub NodeRoom : World → ℕ → List NodeData → MailData → OutData → Reserved → Type 0
-NodeRoom w q nodes inboxes out (Acting client) = RoomToAct (node_at nodes q) out
+NodeRoom w q nodes inboxes out (Acting client) = RoomForNext client (node_at nodes q) out
 NodeRoom w q nodes inboxes out (Taking sender letter) =
     RoomToTake (node_at nodes q) letter out × (w.mail sender q ≡ letter_seen letter ∷ mail_in inboxes sender q)
     × (0 < inboxes.free)

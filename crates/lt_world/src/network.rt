@@ -6,7 +6,7 @@ ghost use Rattle.lt_modes.specs.declared.moves.Step.TheVariants.{Act, Take};
 ghost use Rattle.lt_spec.specs.World.{start, is_enabled};
 ghost use Rattle.lt_desk.specs.LetterSeen.{letter_seen};
 ghost use Rattle.lt_spec.specs.NodeMove.{node_act, node_take, act_stamp, take_stamp};
-ghost use Rattle.lt_node.specs.NodeData.{NodeDoes, state_of, RoomToAct, RoomToTake};
+ghost use Rattle.lt_node.specs.NodeData.{NodeDoes, state_of, RoomForNext, RoomToTake};
 ghost use Rattle.lt_inbox.specs.Mail.{AreDelivered};
 ghost use Rattle.lt_spec.specs.Script.{IsScript};
 ghost use Rattle.lt_world.specs.Fields.{CanAct, CanTake, IsAfterRun, world_in, run_with, IsReserved, step_of, IsNodeOf, InboxRoom, node_at};
@@ -63,11 +63,26 @@ impl Network {
                 self.reserve_act(script, choice.node, client)?;
                 self.act(script, choice.node, client);
             }
-            Step::Take(sender) => {
-                let letter = self.open_take(script, choice.node, sender)?;
-                self.take(script, choice.node, sender, letter);
-            }
+            Step::Take(sender) => self.take_front(script, choice.node, sender)?,
         }
+        Ok(())
+    }
+
+    // This node takes the front letter of the sender. Where memory is refused, the letter goes back.
+    fn take_front(&mut self, script: &Script, node: u8, sender: u8) -> Result<(), AllocError>
+        requires holds { IsAfterRun script.now self.old }
+        requires enabled { IsTrue (is_enabled script.now (world_in script.now self.old) node (Take sender)) }
+        requires few { length self.old.run.entries + 1 < 2 ^ 32 }
+        ensures holds { IsAfterRun script.now self.new }
+        ensures ok { OnOk result (self.new.run.entries ≡ run_with script.now self.old.run.entries node (Take sender)) }
+        ensures err { OnErr result (self.new.run.entries ≡ self.old.run.entries) }
+    {
+        let mut letter = self.inboxes.pop_front(sender, node);
+        if let Err(error) = self.reserve_letter(node, &mut letter) {
+            self.inboxes.put_front(sender, node, letter);
+            return Err(error);
+        }
+        self.take(script, node, sender, letter);
         Ok(())
     }
 
@@ -143,14 +158,14 @@ fn nodes_of(alloc: Global, script: &Script) -> Result<Vec<Node>, AllocError>
 fn act_at(nodes: &mut Vec<Node>, node: u8, client: u16, out: &mut Out) -> Stamp
     requires node { node < length nodes.old.items }
     requires acts { CanAct (node_at nodes.old.items node) client }
-    requires room { RoomToAct (node_at nodes.old.items node) out.old }
+    requires room { RoomForNext client (node_at nodes.old.items node) out.old }
     ensures stamp { result ≡ act_stamp (node_at nodes.old.items node).me (state_of (node_at nodes.old.items node)) }
     ensures others { nodes.new.items ≡ slice_set nodes.old.items node (node_at nodes.new.items node) }
     ensures does { NodeDoes (node_act (node_at nodes.old.items node).script (node_at nodes.old.items node).me client (state_of (node_at nodes.old.items node))) (node_at nodes.old.items node) out.old (node_at nodes.new.items node) out.new }
 {
     let mover = &mut nodes[usize::from(node)];
     let stamp = mover.stamp_of_act();
-    mover.act(client, out);
+    mover.act_next(client, out);
     stamp
 }
 

@@ -2,9 +2,9 @@ ghost use Rattle.std.specs.Prelude.{◌≡◌, ◌<◌, ◌+◌, ◌^◌, length
 ghost use Rattle.lt_modes.specs.declared.moves.Step.TheVariants.{Act, Take};
 ghost use Rattle.lt_spec.specs.World.{is_enabled};
 ghost use Rattle.lt_desk.specs.LetterSeen.{letter_seen};
-ghost use Rattle.lt_node.specs.NodeData.{RoomToAct, RoomToTake};
+ghost use Rattle.lt_node.specs.NodeData.{RoomForNext, RoomToTake};
 ghost use Rattle.lt_inbox.specs.Mail.{SameLetters};
-ghost use Rattle.lt_world.specs.Fields.{IsWithin, CanTake, IsAfterRun, world_in, IsReserved, step_of, OnlyMemory, InboxRoom, node_at};
+ghost use Rattle.lt_world.specs.Fields.{CanAct, CanTake, IsAfterRun, world_in, IsReserved, step_of, OnlyMemory, InboxRoom, node_at};
 ghost use Rattle.lt_world.specs.declared.reserved.Reserved.TheVariants.{Acting, Taking};
 
 use super::Network;
@@ -59,7 +59,7 @@ impl Network {
         ensures err { OnErr result (IsAfterRun script.now self.new) }
         ensures entries { self.new.run.entries ≡ self.old.run.entries }
     {
-        self.reserve_command(node)
+        self.reserve_command(node, client)
     }
 
     // Takes the front letter from the sender to this node in hand, with room for the node to take it. Where memory is
@@ -96,23 +96,23 @@ impl Network {
         }
     }
 
-    // Makes room for one command of this node.
-    fn reserve_command(&mut self, node: u8) -> Result<(), AllocError>
+    // Makes room for the next command of a client of this node.
+    fn reserve_command(&mut self, node: u8, client: u16) -> Result<(), AllocError>
         requires node { node < length self.old.nodes.items }
-        requires within { IsWithin (node_at self.old.nodes.items node) }
+        requires acts { CanAct (node_at self.old.nodes.items node) client }
         ensures nodes { OnlyMemory node self.old.nodes.items self.new.nodes.items }
         ensures letters { SameLetters self.old.inboxes self.new.inboxes }
         ensures entries { self.new.run.entries ≡ self.old.run.entries }
         ensures out { (self.new.out.posts ≡ self.old.out.posts) × (self.new.out.events ≡ self.old.out.events) }
-        ensures room { OnOk result (RoomToAct (node_at self.new.nodes.items node) self.new.out) }
+        ensures room { OnOk result (RoomForNext client (node_at self.new.nodes.items node) self.new.out) }
         ensures send { OnOk result (InboxRoom self.new.inboxes self.new.run self.new.out) }
     {
-        self.nodes[usize::from(node)].reserve(&mut self.out)?;
+        self.nodes[usize::from(node)].reserve_next(client, &mut self.out)?;
         reserve_all(&mut self.inboxes, &mut self.run, &self.out)
     }
 
     // Makes room for this node to take the letter.
-    fn reserve_letter(&mut self, node: u8, letter: &mut Letter) -> Result<(), AllocError>
+    pub(super) fn reserve_letter(&mut self, node: u8, letter: &mut Letter) -> Result<(), AllocError>
         requires node { node < length self.old.nodes.items }
         requires takes { CanTake (node_at self.old.nodes.items node) (letter_seen letter.old) }
         ensures nodes { OnlyMemory node self.old.nodes.items self.new.nodes.items }
