@@ -153,6 +153,13 @@ pub waiting_appended : (script : ScriptData) (me client : ℕ) (command : Comman
     → TellsWaiting (with_request script client command) me cores masks
 waiting_appended script me client command cores masks tells = record { count = tells.count; bits = tells.bits }
 
+-- masks that are made at once
+pub none_marked : (masks : List ℕ) (count : ℕ) → length masks ≡ count → ((k d : ℕ) → k < count → slice_index_or masks k d ≡ 0) → (client : ℕ) → slice_index_or masks client 0 ≡ 0
+none_marked masks count long none client = elim (cases_lt client count) [
+  | inl below ↦ none client 0 below
+  | inr above ↦ get_or_past masks client 0 (omega (arith, above, long))
+]
+
 -- nobody waits at the start
 pub waiting_first : (script : ScriptData) (me : ℕ) (cores : List CoreData) (masks : List ℕ) → length masks ≡ length script.clients
     → ((client : ℕ) → slice_index_or masks client 0 ≡ 0)

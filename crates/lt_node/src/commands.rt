@@ -116,7 +116,8 @@ fn take_own(
 {
     let mut clients = Vec::with_capacity(alloc, usize::from(script.clients()))?;
     for client in 0..script.clients() {
-        clients.push(take_next(alloc, lists, script, node, client)?)?;
+        let next = take_next(alloc, lists, script, node, client)?;
+        clients.push_reserved(next);
     }
     Ok(clients)
 }

@@ -9,14 +9,13 @@ use lt_script::Script;
 use std::alloc::{AllocError, Global};
 
 /// The masks at the start, where nobody waits.
+#[tactic(auto, using(crate::proofs::MarkLemmas::none_marked))]
 pub(crate) fn no_marks(alloc: Global, script: &Script) -> Result<Vec<u8>, AllocError>
     ensures count { IfOk result (λ masks. length masks.items ≡ length script.now.clients) }
     ensures none { IfOk result (λ masks. (client : ℕ) → slice_index_or masks.items client 0 ≡ 0) }
 {
-    let mut masks = Vec::with_capacity(alloc, usize::from(script.clients()))?;
-    for _ in 0..script.clients() {
-        masks.push(0)?;
-    }
+    let mut masks = Vec::new(alloc);
+    masks.resize(usize::from(script.clients()), 0)?;
     Ok(masks)
 }
 
