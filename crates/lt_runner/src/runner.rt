@@ -1,5 +1,7 @@
 ghost use Rattle.std.specs.Prelude.{◌≡◌, ◌≢◌, ◌<◌, ◌≤◌, ◌==◌, [], length, IfOk};
+ghost use Rattle.lt_spec.specs.World.{start};
 ghost use Rattle.lt_spec.specs.declared.moves.TheConstants.{MAX_MOVES};
+ghost use Rattle.lt_node.specs.NodeData.{state_of};
 ghost use Rattle.lt_mail.specs.Opening.{IsFresh};
 ghost use Rattle.lt_runner.specs.declared.choice.Choice.TheVariants as choices;
 ghost use Rattle.lt_runner.specs.declared.turning.Turned.TheVariants as turns;
@@ -52,6 +54,27 @@ impl Runner {
         requires mail { IsFresh script.now.nodes node mail }
         requires limit { (0 < limit) × (limit ≤ MAX_MOVES) }
         ensures { IfOk result (StartsWith script.now node mail limit) }
+    {
+        let node = Node::new(alloc, script, node)?;
+        Runner::of_node(alloc, script, node, mail, limit)
+    }
+
+    /// The runner of this node, which is at the start of the script; it makes up to `limit` moves.
+    ///
+    /// Without memory the node and the mail are dropped.
+    pub fn of_node(
+        alloc: Global,
+        script: &Script,
+        node: Node,
+        mail: Mail,
+        limit: u32,
+    ) -> Result<Runner, AllocError>
+        requires script { node.script ≡ script.now }
+        requires node { node.me < script.now.nodes }
+        requires state { state_of node ≡ (start script.now).node node.me }
+        requires mail { IsFresh script.now.nodes node.me mail }
+        requires limit { (0 < limit) × (limit ≤ MAX_MOVES) }
+        ensures { IfOk result (StartsWith script.now node.me mail limit) }
     {
         let parts = begin(alloc, script, node, mail, limit)?;
         Ok(Runner {
@@ -134,18 +157,19 @@ impl Runner {
 fn begin(
     alloc: Global,
     script: &Script,
-    node: u8,
+    node: Node,
     mail: Mail,
     limit: u32,
 ) -> Result<Parts, AllocError>
-    requires node { node < script.now.nodes }
-    requires mail { IsFresh script.now.nodes node mail }
+    requires script { node.script ≡ script.now }
+    requires node { node.me < script.now.nodes }
+    requires state { state_of node ≡ (start script.now).node node.me }
+    requires mail { IsFresh script.now.nodes node.me mail }
     ensures kept { IfOk result RunnerInvariant }
-    ensures starts { IfOk result (StartsWith script.now node mail limit) }
+    ensures starts { IfOk result (StartsWith script.now node.me mail limit) }
 {
-    let state = Node::new(alloc, script, node)?;
     Ok(Parts {
-        node: state,
+        node,
         mail,
         log: first_log(alloc, script, limit)?,
         out: Out::new(alloc),
