@@ -11,13 +11,13 @@ use Rattle.lt_mail.specs.Passing.{OutChanges, InChanges, Flushes}
 
 -- both ends of the ring are there
 pub linked_ends : (out into : Mail) → AreLinked out into → (into.me < outs_count out) × (out.me < ins_count into)
-linked_ends out into h = by_ends (slice_get out.outs.items into.me) (slice_get into.ins.items out.me) refl refl h
+linked_ends out into h = by_ends (slice_get out.outs.items into.me) (slice_get into.ins out.me) refl refl h
   where
-    by_ends : (o : Option OutEnd) (i : Option InLane) → slice_get out.outs.items into.me ≡ o → slice_get into.ins.items out.me ≡ i
+    by_ends : (o : Option OutEnd) (i : Option InLane) → slice_get out.outs.items into.me ≡ o → slice_get into.ins out.me ≡ i
         → Both IsOpenLink (lane_of (letters_to into.me out.waiting.items) o) i → (into.me < outs_count out) × (out.me < ins_count into)
     by_ends None i eo ei l = absurd l
     by_ends (Some o) None eo ei l = absurd l
-    by_ends (Some o) (Some i) eo ei l = (slice_get_within out.outs.items into.me o eo, slice_get_within into.ins.items out.me i ei)
+    by_ends (Some o) (Some i) eo ei l = (slice_get_within out.outs.items into.me o eo, slice_get_within into.ins out.me i ei)
 
 still_linked : (R : OutLane → OutLane → Type 0) (S : InLane → InLane → Type 0) → ((x y : OutLane) → R x y → SameOut x y) → ((x y : InLane) → S x y → SameIn x y)
     → (o p : Option OutLane) (i j : Option InLane) → Both R o p → Both S i j → Both IsOpenLink o i → Both IsOpenLink p j

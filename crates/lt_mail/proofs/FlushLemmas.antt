@@ -54,7 +54,7 @@ lane_same t (Some x) None h = h
 lane_same true (Some x) (Some y) h = h.ring
 lane_same false (Some x) (Some y) h = subst (λ (lane : OutLane). SameOut x lane) (sym h) ((refl, refl, refl, refl), refl)
 
-pub passed_kept : (only : Option ℕ) (a b : Mail) → b.me ≡ a.me → b.ins.items ≡ a.ins.items
+pub passed_kept : (only : Option ℕ) (a b : Mail) → b.me ≡ a.me → b.ins ≡ a.ins
     → Passed only a.outs.items a.waiting.items b.outs.items b.waiting.items → KeepsSent a b
 passed_kept only a b me ins h = record {
   sent = λ node. lane_sent (is_tried only node) (out_at a node) (out_at b node) (h.lanes node);
@@ -102,7 +102,7 @@ lane_there a to below =
     (record { end = there.0; outbox = letters_to to a.waiting.items }, ap (λ (o : Option OutEnd). lane_of (letters_to to a.waiting.items) o) there.1)
 
 -- one outbox was flushed, and the others are as they were
-pub one_flushed : (a b : Mail) (to node : ℕ) → to < outs_count a → node ≡ to → b.me ≡ a.me → b.ins.items ≡ a.ins.items
+pub one_flushed : (a b : Mail) (to node : ℕ) → to < outs_count a → node ≡ to → b.me ≡ a.me → b.ins ≡ a.ins
     → Passed (Some node) a.outs.items a.waiting.items b.outs.items b.waiting.items → OutChanges Flushes a b to
 one_flushed a b to node below at me ins h = record {
   me = me;
@@ -124,7 +124,7 @@ one_flushed a b to node below at me ins h = record {
     same (Some x) (Some y) p = ap Some p
 
 -- a letter more waits, at the end
-pub put_changes : (a b : Mail) (post : Post) → post.to < outs_count a → b.me ≡ a.me → b.outs.items ≡ a.outs.items → b.ins.items ≡ a.ins.items
+pub put_changes : (a b : Mail) (post : Post) → post.to < outs_count a → b.me ≡ a.me → b.outs.items ≡ a.outs.items → b.ins ≡ a.ins
     → b.waiting.items ≡ a.waiting.items ++ post ∷ [] → OutChanges (Puts post.letter) a b post.to
 put_changes a b post below me outs ins waiting = record {
   me = me;
@@ -254,7 +254,7 @@ all_opened nodes capacity ms some h = record {
 
     linked : (a b : ℕ) (x y : Mail) → slice_get ms a ≡ Some x → slice_get ms b ≡ Some y → AreLinked x y
     linked a b x y x_at y_at =
-        rw (h.me a x x_at) (rw (h.me b y y_at) (ends (slice_get_cases x.outs.items b).1 (slice_get_cases y.ins.items a).1))
+        rw (h.me a x x_at) (rw (h.me b y y_at) (ends (slice_get_cases x.outs.items b).1 (slice_get_cases y.ins a).1))
       where
         all_outs : outs_count x ≡ nodes
         all_outs = (fresh nodes capacity ms h a x x_at).outs
@@ -269,7 +269,7 @@ all_opened nodes capacity ms some h = record {
         b_below = omega (arith, slice_get_within ms b y y_at, h.count)
 
         ends : ((o : OutEnd) × (b < outs_count x) × (end_at x b ≡ Some o) × (slice_index_or x.outs.items b o ≡ o)) ⊎ ((outs_count x ≤ b) × (end_at x b ≡ None))
-            → ((i : InLane) × (a < ins_count y) × (in_at y a ≡ Some i) × (slice_index_or y.ins.items a i ≡ i)) ⊎ ((ins_count y ≤ a) × (in_at y a ≡ None))
+            → ((i : InLane) × (a < ins_count y) × (in_at y a ≡ Some i) × (slice_index_or y.ins a i ≡ i)) ⊎ ((ins_count y ≤ a) × (in_at y a ≡ None))
             → Both IsOpenLink (out_at x b) (in_at y a)
         ends (inr o) i = absurd (omega (arith, o.0, all_outs, b_below))
         ends (inl o) (inr i) = absurd (omega (arith, i.0, all_ins, a_below))

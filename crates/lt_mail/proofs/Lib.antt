@@ -3,3 +3,4 @@ pub mod PassLemmas
 pub mod FlushLemmas
 pub mod BothLemmas
 pub mod OpeningLemmas
+pub mod AloneLemmas

@@ -135,7 +135,7 @@ pub fewer_letters : (m : Mail) (more fewer : ℕ) → fewer ≤ more → HasRoom
 fewer_letters m more fewer less h = omega (arith, h, less)
 
 -- the mail with the same ends and the same letters that wait
-pub same_mail : (a b : Mail) → b.me ≡ a.me → b.outs.items ≡ a.outs.items → b.ins.items ≡ a.ins.items → b.waiting.items ≡ a.waiting.items
+pub same_mail : (a b : Mail) → b.me ≡ a.me → b.outs.items ≡ a.outs.items → b.ins ≡ a.ins → b.waiting.items ≡ a.waiting.items
     → KeepsSent a b × ((node : ℕ) → given_to b node ≡ given_to a node)
 same_mail a b me outs ins waiting = (
   record {
@@ -208,6 +208,13 @@ look_joins xs ys zs from h k = record {
       | inr apart ↦ subst (λ (o : Option InLane). Alike Sees (slice_get ys node) o) (sym (k.others node apart)) (sees_self (slice_get ys node))
     ]
 
+-- some rings were looked at, and then some
+pub looks_join : (xs ys zs : List InLane) → LooksAtSome xs ys → LooksAtSome ys zs → LooksAtSome xs zs
+looks_join xs ys zs h k = record {
+  count = k.count ∙ h.count;
+  lanes = λ node. sees_join (slice_get xs node) (slice_get ys node) (slice_get zs node) (h.lanes node) (k.lanes node);
+}
+
 -- the rings before it stay as they were seen
 pub none_stays : (from me : ℕ) (ys zs : List InLane) → LooksAt ys zs from → SawNone from me ys → SawNone from me zs
 none_stays from me ys zs k h node below apart =
@@ -226,7 +233,7 @@ none_goes_on from me ys zs none k h node below apart = elim (cases_eq node from)
 ]
 
 -- what that means for a mail
-pub all_looked : (a b : Mail) → b.me ≡ a.me → b.outs.items ≡ a.outs.items → b.waiting.items ≡ a.waiting.items → LooksAtSome a.ins.items b.ins.items → Looked a b
+pub all_looked : (a b : Mail) → b.me ≡ a.me → b.outs.items ≡ a.outs.items → b.waiting.items ≡ a.waiting.items → LooksAtSome a.ins b.ins → Looked a b
 all_looked a b me outs waiting h = record {
   ends = record {
     me = me;
@@ -263,7 +270,7 @@ all_looked a b me outs waiting h = record {
     more_known (Some x) (Some y) p = prefix_seen (known x) (known y) p.learnt
 
 -- no letter of the first of the other nodes is known
-pub none_before : (first : ℕ) (b : Mail) → SawNone first b.me b.ins.items → (node : ℕ) → node < first → node ≢ b.me → known_from b node ≡ []
+pub none_before : (first : ℕ) (b : Mail) → SawNone first b.me b.ins → (node : ℕ) → node < first → node ≢ b.me → known_from b node ≡ []
 none_before first b h node below apart = told (in_at b node) (h node below apart)
   where
     told : (y : Option InLane) → Saw false y → on_in known y ≡ []
@@ -271,8 +278,8 @@ none_before first b h node below apart = told (in_at b node) (h node below apart
     told (Some y) q = ap seen q
 
 -- no letter of another node is known
-pub none_known : (b : Mail) → SawNone (ins_count b) b.me b.ins.items → (node : ℕ) → node ≢ b.me → known_from b node ≡ []
-none_known b h node apart = elim (slice_get_cases b.ins.items node).1 [
+pub none_known : (b : Mail) → SawNone (ins_count b) b.me b.ins → (node : ℕ) → node ≢ b.me → known_from b node ≡ []
+none_known b h node apart = elim (slice_get_cases b.ins node).1 [
   | inl there ↦ none_before (ins_count b) b h node there.1 apart
   | inr past ↦ ap (on_in known) past.1
 ]

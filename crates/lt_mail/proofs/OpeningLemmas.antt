@@ -7,7 +7,7 @@ use Rattle.lt_mail.specs.declared.lane.OutEnd.{OutEnd}
 use Rattle.lt_mail.specs.declared.lane.InLane.{InLane}
 use Rattle.lt_mail.specs.declared.mail.Mail.{Mail}
 use Rattle.lt_mail.specs.Words.{AreRingEnds, end_at, in_at, outs_count, ins_count, Both}
-use Rattle.lt_mail.specs.Opening.{IsNewOut, IsNewIn, AtOne, GainsOut, GainsIn, GainsLink, Opening, AreEmpty}
+use Rattle.lt_mail.specs.Opening.{IsNewOut, IsNewIn, AtOne, GainsOut, GainsIn, GainsLink, Opening, AreEmpty, IsEmpty}
 
 pub some_same : {X : Type 0} (x y : X) → Some x ≡ Some y → x ≡ y
 some_same x y e = cc
@@ -54,8 +54,8 @@ record WasAt (a b k : ℕ) (out : OutEnd) (into : InLane) (ms : List Mail) (n : 
   waiting : n.waiting.items ≡ m.waiting.items
   out_here : k ≡ a → n.outs.items ≡ m.outs.items ++ out ∷ []
   out_other : k ≢ a → n.outs.items ≡ m.outs.items
-  in_here : k ≡ b → n.ins.items ≡ m.ins.items ++ into ∷ []
-  in_other : k ≢ b → n.ins.items ≡ m.ins.items
+  in_here : k ≡ b → n.ins ≡ m.ins ++ into ∷ []
+  in_other : k ≢ b → n.ins ≡ m.ins
 
 was_at : (capacity a b : ℕ) (ms ns : List Mail) (h : GainsLink capacity a b ms ns) (k : ℕ) (n : Mail) → slice_get ns k ≡ Some n → WasAt a b k h.out h.into ms n
 was_at capacity a b ms ns h k n e = record {
@@ -66,7 +66,7 @@ was_at capacity a b ms ns h k n e = record {
   out_here = λ same. late_outs ∙ (first.here same).1;
   out_other = λ apart. late_outs ∙ ap (λ (m : Mail). m.outs.items) (first.other apart);
   in_here = λ same. (second.here same).2 ∙ ap (λ (items : List InLane). items ++ h.into ∷ []) early_ins;
-  in_other = λ apart. ap (λ (m : Mail). m.ins.items) (second.other apart) ∙ early_ins;
+  in_other = λ apart. ap (λ (m : Mail). m.ins) (second.other apart) ∙ early_ins;
 }
   where
     second : Before (GainsIn h.into) b h.mid k n
@@ -99,10 +99,10 @@ was_at capacity a b ms ns h k n e = record {
       | inr apart ↦ ap (λ (m : Mail). m.waiting.items) (first.other apart)
     ]
 
-    early_ins : second.m.ins.items ≡ first.m.ins.items
+    early_ins : second.m.ins ≡ first.m.ins
     early_ins = elim (cases_eq k a) [
       | inl same ↦ (first.here same).2
-      | inr apart ↦ ap (λ (m : Mail). m.ins.items) (first.other apart)
+      | inr apart ↦ ap (λ (m : Mail). m.ins) (first.other apart)
     ]
 
     early_me : second.m.me ≡ first.m.me
@@ -124,7 +124,7 @@ out_cases a b k out into ms n w j lane e = elim (cases_eq k a) [
 in_cases : (a b k : ℕ) (out : OutEnd) (into : InLane) (ms : List Mail) (n : Mail) (w : WasAt a b k out into ms n) (j : ℕ) (lane : InLane) → in_at n j ≡ Some lane
     → (in_at w.m j ≡ Some lane) ⊎ ((k ≡ b) × (j ≡ ins_count w.m) × (lane ≡ into))
 in_cases a b k out into ms n w j lane e = elim (cases_eq k b) [
-  | inl same ↦ elim (pushed_cases w.m.ins.items into j lane (subst (λ (items : List InLane). slice_get items j ≡ Some lane) (w.in_here same) e)) [
+  | inl same ↦ elim (pushed_cases w.m.ins into j lane (subst (λ (items : List InLane). slice_get items j ≡ Some lane) (w.in_here same) e)) [
     | inl old ↦ inl old
     | inr new ↦ inr (same, new.0, new.1)
   ]
@@ -159,7 +159,7 @@ links_more nodes capacity a b ms ns h g k j x y out into x_at y_at out_there int
         absurd (omega (arith, row, below, i.0))
     by_cases (inr o) (inl i) =
         let row = taken_rows (o.1 ∙ sent_rows o.0) in
-        let below = slice_get_within taker.m.ins.items k into i in
+        let below = slice_get_within taker.m.ins k into i in
         absurd (omega (arith, row, below, o.0))
     by_cases (inr o) (inr i) = subst (λ (l : OutEnd). AreRingEnds l into) (sym o.2) (subst (λ (l : InLane). AreRingEnds g.out l) (sym i.2) g.new.link)
 
@@ -194,7 +194,7 @@ one_more nodes capacity a b ms ns h g = record {
     ins_before : (k : ℕ) (n : Mail) → slice_get ns k ≡ Some n → k < b + 1 → ins_count n ≡ a + 1
     ins_before k n there below = elim (cases_eq k b) [
       | inl same ↦ let w = was k n there in
-          ap (λ (items : List InLane). length items) (w.in_here same) ∙ omega (arith, length_push w.m.ins.items g.into, h.ins_after k w.m w.there (omega (arith, same)))
+          ap (λ (items : List InLane). length items) (w.in_here same) ∙ omega (arith, length_push w.m.ins g.into, h.ins_after k w.m w.there (omega (arith, same)))
       | inr apart ↦ let w = was k n there in
           ap (λ (items : List InLane). length items) (w.in_other apart) ∙ h.ins_before k w.m w.there (omega (arith, below, apart))
     ]
@@ -217,6 +217,16 @@ next_row nodes capacity a ms h = record {
   links = h.links;
 }
 
+-- one more has no ring
+pub next_empty : (n : ℕ) (ms : List Mail) (m : Mail) → AreEmpty n ms → IsEmpty n m → AreEmpty (n + 1) (ms ++ m ∷ [])
+next_empty n ms m h e = record {
+  count = length_push ms m ∙ ap (λ (k : ℕ). k + 1) h.count;
+  each = λ k q there. elim (pushed_cases ms m k q there) [
+    | inl old ↦ h.each k q old
+    | inr new ↦ subst (λ (x : Mail). IsEmpty k x) (sym new.1) (e.0 ∙ sym (new.0 ∙ h.count), e.1, e.2, e.3)
+  ];
+}
+
 pub first_row : (nodes capacity : ℕ) (ms : List Mail) → AreEmpty nodes ms → Opening nodes capacity 0 0 ms
 first_row nodes capacity ms h = record {
   count = h.count;
@@ -228,7 +238,7 @@ first_row nodes capacity ms h = record {
   ins_before = λ k m there before. absurd (omega (arith, before));
   ins_after = λ k m there after. ap (λ (items : List InLane). length items) (h.each k m there).2;
   new_out = λ k j m lane there e. absurd (no_out j lane m.outs.items (h.each k m there).1 e);
-  new_in = λ k j m lane there e. absurd (no_in j lane m.ins.items (h.each k m there).2 e);
+  new_in = λ k j m lane there e. absurd (no_in j lane m.ins (h.each k m there).2 e);
   links = λ k j x y out into x_at y_at e i. absurd (no_out j out x.outs.items (h.each k x x_at).1 e);
 }
   where

@@ -1,3 +1,4 @@
 pub mod Words
 pub mod Passing
 pub mod Opening
+pub mod Known

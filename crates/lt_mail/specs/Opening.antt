@@ -46,10 +46,10 @@ pub record AtOne (R : Mail → Mail → Type 0) (place : ℕ) (ms ns : List Mail
   pub others : (k : ℕ) → k ≢ place → slice_get ns k ≡ slice_get ms k
 
 abbrev pub GainsOut : OutEnd → Mail → Mail → Type 0
-GainsOut lane m n = (n.me ≡ m.me) × (n.outs.items ≡ m.outs.items ++ lane ∷ []) × (n.ins.items ≡ m.ins.items) × (n.waiting.items ≡ m.waiting.items)
+GainsOut lane m n = (n.me ≡ m.me) × (n.outs.items ≡ m.outs.items ++ lane ∷ []) × (n.ins ≡ m.ins) × (n.waiting.items ≡ m.waiting.items)
 
 abbrev pub GainsIn : InLane → Mail → Mail → Type 0
-GainsIn lane m n = (n.me ≡ m.me) × (n.outs.items ≡ m.outs.items) × (n.ins.items ≡ m.ins.items ++ lane ∷ []) × (n.waiting.items ≡ m.waiting.items)
+GainsIn lane m n = (n.me ≡ m.me) × (n.outs.items ≡ m.outs.items) × (n.ins ≡ m.ins ++ lane ∷ []) × (n.waiting.items ≡ m.waiting.items)
 
 -- the mail at a has one new end of a ring more, and that at b the other end
 pub record GainsLink (capacity a b : ℕ) (ms ns : List Mail) : Type 0 where
@@ -75,7 +75,11 @@ pub record Opening (nodes capacity a b : ℕ) (ms : List Mail) : Type 0 where
   pub links : (k j : ℕ) (x y : Mail) (out : OutEnd) (into : InLane) → slice_get ms k ≡ Some x → slice_get ms j ≡ Some y
       → end_at x j ≡ Some out → in_at y k ≡ Some into → AreRingEnds out into
 
+-- the node's mail with no ring
+abbrev pub IsEmpty : ℕ → Mail → Type 0
+IsEmpty node m = (m.me ≡ node) × (m.outs.items ≡ []) × (m.ins ≡ []) × (m.waiting.items ≡ [])
+
 -- a mail with no ring for each node
 pub record AreEmpty (nodes : ℕ) (ms : List Mail) : Type 0 where
   pub count : length ms ≡ nodes
-  pub each : (k : ℕ) (m : Mail) → slice_get ms k ≡ Some m → (m.me ≡ k) × (m.outs.items ≡ []) × (m.ins.items ≡ []) × (m.waiting.items ≡ [])
+  pub each : (k : ℕ) (m : Mail) → slice_get ms k ≡ Some m → IsEmpty k m

@@ -69,6 +69,10 @@ abbrev pub Saw : Bool → Option InLane → Type 0
 Saw answer None = ⊥
 Saw answer (Some lane) = MatchBool answer (0 < length (known lane)) (known lane ≡ [])
 
+-- a letter is in the ring of this node, another one
+abbrev pub IsSender : ℕ → List InLane → ℕ → Type 0
+IsSender me lanes from = (from < length lanes) × (from ≢ me) × Saw true (slice_get lanes from)
+
 -- what was sent stays, and so does all that is taken
 pub record KeepsSent (a b : Mail) : Type 0 where
   pub sent : (node : ℕ) → sent_to b node ≡ sent_to a node
@@ -81,6 +85,12 @@ pub record KeepsSent (a b : Mail) : Type 0 where
 pub record LooksAt (xs ys : List InLane) (from : ℕ) : Type 0 where
   pub count : length ys ≡ length xs
   pub here : Both Sees (slice_get xs from) (slice_get ys from)
+  pub others : (node : ℕ) → node ≢ from → slice_get ys node ≡ slice_get xs node
+
+-- one ring went from the one to the other in this way
+pub record LaneChanges (R : InLane → InLane → Type 0) (xs ys : List InLane) (from : ℕ) : Type 0 where
+  pub count : length ys ≡ length xs
+  pub here : Both R (slice_get xs from) (slice_get ys from)
   pub others : (node : ℕ) → node ≢ from → slice_get ys node ≡ slice_get xs node
 
 -- some rings were

@@ -68,14 +68,14 @@ abbrev pub out_at : Mail → ℕ → Option OutLane
 out_at m node = lane_in m.outs.items m.waiting.items node
 
 abbrev pub in_at : Mail → ℕ → Option InLane
-in_at m node = slice_get m.ins.items node
+in_at m node = slice_get m.ins node
 
 -- to so many nodes it can send, and from so many it can take, its own included
 abbrev pub outs_count : Mail → ℕ
 outs_count m = length m.outs.items
 
 abbrev pub ins_count : Mail → ℕ
-ins_count m = length m.ins.items
+ins_count m = length m.ins
 
 abbrev pub on_out : (OutLane → List Letter) → Option OutLane → List rules.Letter
 on_out letters None = []

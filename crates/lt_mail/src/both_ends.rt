@@ -29,7 +29,8 @@ fn see_places(out: &mut Mail, into: &mut Mail)
     ensures places { Both KnowsPlaces (out_at out.new into.old.me) (in_at into.new out.old.me) }
 {
     let sender = &mut out.outs[usize::from(into.me)];
-    let taker = &mut into.ins[usize::from(out.me)];
+    into.ins.known.alone = false;
+    let taker = &mut into.ins.lanes[usize::from(out.me)];
     sender.ring.slots_beside(&mut taker.ring);
 }
 
@@ -42,7 +43,8 @@ fn see_letters(out: &mut Mail, into: &mut Mail)
     ensures letters { Both KnowsLetters (out_at out.new into.old.me) (in_at into.new out.old.me) }
 {
     let sender = &mut out.outs[usize::from(into.me)];
-    let taker = &mut into.ins[usize::from(out.me)];
+    into.ins.known.alone = false;
+    let taker = &mut into.ins.lanes[usize::from(out.me)];
     taker.ring.slots_beside(&mut sender.ring);
 }
 

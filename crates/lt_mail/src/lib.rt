@@ -2,6 +2,7 @@
 #![tactic(auto)]
 
 mod both_ends;
+mod in_lanes;
 mod lane;
 mod lanes;
 mod looking;

@@ -5,8 +5,8 @@ ghost use Rattle.lt_mail.specs.Words.{out_at, in_at, outs_count, ins_count, sent
 ghost use Rattle.std.specs.VecDeque.{deque_len, deque_capacity};
 ghost use Rattle.lt_mail.specs.Passing.{LooksAtSome, SawNone, KeepsSent, OutChanges, InChanges, Puts, Flushes, Takes, TakesKnown, TakesNone, FindsNoLetter, Saw};
 
-use crate::lane::{InLane, OutEnd};
-use crate::looking::first_with_letter;
+use crate::in_lanes::InLanes;
+use crate::lane::OutEnd;
 use crate::passing::pass;
 use lt_desk::{Letter, Post};
 use std::alloc::AllocError;
@@ -17,7 +17,7 @@ use std::collections::VecDeque;
 pub struct Mail {
     pub(crate) me: u8,
     pub(crate) outs: Vec<OutEnd>,
-    pub(crate) ins: Vec<InLane>,
+    pub(crate) ins: InLanes,
     // The letters that wait for a place in a ring, in the order in which they were put: the outbox to a node has those
     // of them that are for the node.
     pub(crate) waiting: VecDeque<Post>,
@@ -144,7 +144,6 @@ impl Mail {
     }
 
     /// The first other node of which a letter is in its ring, and then known. It looks again, whatever is known.
-    #[tactic(auto, using(crate::proofs::LookLemmas::all_looked, crate::proofs::LookLemmas::none_before, crate::proofs::LookLemmas::none_known, crate::proofs::LookLemmas::saw_letter))]
     pub fn first_sender(&mut self) -> Option<u8>
         requires few { ins_count self.old ≤ 256 }
         ensures some { IfSome result (λ from. (from < ins_count self.new) × (from ≢ self.new.me) × (0 < length (known_from self.new from))) }
@@ -155,21 +154,56 @@ impl Mail {
         ensures outs { (node : ℕ) → out_at self.new node ≡ out_at self.old node }
         ensures ends { SameEnds self.old self.new }
     {
-        match self.look() {
+        self.sender(None)
+    }
+
+    /// The first other node of which a letter is known to be in its ring, or else of these senders, bit q for node q,
+    /// the first one of which a letter is there, and then known. Where letters of more nodes may be known, it looks at
+    /// all.
+    pub fn first_sender_among(&mut self, senders: u64) -> Option<u8>
+        requires few { ins_count self.old ≤ 256 }
+        ensures some { IfSome result (λ from. (from < ins_count self.new) × (from ≢ self.new.me) × (0 < length (known_from self.new from))) }
+        ensures first { IfSome result (λ from. (node : ℕ) → node < from → node ≢ self.new.me → known_from self.new node ≡ []) }
+        ensures none { IfNone result ((node : ℕ) → node ≢ self.new.me → known_from self.new node ≡ []) }
+        ensures taken { (node : ℕ) → taken_from self.new node ≡ taken_from self.old node }
+        ensures known { (node : ℕ) → IsPrefix (known_from self.old node) (known_from self.new node) }
+        ensures outs { (node : ℕ) → out_at self.new node ≡ out_at self.old node }
+        ensures ends { SameEnds self.old self.new }
+    {
+        self.sender(Some(senders))
+    }
+
+    // The first sender, of these or of all.
+    #[tactic(auto, using(crate::proofs::LookLemmas::all_looked, crate::proofs::LookLemmas::none_before, crate::proofs::LookLemmas::none_known, crate::proofs::LookLemmas::saw_letter))]
+    fn sender(&mut self, senders: Option<u64>) -> Option<u8>
+        requires few { ins_count self.old ≤ 256 }
+        ensures some { IfSome result (λ from. (from < ins_count self.new) × (from ≢ self.new.me) × (0 < length (known_from self.new from))) }
+        ensures first { IfSome result (λ from. (node : ℕ) → node < from → node ≢ self.new.me → known_from self.new node ≡ []) }
+        ensures none { IfNone result ((node : ℕ) → node ≢ self.new.me → known_from self.new node ≡ []) }
+        ensures taken { (node : ℕ) → taken_from self.new node ≡ taken_from self.old node }
+        ensures known { (node : ℕ) → IsPrefix (known_from self.old node) (known_from self.new node) }
+        ensures outs { (node : ℕ) → out_at self.new node ≡ out_at self.old node }
+        ensures ends { SameEnds self.old self.new }
+    {
+        match self.look(senders) {
             Some(from) => Some(from as u8),
             None => None,
         }
     }
 
-    // Looks for the first sender, in terms of the rings.
-    fn look(&mut self) -> Option<usize>
-        ensures looked { LooksAtSome self.old.ins.items self.new.ins.items }
+    // Looks for it, in terms of the rings.
+    fn look(&mut self, senders: Option<u64>) -> Option<usize>
+        ensures looked { LooksAtSome self.old.ins self.new.ins }
         ensures others { (self.new.me ≡ self.old.me) × (self.new.outs.items ≡ self.old.outs.items) × (self.new.waiting.items ≡ self.old.waiting.items) }
         ensures some { IfSome result (λ from. (from < ins_count self.new) × (from ≢ self.new.me) × Saw true (in_at self.new from)) }
-        ensures first { IfSome result (λ from. SawNone from self.new.me self.new.ins.items) }
-        ensures none { IfNone result (SawNone (ins_count self.new) self.new.me self.new.ins.items) }
+        ensures first { IfSome result (λ from. SawNone from self.new.me self.new.ins) }
+        ensures none { IfNone result (SawNone (ins_count self.new) self.new.me self.new.ins) }
     {
-        first_with_letter(&mut self.ins, usize::from(self.me))
+        let me = usize::from(self.me);
+        match senders {
+            Some(senders) => self.ins.first_among(senders, me),
+            None => self.ins.first(me),
+        }
     }
 
     /// Flushes the outbox to each node.
@@ -224,7 +258,8 @@ impl Mail {
         ensures lane { InChanges Sees self.old self.new from }
         ensures value { Saw result (in_at self.new from) }
     {
-        let lane = &mut self.ins[usize::from(from)];
+        self.ins.known.alone = false;
+        let lane = &mut self.ins.lanes[usize::from(from)];
         lane.has_letter()
     }
 
@@ -232,7 +267,7 @@ impl Mail {
         requires { from < ins_count self.now }
         ensures { Saw result (in_at self.now from) }
     {
-        let lane = &self.ins[usize::from(from)];
+        let lane = &self.ins.lanes[usize::from(from)];
         lane.knows_letter()
     }
 
@@ -241,7 +276,8 @@ impl Mail {
         ensures some { IfSome result (λ letter. InChanges (Takes letter) self.old self.new from) }
         ensures none { IfNone result (InChanges TakesNone self.old self.new from) }
     {
-        let lane = &mut self.ins[usize::from(from)];
+        self.ins.known.alone = false;
+        let lane = &mut self.ins.lanes[usize::from(from)];
         lane.take()
     }
 
@@ -250,7 +286,6 @@ impl Mail {
         ensures some { IfSome result (λ letter. InChanges (TakesKnown letter) self.old self.new from) }
         ensures none { IfNone result (InChanges FindsNoLetter self.old self.new from) }
     {
-        let lane = &mut self.ins[usize::from(from)];
-        lane.take_known()
+        self.ins.take_known(usize::from(from))
     }
 }

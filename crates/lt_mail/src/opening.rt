@@ -1,6 +1,7 @@
 ghost use Rattle.std.specs.Prelude.{◌≤◌, ◌<◌, ◌+◌, IfOk, OnOk, vec_len};
-ghost use Rattle.lt_mail.specs.Opening.{AreEmpty, Opened, Opening, AtOne, GainsOut, GainsIn, GainsLink, IsNewLink};
+ghost use Rattle.lt_mail.specs.Opening.{AreEmpty, IsEmpty, Opened, Opening, AtOne, GainsOut, GainsIn, GainsLink, IsNewLink};
 
+use crate::in_lanes::InLanes;
 use crate::lane::{InLane, OutEnd};
 use crate::mail::Mail;
 use rtrb::RingBuffer;
@@ -77,14 +78,21 @@ fn empty_mails(alloc: Global, nodes: u8) -> Result<Vec<Mail>, AllocError>
     let count = usize::from(nodes);
     let mut mails = Vec::with_capacity(alloc, count)?;
     for node in 0..nodes {
-        mails.push(Mail {
-            me: node,
-            outs: Vec::with_capacity(alloc, count)?,
-            ins: Vec::with_capacity(alloc, count)?,
-            waiting: VecDeque::new(alloc),
-        })?;
+        mails.push(empty_mail(alloc, node, count)?)?;
     }
     Ok(mails)
+}
+
+// A mail without rings, with room for so many each way.
+fn empty_mail(alloc: Global, node: u8, count: usize) -> Result<Mail, AllocError>
+    ensures { IfOk result (IsEmpty node) }
+{
+    Ok(Mail {
+        me: node,
+        outs: Vec::with_capacity(alloc, count)?,
+        ins: InLanes::with_room(alloc, count)?,
+        waiting: VecDeque::new(alloc),
+    })
 }
 
 /// A mail for each node, in order, and a ring with so many places for each ordered pair of nodes.

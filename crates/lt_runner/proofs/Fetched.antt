@@ -52,7 +52,7 @@ fetched a b m hand empty k e = subst (λ (p : Parts). Fetches a p) (sym e) (reco
 
 pub has_fetched : (a b : Parts) (m : Mail) (hand : Option Hand) → RunnerInvariant a → KnowsOf a m hand → b ≡ record a { mail = m; hand = hand } → HasFetched b
 has_fetched a b m hand kept k e =
-    subst (λ (p : Parts). HasFetched p) (sym e) (λ none node other. elim (slice_get_cases m.ins.items node).1 [
+    subst (λ (p : Parts). HasFetched p) (sym e) (λ none node other. elim (slice_get_cases m.ins node).1 [
       | inl there ↦ k.none none node
           (subst (λ (n : ℕ). node < n) (k.ends.counts.1 ∙ kept.ins) there.1)
           (λ same. absurd (other (same ∙ kept.me)))

@@ -182,12 +182,43 @@ kept_asked p h = record {
   idle = h.idle;
 }
 
+-- nothing happened but that letters of these nodes are looked for from now on
+abbrev pub aimed : ℕ → Parts → Parts
+aimed senders p = record p { senders = senders }
+
+pub kept_aimed : (senders : ℕ) (p : Parts) → RunnerInvariant p → RunnerInvariant (aimed senders p)
+kept_aimed senders p h = record {
+  used = h.used;
+  me = h.me;
+  below = h.below;
+  outs = h.outs;
+  ins = h.ins;
+  plays = h.plays;
+  taken = h.taken;
+  hand = h.hand;
+  names = h.names;
+  bounded = h.bounded;
+  posts = h.posts;
+  events = h.events;
+  idle = h.idle;
+}
+
 holds_same : (x : Option Hand) → HandStays x x
 holds_same None = tt
 holds_same (Some x) = (refl, refl)
 
 pub seen_asked : (p : Parts) → AsSeen p (asked p)
 seen_asked p = record {
+  same = record { script = refl; me = refl; limit = refl; ends = ends_same p.mail };
+  state = refl;
+  log = refl;
+  sent = λ node. refl;
+  used = λ node letters e. e;
+  hand = holds_same p.hand;
+}
+
+pub seen_aimed : (senders : ℕ) (p : Parts) → AsSeen p (aimed senders p)
+seen_aimed senders p = record {
   same = record { script = refl; me = refl; limit = refl; ends = ends_same p.mail };
   state = refl;
   log = refl;

@@ -37,6 +37,7 @@ impl Parts {
         poll(
             &mut self.mail,
             &mut self.hand,
+            self.senders,
             self.node.me(),
             self.node.script().nodes(),
         );
@@ -130,28 +131,28 @@ impl Parts {
     }
 }
 
-// Takes a letter of the first other node that one comes from, where there is one.
+// Takes a letter that is known, or one of these senders, where there is one.
 #[tactic(auto, using(crate::proofs::Fetched::poll_ends, crate::proofs::Fetched::poll_empty))]
-fn poll(mail: &mut Mail, hand: &mut Option<Hand>, me: u8, nodes: u8)
+fn poll(mail: &mut Mail, hand: &mut Option<Hand>, senders: u64, me: u8, nodes: u8)
     requires own { mail.old.me ≡ me }
     requires count { ins_count mail.old ≡ nodes }
     requires empty { hand.old ≡ None }
     ensures { Polled nodes me nodes mail.old mail.new hand.new }
 {
-    if let Some(from) = sender(mail, me, nodes) {
+    if let Some(from) = sender(mail, senders, me, nodes) {
         hold_next(mail, hand, from, me, nodes);
     }
 }
 
-// The first other node of which a letter is in its ring: then one is known there.
+// Another node of which a letter is in its ring: then one is known there.
 #[tactic(auto, using(crate::proofs::Fetched::poll_finds, crate::proofs::Fetched::poll_none))]
-fn sender(mail: &mut Mail, _me: u8, _nodes: u8) -> Option<u8>
+fn sender(mail: &mut Mail, senders: u64, _me: u8, _nodes: u8) -> Option<u8>
     requires own { mail.old.me ≡ _me }
     requires count { ins_count mail.old ≡ _nodes }
     ensures some { IfSome result (Finds _nodes _me mail.old mail.new) }
     ensures none { IfNone result (Polled _nodes _me _nodes mail.old mail.new None) }
 {
-    mail.first_sender()
+    mail.first_sender_among(senders)
 }
 
 /// Takes the first letter of the node, which is known to be in its ring, into the hand.

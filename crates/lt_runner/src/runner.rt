@@ -124,6 +124,16 @@ impl Runner {
         reached
     }
 
+    /// From now on letters of these nodes are looked for, bit q for node q, where none is known; at first of all.
+    #[tactic(auto, using(crate::proofs::KeptLemmas::kept_aimed, crate::proofs::KeptLemmas::seen_aimed))]
+    pub fn look_for(&mut self, senders: u64)
+        ensures seen { AsSeen self.old self.new }
+        ensures flushed { IsFlushed self.old → IsFlushed self.new }
+    {
+        let parts = self.parts.as_mut();
+        parts.senders = senders;
+    }
+
     /// Whether as many moves were made as there may be.
     pub fn is_full(&self) -> bool
         ensures { result ≡ (length self.now.log.entries == self.now.limit) }
@@ -176,6 +186,7 @@ fn begin(
         hand: None,
         limit,
         reached: 0,
+        senders: u64::MAX,
         idle: false,
     })
 }
