@@ -5,3 +5,4 @@ pub mod TurnOrder
 pub mod TurnMoves
 pub mod Picks
 pub mod AgainstLemmas
+pub mod OneAsk

@@ -1,3 +1,4 @@
 pub mod Choice
 pub mod Fields
 pub mod Ready
+pub mod Waits

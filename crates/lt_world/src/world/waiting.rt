@@ -1,14 +1,17 @@
-ghost use Rattle.std.specs.Prelude.{◌≡◌, ◌<◌, ◌||◌, length};
-ghost use Rattle.lt_lists.specs.Below.{any_below};
+ghost use Rattle.std.specs.Prelude.{◌≡◌, ◌<◌, ◌||◌, ◌++◌, ℕ, false, IfSome, IsFalse, OnOk, length, map};
 ghost use Rattle.lt_modes.specs.Modes.{count_of};
 ghost use Rattle.lt_modes.specs.Waiting.{pending_ask, stands_before, parked_behind};
 ghost use Rattle.lt_spec.specs.Facts.{state_at};
 ghost use Rattle.lt_spec.specs.NodeMove.{home};
-ghost use Rattle.lt_spec.specs.Holdings.{holds_against, waits_behind, is_kept_by, kept_if, waits_for};
+ghost use Rattle.lt_spec.specs.Holdings.{holds_against, waits_behind, is_kept_by, waits_for};
+ghost use Rattle.lt_spec.specs.Rings.{numbers_below};
+ghost use Rattle.lt_node.specs.NodeData.{first_ask};
 ghost use Rattle.lt_world.specs.Fields.{world_of, bars_by_lock};
+ghost use Rattle.lt_world.specs.Waits.{stands_in_way, waits_by};
 
 use super::World;
 use lt_modes::{Ask, MODES, Mode};
+use std::alloc::AllocError;
 
 // Who waits for whom.
 impl World {
@@ -18,35 +21,58 @@ impl World {
         requires other { other < length self.now.script.clients }
         ensures { result ≡ waits_for self.now.script (world_of self.now) client other }
     {
-        client != other && self.is_kept(client, other)
+        self.waits_by(client, other, &self.ask_of(client))
     }
 
-    // Whether the other client stands in the way of an ask of the client.
-    fn is_kept(&self, client: u16, other: u16) -> bool
-        requires client { client < length self.now.script.clients }
-        requires other { other < length self.now.script.clients }
-        ensures { result ≡ any_below (length self.now.script.sets) (λ s. kept_if self.now.script (world_of self.now) s other
-            (pending_ask (state_at (world_of self.now) s (home self.now.script client)) client)) }
+    /// Adds a mark for each client, in order: whether the client waits for it.
+    pub fn push_waits(&self, marks: &mut Vec<bool>, client: u16) -> Result<(), AllocError>
+        requires { client < length self.now.script.clients }
+        ensures { OnOk result (marks.new.items ≡ marks.old.items
+            ++ map (waits_for self.now.script (world_of self.now) client) (numbers_below (length self.now.script.clients))) }
     {
-        for set in 0..self.script.sets() {
-            if self.is_kept_in(set, client, other) {
-                return true;
-            }
+        let ask = self.ask_of(client);
+        for other in 0..self.script.clients() {
+            marks.push(self.waits_by(client, other, &ask))?;
         }
-        false
+        Ok(())
     }
 
-    // Whether the other client stands in the way of the client's ask for the set.
-    fn is_kept_in(&self, set: u8, client: u16, other: u16) -> bool
-        requires set { set < length self.now.script.sets }
-        requires client { client < length self.now.script.clients }
-        requires other { other < length self.now.script.clients }
-        ensures { result ≡ kept_if self.now.script (world_of self.now) set other
-            (pending_ask (state_at (world_of self.now) set (home self.now.script client)) client) }
+    // The client's unanswered ask with its set, if it has one.
+    fn ask_of(&self, client: u16) -> Option<(u8, Ask)>
+        requires { client < length self.now.script.clients }
+        ensures within { IfSome result (λ found. found.0 < length self.now.script.sets) }
+        ensures waits { (other : ℕ)
+            → waits_for self.now.script (world_of self.now) client other ≡ waits_by self.now client other result }
     {
-        let home = usize::from(self.script.home(client));
-        match self.network.nodes[home].ask_in(set, client) {
-            Some(ask) => self.is_kept_by(set, other, &ask),
+        let _ = &self.script;
+        self.first_ask(client)
+    }
+
+    // The client's unanswered ask in the first set that has one, with this set.
+    fn first_ask(&self, client: u16) -> Option<(u8, Ask)>
+        requires { client < length self.now.script.clients }
+        ensures { result ≡ first_ask self.now.script ((world_of self.now).node (home self.now.script client)) client }
+    {
+        self.network.nodes[usize::from(self.script.home(client))].ask_of(client)
+    }
+
+    // Whether the other one is another client, and stands in the way of the client's ask, if there is one.
+    fn waits_by(&self, client: u16, other: u16, ask: &Option<(u8, Ask)>) -> bool
+        requires other { other < length self.now.script.clients }
+        requires set { IfSome ask.now (λ found. found.0 < length self.now.script.sets) }
+        ensures { result ≡ waits_by self.now client other ask.now }
+    {
+        client != other && self.is_kept(other, ask)
+    }
+
+    // Whether the other client stands in the way of the ask, if there is one.
+    fn is_kept(&self, other: u16, ask: &Option<(u8, Ask)>) -> bool
+        requires other { other < length self.now.script.clients }
+        requires set { IfSome ask.now (λ found. found.0 < length self.now.script.sets) }
+        ensures { result ≡ stands_in_way self.now other ask.now }
+    {
+        match ask {
+            Some((set, ask)) => self.is_kept_by(*set, other, ask),
             None => false,
         }
     }
@@ -96,15 +122,40 @@ impl World {
     // Whether at some node the other client's ask for the set stands before the client's, or the client's is parked behind
     // it.
     fn waits_behind(&self, set: u8, other: u16, client: u16) -> bool
-        requires { set < length self.now.script.sets }
+        requires set { set < length self.now.script.sets }
+        requires other { other < length self.now.script.clients }
         ensures { result ≡ waits_behind self.now.script (world_of self.now) set other client }
     {
+        if !self.asks(set, other) {
+            return false;
+        }
         for node in 0..self.script.nodes() {
             if self.is_behind(node, set, other, client) {
                 return true;
             }
         }
         false
+    }
+
+    // Whether the client has an unanswered ask for the set. Nobody waits behind one that has none.
+    fn asks(&self, set: u8, client: u16) -> bool
+        requires set { set < length self.now.script.sets }
+        requires client { client < length self.now.script.clients }
+        ensures { IsFalse result
+            → (later : ℕ) → waits_behind self.now.script (world_of self.now) set client later ≡ false }
+    {
+        let _ = &self.script;
+        self.ask_in(set, client).is_some()
+    }
+
+    // The client's unanswered ask for the set, if it has one.
+    fn ask_in(&self, set: u8, client: u16) -> Option<Ask>
+        requires set { set < length self.now.script.sets }
+        requires client { client < length self.now.script.clients }
+        ensures { result ≡ pending_ask (state_at (world_of self.now) set (home self.now.script client)) client }
+    {
+        let home = usize::from(self.script.home(client));
+        self.network.nodes[home].ask_in(set, client)
     }
 
     // Whether it is so at this node.

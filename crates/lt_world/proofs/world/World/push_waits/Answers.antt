@@ -1,0 +1,20 @@
+use Rattle.std.proofs.Common.{rules, ◌≡◌, ◌∙◌, List, ◌++◌, ◌∷◌, [], Bool, ap, append_assoc, arith, map, sym}
+use Rattle.std.proofs.lemmas.List.FromFn.{map-range_with_len_more}
+use Rattle.lt_spec.specs.Holdings.{waits_for}
+use Rattle.lt_spec.specs.Rings.{numbers_below}
+use Rattle.lt_world.specs.Fields.{world_of}
+use Rattle.lt_world.proofs.world.World.push_waits.Goals as goal
+
+pub loop-other-preserved : goal.loop-other-preserved
+loop-other-preserved c =
+    let w = c.args.self.now in
+    let old = c.args.marks.now.items in
+    let k = c.loop-other.other in
+    let row = waits_for w.script (world_of w) c.args.client in
+    let mark : c.waits_by.result ≡ row k = c.waits_by.ensures ∙ sym (c.ask_of-ask.ensures.waits k) in
+    let pushed : c.push.new.self.items ≡ c.loop-other.marks.items ++ c.waits_by.result ∷ [] = search rules in
+    pushed
+    ∙ ap (λ (b : Bool). c.loop-other.marks.items ++ b ∷ []) mark
+    ∙ ap (λ (l : List Bool). l ++ row k ∷ []) c.loop-other.invariant
+    ∙ append_assoc old (map row (numbers_below k)) (row k ∷ [])
+    ∙ ap (λ (l : List Bool). old ++ l) (sym (map-range_with_len_more row 0 k k (omega arith)))

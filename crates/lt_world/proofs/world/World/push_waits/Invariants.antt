@@ -1,0 +1,8 @@
+use Rattle.std.proofs.Common.{◌≡◌, ◌++◌, map}
+use Rattle.lt_spec.specs.Holdings.{waits_for}
+use Rattle.lt_spec.specs.Rings.{numbers_below}
+use Rattle.lt_world.specs.Fields.{world_of}
+use Rattle.lt_world.proofs.world.World.push_waits.Given as goal
+
+abbrev pub invariant-loop-other : goal.invariant-loop-other
+invariant-loop-other l = l.marks.items ≡ l.fn.marks.items ++ map (waits_for l.self.script (world_of l.self) l.client) (numbers_below l.other)
