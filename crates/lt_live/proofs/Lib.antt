@@ -6,3 +6,5 @@ pub mod KeptStations
 pub mod OpenedStations
 pub mod LiveShares
 pub mod Settling
+pub mod StationPairs
+pub mod Moments

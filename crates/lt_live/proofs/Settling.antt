@@ -143,7 +143,7 @@ look_serves p s t old new station seated h =
     subst (λ (c : ℕ). IsServedSession (commands_of p.node.script c) (lines_of p.log.entries) c t) client
     (is_settled (commands_of p.node.script h.x.client) p.log.entries s t h.x h.y (station.each s.place h.x h.before).kept h.looks h.beside).served
 
-says_itself : (s : Session) → SaysSame s s
+pub says_itself : (s : Session) → SaysSame s s
 says_itself s = record { same = session_itself s; submitted = refl; polled = refl }
 
 pub same_sessions : (a b c : Session) → SameSession a b → SameSession b c → SameSession a c

@@ -2,3 +2,4 @@ pub mod Seats
 pub mod Stations
 pub mod Words
 pub mod Live
+pub mod Served

@@ -72,6 +72,10 @@ pub record IsServedRun (first : ScriptData) (sessions : List Session) (script : 
   pub rising : AreRising run
   pub each : (client : ℕ) (s : Session) → slice_get sessions client ≡ Some s → IsServedSession (commands_of script client) (lines_of run) client s
 
+-- there are commands and a run for which it is so
+abbrev pub IsServedNow : ScriptData → List Session → Type 0
+IsServedNow first sessions = (script : ScriptData) × (run : List Logged) × IsServedRun first sessions script run
+
 -- the list is what the runner's script has for the client, and the lines are those of the runner's log
 abbrev pub ServedBy : Parts → ℕ → Session → Type 0
 ServedBy p client s = IsServedSession (commands_of p.node.script client) (lines_of p.log.entries) client s
@@ -158,7 +162,7 @@ ServedNow = (script : ScriptData) (stations later : List StationData) (sessions 
     → Settled script stations sessions later after
     → IsScript (with_commands script (commands_in (map runner_of later)))
     → EachIs AsSeen (map runner_of later) looked → AreMet AnyTwo looked → AreKept looked
-    → (made : ScriptData) × (run : List Logged) × IsServedRun script sessions made run
+    → IsServedNow script sessions
 
 -- A station goes on from itself.
 

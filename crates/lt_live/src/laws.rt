@@ -1,4 +1,5 @@
 ghost use Rattle.lt_live.specs.Live.{OpenedAreLive, LiveLasts, OneStationLasts, OneSessionLasts, RepliesOfLines, RepliesInLog, PolledInTurn, NoMoreThanSubmitted, SharedNow, ServedNow};
+ghost use Rattle.lt_live.specs.Served.{ServedGoesOn, MomentsFollow};
 
 /// What sessions are told are the replies of the run: a station tells them from the log of its node alone.
 pub fn law_told()
@@ -25,4 +26,10 @@ pub fn law_polled_in_turn()
 pub fn law_served_now()
     ensures shared { SharedNow }
     ensures served { ServedNow }
+{}
+
+/// A run in which the sessions of a later moment were served goes on from what was submitted and polled before.
+pub fn law_served_goes_on()
+    ensures on { ServedGoesOn }
+    ensures follow { MomentsFollow }
 {}
