@@ -9,8 +9,9 @@ ghost use Rattle.lt_checker.specs.Heads.{IsHeadCut, IsLastLine, IsReadTo, IsRoom
 
 use crate::limits::MAX_JOURNAL;
 use lt_io::{MAX_PIECE, ReadFailure, Source, read_piece};
-use lt_journal::{is_journal_line, line_end};
+use lt_journal::is_journal_line;
 use lt_law_journals::law_settled;
+use lt_script::line_end;
 use lt_text::trim_return;
 use std::alloc::Global;
 

@@ -63,6 +63,6 @@ pub use laws::law_read_line;
 pub use line::Line;
 pub use line_words::{write_line, write_words};
 pub use reading::{Journal, read};
-pub use splitting::{Parts, is_journal_line, line_end, split, split_from};
+pub use splitting::{Parts, is_journal_line, split, split_from};
 pub use text::Text;
 pub use wording::Wording;

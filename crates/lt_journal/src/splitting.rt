@@ -1,9 +1,9 @@
-ghost use Rattle.std.specs.Prelude.{◌≡◌, ◌<◌, ◌^◌, length, position, IfSome};
-ghost use Rattle.lt_text.specs.Text.{lines, is_line_end, first_and, LeavesLess};
+ghost use Rattle.std.specs.Prelude.{◌≡◌, ◌<◌, ◌^◌, length, IfSome};
+ghost use Rattle.lt_text.specs.Text.{lines, first_and, LeavesLess};
 ghost use Rattle.lt_journal.specs.Split.{ArePassed, is_journal_line, after_first_line, input_parts};
 
+use lt_script::line_end;
 use lt_text::{is, next_word, trim_return};
-use memchr::memchr;
 
 /// Where an input is cut into a script and a journal.
 ///
@@ -94,15 +94,4 @@ fn first_line(bytes: &[u8]) -> Option<(&[u8], &[u8])>
         }
         None => Some((trim_return(bytes), &[])),
     }
-}
-
-/// The place of the first line feed. An empty line is known by its first byte.
-#[inline(always)]
-pub fn line_end(bytes: &[u8]) -> Option<usize>
-    ensures { result ≡ position is_line_end bytes.now }
-{
-    if !bytes.is_empty() && bytes[0] == b'\n' {
-        return Some(0);
-    }
-    memchr(b'\n', bytes)
 }

@@ -21,7 +21,7 @@ use Rattle.lt_lists.proofs.Searches.{any_below_none}
 use Rattle.lt_spec.specs.NodeMove.{NodeState, desk_within, set_within, node_within}
 use Rattle.lt_core.proofs.BoundLemmas.{find_some}
 use Rattle.lt_core.specs.CoreData.{CoreData}
-use Rattle.lt_node.specs.NodeData.{ask_with_set, ask_below, first_core, sets_in, Marked, Remarked, TellsWaiting, kept_of, KeptData, NodeData, IsNode, state_of, core_at, KnowsNone, KnowsWithin}
+use Rattle.lt_node.specs.NodeData.{ask_with_set, ask_below, first_core, sets_in, Marked, Remarked, TellsWaiting, kept_of, KeptData, NodeData, IsNode, state_of, core_at, KnowsNothing, KnowsWithin}
 use Rattle.lt_node.specs.Clients.{with_request}
 use Rattle.lt_node.proofs.NodeLemmas.{kept_at, kept_length}
 
@@ -243,7 +243,7 @@ within_forgotten clock cores old new k j core within place count is known =
           (known s d number (omega (arith, inside, length-set cores k core)) (sym (get_or-set_other old k s None None other) ∙ known_here))
     ]))
 
-pub within_none : (clock sets : ℕ) (cores : List CoreData) (sent : List (Option ℕ)) → KnowsNone sets sent → KnowsWithin clock cores sent
+pub within_none : (clock sets : ℕ) (cores : List CoreData) (sent : List (Option ℕ)) → KnowsNothing sets sent → KnowsWithin clock cores sent
 within_none clock sets cores sent none = λ s d number inside is. absurd (none-some number (sym (none.none s) ∙ is))
 
 each_within : (n : NodeData) → IsNode n → node_within n.script (state_of n) ≡ true → (s : ℕ) → s < length n.cores → set_within n.clock (core_at n s).state ≡ true

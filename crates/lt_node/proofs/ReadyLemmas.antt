@@ -5,7 +5,7 @@ use Rattle.std.proofs.lemmas.Grind.{get_or-set_at}
 use Rattle.std.proofs.lemmas.Option.{none-some, same_Some}
 use Rattle.std.proofs.lemmas.List.{get_or_default, drop_all}
 use Rattle.lt_core.specs.CoreData.{CoreData}
-use Rattle.lt_node.specs.NodeData.{IsReadySet, IsReadyIfKnown, KnowsReady, KnowsNone, KeptData, kept_of, most_sent}
+use Rattle.lt_node.specs.NodeData.{IsReadySet, IsReadyIfKnown, KnowsReady, KnowsNothing, KeptData, kept_of, most_sent}
 use Rattle.lt_node.proofs.FamilyLemmas.{sum_at}
 use Rattle.lt_node.proofs.NodeLemmas.{most_kept, sent_kept}
 
@@ -17,7 +17,7 @@ pub told : (core : CoreData) (number : ℕ) → IsReadySet core number → IsRea
 told core number ready other is = subst (IsReadySet core) (same_Some number other is) ready
 
 -- where no number is known, all that is known is so
-pub none_known : (cores : List CoreData) (sent : List (Option ℕ)) → KnowsNone (length cores) sent → KnowsReady cores sent
+pub none_known : (cores : List CoreData) (sent : List (Option ℕ)) → KnowsNothing (length cores) sent → KnowsReady cores sent
 none_known cores sent none = record {
   count = none.count;
   sets = λ s d inside. nothing_told (slice_index_or cores s d) (slice_index_or sent s None) (none.none s);
@@ -79,7 +79,7 @@ sum_more cores k core new most all whole within here kept is before =
     omega (arith, sum, own, tail, before)
 
 -- sets that a move may have touched
-pub all_forgotten : (old new : List CoreData) (sent none : List (Option ℕ)) → KnowsReady old sent → length new ≡ length old → KnowsNone (length sent) none → KnowsReady new none
+pub all_forgotten : (old new : List CoreData) (sent none : List (Option ℕ)) → KnowsReady old sent → length new ≡ length old → KnowsNothing (length sent) none → KnowsReady new none
 all_forgotten old new sent none known same forgotten = record {
   count = forgotten.count ∙ known.count ∙ sym same;
   sets = λ s d inside. nothing_told (slice_index_or new s d) (slice_index_or none s None) (forgotten.none s);

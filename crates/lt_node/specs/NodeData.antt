@@ -253,7 +253,7 @@ pub record KnowsReady (cores : List CoreData) (sent : List (Option ℕ)) : Type 
   pub sets : (s : ℕ) (d : CoreData) → s < length cores → IsReadyIfKnown (slice_index_or cores s d) (slice_index_or sent s None)
 
 -- no number is known
-pub record KnowsNone (sets : ℕ) (sent : List (Option ℕ)) : Type 0 where
+pub record KnowsNothing (sets : ℕ) (sent : List (Option ℕ)) : Type 0 where
   pub count : length sent ≡ sets
   pub none : (s : ℕ) → slice_index_or sent s None ≡ None
 

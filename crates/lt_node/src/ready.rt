@@ -1,7 +1,7 @@
 // Which sets have memory for a move, and how much they may send in it: a number for each set, where it is known.
 ghost use Rattle.std.specs.Prelude.{◌≡◌, ◌+◌, ◌≤◌, ◌<◌, ◌^◌, All, IfOk, IsOk, None, OnErr, OnOk, length, map, slice_set, sum_by};
 ghost use Rattle.lt_core.specs.CoreData.{HasMemory};
-ghost use Rattle.lt_node.specs.NodeData.{IsReadySet, IsReadyIfKnown, KnowsNone, KnowsReady, HasFewAsks, kept_of, most_sent};
+ghost use Rattle.lt_node.specs.NodeData.{IsReadySet, IsReadyIfKnown, KnowsNothing, KnowsReady, HasFewAsks, kept_of, most_sent};
 
 use lt_core::Core;
 use lt_script::Script;
@@ -9,7 +9,7 @@ use std::alloc::{AllocError, Global};
 
 /// The numbers at the start, none of them known.
 pub(crate) fn none_ready(alloc: Global, script: &Script) -> Result<Vec<Option<u32>>, AllocError>
-    ensures { IfOk result (λ sent. KnowsNone (length script.now.sets) sent.items) }
+    ensures { IfOk result (λ sent. KnowsNothing (length script.now.sets) sent.items) }
 {
     let mut sent = Vec::with_capacity(alloc, usize::from(script.sets()))?;
     for _ in 0..script.sets() {
@@ -28,7 +28,7 @@ pub(crate) fn forget(sent: &mut Vec<Option<u32>>, set: u8)
 
 /// A move may touch each set.
 pub(crate) fn forget_all(sent: &mut Vec<Option<u32>>)
-    ensures { KnowsNone (length sent.old.items) sent.new.items }
+    ensures { KnowsNothing (length sent.old.items) sent.new.items }
 {
     for set in 0..sent.len() {
         sent[set] = None;

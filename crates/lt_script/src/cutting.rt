@@ -24,9 +24,13 @@ pub fn first_line(bytes: &[u8]) -> Option<(&[u8], &[u8])>
     }
 }
 
-// The place of the first line feed.
-fn line_end(bytes: &[u8]) -> Option<usize>
+/// The place of the first line feed. An empty line is known by its first byte.
+#[inline(always)]
+pub fn line_end(bytes: &[u8]) -> Option<usize>
     ensures { result ≡ position is_line_end bytes.now }
 {
+    if !bytes.is_empty() && bytes[0] == b'\n' {
+        return Some(0);
+    }
     memchr(b'\n', bytes)
 }

@@ -16,6 +16,7 @@ mod printing;
 mod reading;
 mod script;
 
+pub use cutting::line_end;
 pub use fault::{Fault, ReadError, ScriptFault};
 pub use laws::{law_faults, law_literals, law_print};
 pub use lt_spec::{

@@ -1,5 +1,5 @@
 use Rattle.std.proofs.Common.{sym, ◌∙◌}
-use Rattle.lt_journal.proofs.LineEnds.{no_word, other_word}
+use Rattle.lt_journal.proofs.FirstBytes.{no_word, other_word}
 use Rattle.lt_journal.proofs.splitting.is_journal_line.Goals as goal
 
 pub returns-then-is_empty : goal.returns-then-is_empty

@@ -1,5 +1,5 @@
 use Rattle.std.proofs.Common.{ℕ, subst, sym}
-use Rattle.lt_node.specs.NodeData.{KnowsNone}
+use Rattle.lt_node.specs.NodeData.{KnowsNothing}
 use Rattle.lt_node.proofs.ReadyLemmas.{none_known}
 use Rattle.lt_node.proofs.MarkLemmas.{within_none, waiting_first}
 use Rattle.lt_node.proofs.RequestLemmas.{clients_known, node_at_start, state_at_start}
@@ -15,7 +15,7 @@ invariant_of-result c =
       waiting_first c.args.script.now c.args.node cores c.in_ok-waiting.waiting.items c.in_ok-waiting.ensures.count c.in_ok-waiting.ensures.none c.in_ok-cores.ensures.states,
       c.in_ok-own.ensures,
       none_known cores c.in_ok-sent.sent.items
-          (subst (λ (k : ℕ). KnowsNone k c.in_ok-sent.sent.items) (sym c.in_ok-cores.ensures.count) c.in_ok-sent.ensures),
+          (subst (λ (k : ℕ). KnowsNothing k c.in_ok-sent.sent.items) (sym c.in_ok-cores.ensures.count) c.in_ok-sent.ensures),
       within_none 0 _ cores c.in_ok-sent.sent.items c.in_ok-sent.ensures,
     )
 
