@@ -147,7 +147,8 @@ impl Mail {
     pub fn first_sender(&mut self) -> Option<u8>
         requires few { ins_count self.old ≤ 256 }
         ensures some { IfSome result (λ from. (from < ins_count self.new) × (from ≢ self.new.me) × (0 < length (known_from self.new from))) }
-        ensures first { IfSome result (λ from. (node : ℕ) → node < from → node ≢ self.new.me → known_from self.new node ≡ []) }
+        ensures first { IfSome result (λ from. (node : ℕ) → node < from → node ≢ self.new.me
+            → known_from self.new node ≡ []) }
         ensures none { IfNone result ((node : ℕ) → node ≢ self.new.me → known_from self.new node ≡ []) }
         ensures taken { (node : ℕ) → taken_from self.new node ≡ taken_from self.old node }
         ensures known { (node : ℕ) → IsPrefix (known_from self.old node) (known_from self.new node) }
@@ -163,7 +164,8 @@ impl Mail {
     pub fn first_sender_among(&mut self, senders: u64) -> Option<u8>
         requires few { ins_count self.old ≤ 256 }
         ensures some { IfSome result (λ from. (from < ins_count self.new) × (from ≢ self.new.me) × (0 < length (known_from self.new from))) }
-        ensures first { IfSome result (λ from. (node : ℕ) → node < from → node ≢ self.new.me → known_from self.new node ≡ []) }
+        ensures first { IfSome result (λ from. (node : ℕ) → node < from → node ≢ self.new.me
+            → known_from self.new node ≡ []) }
         ensures none { IfNone result ((node : ℕ) → node ≢ self.new.me → known_from self.new node ≡ []) }
         ensures taken { (node : ℕ) → taken_from self.new node ≡ taken_from self.old node }
         ensures known { (node : ℕ) → IsPrefix (known_from self.old node) (known_from self.new node) }
@@ -178,7 +180,8 @@ impl Mail {
     fn sender(&mut self, senders: Option<u64>) -> Option<u8>
         requires few { ins_count self.old ≤ 256 }
         ensures some { IfSome result (λ from. (from < ins_count self.new) × (from ≢ self.new.me) × (0 < length (known_from self.new from))) }
-        ensures first { IfSome result (λ from. (node : ℕ) → node < from → node ≢ self.new.me → known_from self.new node ≡ []) }
+        ensures first { IfSome result (λ from. (node : ℕ) → node < from → node ≢ self.new.me
+            → known_from self.new node ≡ []) }
         ensures none { IfNone result ((node : ℕ) → node ≢ self.new.me → known_from self.new node ≡ []) }
         ensures taken { (node : ℕ) → taken_from self.new node ≡ taken_from self.old node }
         ensures known { (node : ℕ) → IsPrefix (known_from self.old node) (known_from self.new node) }

@@ -31,7 +31,7 @@ pub fn law_fixed_order()
 
 /// An answer that a run is stuck is that of a command that makes one, of a script that isn't ordered.
 pub fn law_stuck()
-    ensures { (moves : ℕ) → (asked : Option Command) → (status : Status) → (left : Option (List ℕ)) → (run : List Logged)
-        → (old new : Option (List ℕ)) → Did moves asked status left run old new → HasStatusCause asked left status
+    ensures { (moves : ℕ) → (asked : Option Command) → (status : Status)
+        → (left : Option (List ℕ)) → (run : List Logged) → (old new : Option (List ℕ)) → Did moves asked status left run old new → HasStatusCause asked left status
         → status ≡ Stuck → MayGetStuck asked left }
 {}
