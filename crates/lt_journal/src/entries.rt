@@ -17,8 +17,7 @@ use std::alloc::AllocError;
 pub(crate) fn move_line(text: &mut Text, wording: &Wording, made: Move) -> Result<(), AllocError>
     ensures { OnOk result (text.new ≡ text.old ++ line_text wording.now (MoveLine made.stamp.clock made.stamp.node made.step)) }
 {
-    text.first_word("move")?;
-    text.number(made.stamp.clock)?;
+    text.move_at(made.stamp.clock)?;
     match made.step {
         Step::Act(client) => {
             text.act(made.stamp.node)?;

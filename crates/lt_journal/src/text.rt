@@ -85,6 +85,21 @@ impl Text {
         self.word(digits.format(number).as_bytes())
     }
 
+    /// Writes the word `move` and the clock of a move's line.
+    #[inline(always)]
+    pub(crate) fn move_at(&mut self, clock: u64) -> Result<(), AllocError>
+        ensures { OnOk result (self.new ≡ self.old ++ codes "move" ++ after_space (decimal clock)) }
+    {
+        if clock >= 10_000 {
+            self.first_word("move")?;
+            return self.long_number(clock);
+        }
+        self.page.make_room(9)?;
+        self.page.put(b"move");
+        self.page.put_number(clock);
+        Ok(())
+    }
+
     /// Writes the node and the word `act` of a move's line.
     #[inline(always)]
     pub(crate) fn act(&mut self, node: u8) -> Result<(), AllocError>
@@ -104,7 +119,9 @@ impl Text {
     {
         self.page.make_room(16)?;
         self.page.put_number(u64::from(node));
-        self.page.put(b" take");
+        // A copy in a local variable can't overlap what is written.
+        let take = *b" take";
+        self.page.put(&take);
         self.page.put_number(u64::from(from));
         self.page.put(b"\n");
         Ok(())
