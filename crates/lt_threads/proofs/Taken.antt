@@ -1,5 +1,5 @@
 -- Letters that a visit takes, and how it ends.
-use Rattle.std.proofs.Common.{◌≡◌, ◌<◌, ◌-◌, List, length, ap, arith}
+use Rattle.std.proofs.Common.{ℕ, ◌≡◌, ◌<◌, ◌-◌, List, length, ap, arith}
 use Rattle.std.proofs.lemmas.List.{length_push}
 use Rattle.lt_spec.specs.World.{Logged}
 use Rattle.lt_runner.specs.declared.parts.Parts.{Parts}
@@ -46,6 +46,16 @@ ends_later worked.Full a b h seen = record {
   choice = choice_lasts a b seen h.choice;
 }
 ends_later worked.NoMemory a b h seen = could_later a b seen h.place h.choice
+
+-- a look before work and one after it count no moves
+pub moves_seen : (moves : ℕ) (a b c d : Parts) → AsSeen a b → moves ≡ length c.log.entries - length b.log.entries → AsSeen c d
+    → moves ≡ length d.log.entries - length a.log.entries
+moves_seen moves a b c d before e after = omega (
+  arith,
+  e,
+  ap (λ (log : List Logged). length log) before.log,
+  ap (λ (log : List Logged). length log) after.log,
+)
 
 -- what is known of one letter that is taken, or of none
 pub ruleset taking = (seen_grew, grew_join, moved_grew, moved_within, moved_seen, take_later)

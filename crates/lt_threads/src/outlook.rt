@@ -33,6 +33,10 @@ pub(crate) struct Outlook {
     full: u64,
     // Whether the node that it looks at has mail.
     by_mail: bool,
+    // For each node those that sent it letters since it was claimed last.
+    senders: [u64; 64],
+    // Letters are looked for in all rings.
+    wide: bool,
     // The nodes with mail that another worker had when they were claimed, and that weren't claimed since.
     owed: u64,
     // Short visits.
@@ -51,6 +55,8 @@ impl Outlook {
             acts: u64::MAX,
             full: 0,
             by_mail: false,
+            senders: [0; 64],
+            wide: false,
             owed: 0,
             short: 0,
             visits: Visits::none(),
@@ -63,7 +69,7 @@ impl Outlook {
         ensures { result ≡ false → MayVisit count patience self.now.visits }
     {
         !self.visits.may_go_on(count, patience)
-            || self.owed == 0 && (self.visits.vain >= u64::from(count) || self.leaves())
+            || self.owed == 0 && (self.visits.vain >= 2 * u64::from(count) || self.leaves())
     }
 
     // Whether its visits for commands were short too often. It first sees to its mail.
@@ -78,6 +84,7 @@ impl Outlook {
         ensures visits { self.new.visits ≡ self.old.visits }
     {
         self.by_mail = self.mail != 0;
+        self.wide = self.visits.vain >= u64::from(count);
         if self.acts & first_bits(count) == 0 {
             self.acts = !self.full | self.owed;
         }
@@ -97,6 +104,15 @@ impl Outlook {
         self.by_mail
     }
 
+    /// The nodes whose letters it looks for at this node: where it has found nothing at all others, all of them.
+    pub(crate) fn senders_of(&self, node: u8) -> u64 {
+        if self.wide {
+            u64::MAX
+        } else {
+            self.senders[usize::from(node % 64)]
+        }
+    }
+
     /// Another worker has the node.
     pub(crate) fn note_refusal(&mut self, node: u8)
         requires { HaveRoom self.old.visits }
@@ -114,6 +130,7 @@ impl Outlook {
         ensures { self.new.visits ≡ self.old.visits }
     {
         self.owed &= !bit(node);
+        self.senders[usize::from(node % 64)] = 0;
     }
 
     /// The node made so many moves, and sent letters to the nodes that were reached.
@@ -127,6 +144,7 @@ impl Outlook {
         self.visits.note_move();
         self.mail |= reached;
         self.acts |= bit(node);
+        add_sender(&mut self.senders, reached, node);
     }
 
     /// The node made no move.
@@ -151,6 +169,15 @@ pub(crate) fn most_workers(count: u8) -> u8
     ensures { result ≡ FEW_WORKERS + count / NODES_PER_WORKER }
 {
     FEW_WORKERS + count / NODES_PER_WORKER
+}
+
+// The nodes that were reached have letters of this one.
+fn add_sender(senders: &mut [u64; 64], reached: u64, node: u8) {
+    let mut left = reached;
+    while left != 0 {
+        senders[(left.trailing_zeros() % 64) as usize] |= bit(node);
+        left &= left - 1;
+    }
 }
 
 fn bit(node: u8) -> u64 {

@@ -59,7 +59,8 @@ impl Worker {
             yield_now();
             return;
         };
-        let visit = work_on(&mut runner, self.outlook.is_by_mail(), gate);
+        let senders = self.outlook.senders_of(node);
+        let visit = work_on(&mut runner, senders, self.outlook.is_by_mail(), gate);
         pool.give(&mut self.badge, node, runner);
         self.note(node, visit);
     }
@@ -84,8 +85,22 @@ impl Worker {
     }
 }
 
-// Lets the runner work, and tells what came of it.
-fn work_on<G: Gate>(runner: &mut Runner, by_mail: bool, gate: &G) -> Visit
+// Lets the runner work, which looks for letters of these nodes, and tells what came of it.
+#[tactic(auto, using(crate::proofs::Taken::taking, crate::proofs::Taken::ends_later, crate::proofs::Taken::moves_seen))]
+fn work_on<G: Gate>(runner: &mut Runner, senders: u64, by_mail: bool, gate: &G) -> Visit
+    ensures grew { Grew runner.old runner.new }
+    ensures moves { result.moves ≡ length runner.new.log.entries - length runner.old.log.entries }
+    ensures ends { WorkEnds result.worked 0 runner.new }
+    ensures flushed { result.worked ≡ answers.Idle → IsFlushed runner.new }
+{
+    runner.look_for(senders);
+    let visit = work_counted(runner, by_mail, gate);
+    runner.look_for(u64::MAX);
+    visit
+}
+
+// Lets the runner work, and counts its moves.
+fn work_counted<G: Gate>(runner: &mut Runner, by_mail: bool, gate: &G) -> Visit
     ensures grew { Grew runner.old runner.new }
     ensures moves { result.moves ≡ length runner.new.log.entries - length runner.old.log.entries }
     ensures ends { WorkEnds result.worked 0 runner.new }
