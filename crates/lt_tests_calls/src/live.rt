@@ -1,9 +1,10 @@
-ghost use Rattle.std.specs.Prelude.{◌≡◌, ◌<◌, ◌≤◌, [], IfOk};
+ghost use Rattle.std.specs.Prelude.{◌≡◌, ◌<◌, ◌≤◌, [], length, IfOk};
 ghost use Rattle.lt_spec.specs.declared.limits.TheConstants.{MAX_COMMANDS};
+ghost use Rattle.lt_live.specs.Live.{LiveScript, EachStation, StationGoesOn, EachSession};
 ghost use Rattle.lt_live.specs.Words.{SameSession};
 
 use crate::telling::{holds, same};
-use lt_live::{Reply, Session, Station, open};
+use lt_live::{Reply, Session, Station, finish, open, served};
 use lt_modes::{Command, Mode};
 use lt_runner::{Open, Turned};
 use lt_script::{MAX_COMMANDS, Script, read};
@@ -100,5 +101,66 @@ fn an_ask_goes_to_the_other_node(rt: HostRuntime) -> Result<(), Fail> {
     }
     same(&rt, session.poll(), Some(Reply::Granted));
     same(&rt, session.unanswered(), 0);
+    Ok(())
+}
+
+// The stations and sessions of the script.
+fn live(alloc: Global, text: &str) -> Result<(Vec<Station>, Vec<Session>), Fail>
+    ensures { IfOk result (λ opened. LiveScript opened.0.items opened.1.items) }
+{
+    let script = script_of(alloc, text)?;
+    let opened = open(alloc, &script, 10, 1)?;
+    Ok(opened)
+}
+
+fn submit_first(sessions: &mut Vec<Session>, command: Command) -> Result<Result<(), Command>, Fail>
+    requires { 0 < length sessions.old.items }
+    ensures { EachSession SameSession sessions.old.items sessions.new.items }
+{
+    submit(&mut sessions[0], command)
+}
+
+fn turn_first(stations: &mut Vec<Station>) -> Turned
+    requires { 0 < length stations.old.items }
+    ensures { EachStation StationGoesOn stations.old.items stations.new.items }
+{
+    stations[0].turn(&Open)
+}
+
+fn poll_first(sessions: &mut Vec<Session>) -> Option<Reply>
+    requires { 0 < length sessions.old.items }
+    ensures { EachSession SameSession sessions.old.items sessions.new.items }
+{
+    sessions[0].poll()
+}
+
+// The first client's command is submitted, the first station makes a move, and the reply is polled.
+fn exchange(
+    stations: &mut Vec<Station>,
+    sessions: &mut Vec<Session>,
+    command: Command,
+) -> Result<Option<Reply>, Fail>
+    requires { LiveScript stations.old.items sessions.old.items }
+    ensures { LiveScript stations.new.items sessions.new.items }
+{
+    if stations.is_empty() || sessions.is_empty() {
+        return Err(Fail::from("no client"));
+    }
+    let _ = submit_first(sessions, command)?;
+    turn_first(stations);
+    Ok(poll_first(sessions))
+}
+
+#[test]
+fn the_service_goes_on_once_all_were_served(rt: HostRuntime) -> Result<(), Fail> {
+    let (mut stations, mut sessions) = live(rt.alloc(), ONE_CLIENT)?;
+    let reply = exchange(&mut stations, &mut sessions, LOCK)?;
+    same(&rt, reply, Some(Reply::Granted));
+    served(&mut stations, &mut sessions);
+    let reply = exchange(&mut stations, &mut sessions, UNLOCK)?;
+    same(&rt, reply, Some(Reply::Unlocked));
+    served(&mut stations, &mut sessions);
+    let (script, run) = finish(rt.alloc(), stations, sessions)?;
+    same(&rt, (script.commands(), run.len()), (2, 2));
     Ok(())
 }
