@@ -113,7 +113,7 @@ pub without_fault : (fault : ScriptFault) → HasFaultBefore (Some checked_lock)
 without_fault fault h =
     script_or_fault one_lock_script fault (read_of one_lock) one_lock_read (subst (λ (bytes : List ℕ). read_of bytes ≡ Err fault) right_before h)
 
-ok_text : List Logged → List ℕ
+abbrev ok_text : List Logged → List ℕ
 ok_text run = codes "ok " ++ decimal (length run) ++ codes "\n"
 
 ok_one : ok_text (the_move ∷ []) ≡ codes "ok 1\n"
