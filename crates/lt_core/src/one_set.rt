@@ -142,7 +142,9 @@ impl Core {
     {
         let asks = self.waiting() + brought + 2;
         self.held.reserve(asks)?;
-        self.parked.reserve(2)?;
+        if self.parked.capacity() - self.parked.len() < 2 {
+            self.parked.reserve(2)?;
+        }
         reserve_box(*self.parked.allocator(), &mut self.spare)?;
         match &mut self.desk {
             Some(desk) => desk.reserve_for(asks),

@@ -114,6 +114,7 @@ impl Out {
 
 // Makes room for so many further items. Where the room is there, nothing changes. Where there are no items, the list is
 // made anew, so that no memory is copied that no item was in.
+#[inline(always)]
 fn make_room<T: Drop>(items: &mut VecDeque<T>, further: usize) -> Result<(), AllocError>
     ensures items { items.new.items ≡ items.old.items }
     ensures kept { deque_capacity items.old ≤ deque_capacity items.new }
@@ -124,6 +125,17 @@ fn make_room<T: Drop>(items: &mut VecDeque<T>, further: usize) -> Result<(), All
     if further <= items.capacity() - items.len() {
         return Ok(());
     }
+    grow(items, further)
+}
+
+// Makes room where there is too little.
+#[cold]
+#[inline(never)]
+fn grow<T: Drop>(items: &mut VecDeque<T>, further: usize) -> Result<(), AllocError>
+    ensures items { items.new.items ≡ items.old.items }
+    ensures kept { deque_capacity items.old ≤ deque_capacity items.new }
+    ensures room { OnOk result (length items.old.items + further ≤ deque_capacity items.new) }
+{
     if !items.is_empty() {
         return items.reserve(further);
     }

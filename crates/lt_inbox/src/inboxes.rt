@@ -59,11 +59,15 @@ impl Inboxes {
     }
 
     /// Makes room for so many further letters.
+    #[inline(always)]
     pub fn reserve(&mut self, letters: usize) -> Result<(), AllocError>
         ensures letters { SameLetters self.old self.new }
         ensures room { OnOk result (letters ≤ self.new.free) }
         ensures full { letters ≤ self.old.free → IsOk result }
     {
+        if letters <= self.sent.capacity() - self.sent.len() {
+            return Ok(());
+        }
         self.sent.reserve(letters)
     }
 

@@ -119,6 +119,7 @@ impl Run {
     }
 
     /// Makes room for one further move with so many events, if that makes fewer than 2^32 events.
+    #[inline(always)]
     pub fn reserve(&mut self, events: usize) -> Result<(), AllocError>
         ensures entries { self.new.entries ≡ self.old.entries }
         ensures spare { OnOk result (1 ≤ self.new.spare) }
