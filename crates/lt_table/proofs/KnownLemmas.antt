@@ -12,7 +12,7 @@ use Rattle.lt_modes.specs.Modes.{Modes, has_none}
 use Rattle.lt_modes.specs.FiveModes.{bit_if}
 use Rattle.lt_table.specs.declared.entry.Entry.{Entry}
 use Rattle.lt_table.specs.Seen.{entry_seen}
-use Rattle.lt_table.specs.TableData.{entry_at, has_record, AreKnown, IsNextKnown, IsNextBit, NoBitLeft}
+use Rattle.lt_table.specs.TableData.{entry_at, has_record, AreRecorded, IsNextRecorded, IsNextBit, NoBitLeft}
 use Rattle.lt_table.proofs.RecountLemmas.{entries_put, seen_at}
 
 -- the mask with the bit of a number
@@ -92,9 +92,9 @@ known_within es x has = elim (cases_lt x (length es)) [
     true_false : true ≡ false → ⊥
     true_false e = cc
 
-pub known_next : (es seen : List rules.Entry) (mask from x : ℕ) → es ≡ seen → AreKnown es mask → IsNextBit mask from x → IsNextKnown seen from x
+pub known_next : (es seen : List rules.Entry) (mask from x : ℕ) → es ≡ seen → AreRecorded es mask → IsNextBit mask from x → IsNextRecorded seen from x
 known_next es seen mask from x same are next =
-    subst (λ (all : List rules.Entry). IsNextKnown all from x) same
+    subst (λ (all : List rules.Entry). IsNextRecorded all from x) same
     (let has = is_true (has_record es x) (sym (are.bits x next.within) ∙ next.has) in
     record {
       after = next.after;
@@ -103,8 +103,8 @@ known_next es seen mask from x same are next =
       none = λ i late less. is_false (has_record es i) (sym (are.bits i (omega (arith, less, next.within))) ∙ next.none i late less);
     })
 
-pub some_known : (es seen : List rules.Entry) (mask from : ℕ) (found : Option ℕ) → es ≡ seen → AreKnown es mask
-    → IfSome found (IsNextBit mask from) → IfSome found (IsNextKnown seen from)
+pub some_known : (es seen : List rules.Entry) (mask from : ℕ) (found : Option ℕ) → es ≡ seen → AreRecorded es mask
+    → IfSome found (IsNextBit mask from) → IfSome found (IsNextRecorded seen from)
 some_known es seen mask from None same are next = next
 some_known es seen mask from (Some x) same are next = known_next es seen mask from x same are next
 
@@ -114,7 +114,7 @@ first_at (suc n) zero = refl
 first_at (suc n) (suc x) = first_at n x
 
 -- before anything is told
-pub none_at_first : (es : List rules.Entry) (n : ℕ) → es ≡ replicate n first_entry → AreKnown es 0
+pub none_at_first : (es : List rules.Entry) (n : ℕ) → es ≡ replicate n first_entry → AreRecorded es 0
 none_at_first es n is = record {
   bits = λ x below. bit_at-zero x
       ∙ sym (ap (λ (all : List rules.Entry). bit_if (has_record all x) 1) is
@@ -123,15 +123,15 @@ none_at_first es n is = record {
 
 -- one entry changed, and the bit of its node follows
 pub known_kept : (es : List Entry) (mask made : ℕ) (x node : ℕ) (e new : Entry) (known : Modes) (has : Bool)
-    → AreKnown (map entry_seen es) mask → x ≡ node → x < length es → e ≡ slice_index_or es x e
+    → AreRecorded (map entry_seen es) mask → x ≡ node → x < length es → e ≡ slice_index_or es x e
     → known ≡ record_of (entry_seen new) → has ≡ not (has_none known)
     → (node < 64 → bit_at made node ≡ bit_if has 1) → ((i : ℕ) → i < 64 → i ≢ node → bit_at made i ≡ bit_at mask i)
-    → AreKnown (map entry_seen (slice_set es x new)) made
+    → AreRecorded (map entry_seen (slice_set es x new)) made
 known_kept es mask made x node e new known has are same h there is_known is_has own others =
     let seen = map entry_seen es in
     let inside : x < length seen = omega (arith, h, length-map es entry_seen) in
     let now : has ≡ not (has_none (record_of (entry_seen new))) = is_has ∙ ap (λ (m : Modes). not (has_none m)) is_known in
-    subst (λ (all : List rules.Entry). AreKnown all made)
+    subst (λ (all : List rules.Entry). AreRecorded all made)
     (sym (entries_put (λ old. entry_seen new) es seen x x e new refl refl h there refl))
     (record {
       bits = λ i below. elim (cases_eq i node) [
@@ -151,8 +151,8 @@ known_kept es mask made x node e new known has are same h there is_known is_has 
     })
 
 -- one entry changed, but not its record
-pub known_same : (es : List Entry) (mask : ℕ) (x : ℕ) (e new : Entry) → AreKnown (map entry_seen es) mask → x < length es → e ≡ slice_index_or es x e
-    → record_of (entry_seen new) ≡ record_of (entry_seen e) → AreKnown (map entry_seen (slice_set es x new)) mask
+pub known_same : (es : List Entry) (mask : ℕ) (x : ℕ) (e new : Entry) → AreRecorded (map entry_seen es) mask → x < length es → e ≡ slice_index_or es x e
+    → record_of (entry_seen new) ≡ record_of (entry_seen e) → AreRecorded (map entry_seen (slice_set es x new)) mask
 known_same es mask x e new are h there same =
     known_kept es mask mask x x e new (record_of (entry_seen new)) (not (has_none (record_of (entry_seen new)))) are refl h there refl refl
     (λ below. are.bits x below

@@ -3,7 +3,7 @@ ghost use Rattle.lt_modes.specs.declared.ask.Ask.{Ask};
 ghost use Rattle.lt_modes.specs.State.{SetState, Desk, first_entry, record_of, modes_of_owed, still_owed, own_part, others};
 ghost use Rattle.lt_modes.specs.Modes.{held_modes};
 ghost use Rattle.lt_modes.specs.Serving.{told, is_newer, owing, stamps_of, settled};
-ghost use Rattle.lt_table.specs.TableData.{entry_at, put_by, ask_with, told_frozen, nodes_with, AreTold, IsNextKnown, NoRecordFrom};
+ghost use Rattle.lt_table.specs.TableData.{entry_at, put_by, ask_with, told_frozen, nodes_with, AreTold, IsNextRecorded, NoRecordFrom};
 ghost use Rattle.lt_table.specs.Seen.{entry_seen, spare_in};
 
 use crate::entry::{Entry, still_told};
@@ -25,7 +25,7 @@ pub struct Table {
     // For each mode, how many nodes have it in their record.
     counts: ModeCounts,
     // Bit x: node x, which is below 64, has a record.
-    known: u64,
+    recorded: u64,
     // For so many asks more each entry has places.
     spare: u32,
     // The frozen modes that each node with a record was told, where it is known that they all were.
@@ -34,7 +34,7 @@ pub struct Table {
 
 impl Model for Table {
     ghost use Rattle.std.specs.Prelude.{◌<◌, ◌≤◌, map, length};
-    ghost use Rattle.lt_table.specs.TableData.{TableData, AreNodeCounts, AreKnown, AreToldLast};
+    ghost use Rattle.lt_table.specs.TableData.{TableData, AreNodeCounts, AreRecorded, AreToldLast};
     ghost use Rattle.lt_table.specs.Seen.{entry_seen, spare_in};
 
     ghost Value = { TableData };
@@ -44,7 +44,7 @@ impl Model for Table {
     ghost invariant = { λ t. (length t.entries.items < 256)
         × (AreNodeCounts (map entry_seen t.entries.items) t.counts
         × ((t.spare ≤ spare_in t.entries.items)
-        × (AreToldLast (map entry_seen t.entries.items) t.told × AreKnown (map entry_seen t.entries.items) t.known))) };
+        × (AreToldLast (map entry_seen t.entries.items) t.told × AreRecorded (map entry_seen t.entries.items) t.recorded))) };
 }
 
 impl Table {
@@ -54,7 +54,7 @@ impl Table {
         Ok(Table {
             entries: first_entries(alloc, nodes)?,
             counts: ModeCounts::new(),
-            known: 0,
+            recorded: 0,
             spare: 0,
             told: None,
         })
@@ -123,12 +123,12 @@ impl Table {
     }
 
     /// The first node from this number on that has a record.
-    pub fn next_known(&self, from: u8) -> Option<u8>
+    pub fn next_recorded(&self, from: u8) -> Option<u8>
         requires { length self.now.entries ≤ 64 }
-        ensures some { IfSome result (IsNextKnown self.now.entries from) }
+        ensures some { IfSome result (IsNextRecorded self.now.entries from) }
         ensures none { IfNone result (NoRecordFrom self.now.entries from) }
     {
-        next_bit(self.known, from)
+        next_bit(self.recorded, from)
     }
 
     /// Applies a tell of a node; false where it isn't newer than the last one.
@@ -147,7 +147,7 @@ impl Table {
             let after = entry.record();
             self.told = still_told(self.told, after, entry.frozen_told);
             self.counts = self.counts.shifted(before, after);
-            self.known = marked(self.known, node, !after.is_empty());
+            self.recorded = marked(self.recorded, node, !after.is_empty());
         }
         newer
     }
@@ -166,7 +166,7 @@ impl Table {
             let after = entry.record();
             self.told = still_told(self.told, after, entry.frozen_told);
             self.counts = self.counts.shifted(before, after);
-            self.known = marked(self.known, node, !after.is_empty());
+            self.recorded = marked(self.recorded, node, !after.is_empty());
             self.spare -= 1;
         }
     }
@@ -234,7 +234,7 @@ impl Table {
             let after = entry.record();
             self.told = still_told(self.told, after, entry.frozen_told);
             self.counts = self.counts.shifted(before, after);
-            self.known = marked(self.known, node, !after.is_empty());
+            self.recorded = marked(self.recorded, node, !after.is_empty());
         }
     }
 }

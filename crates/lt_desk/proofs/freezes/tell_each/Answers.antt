@@ -7,8 +7,8 @@ use Rattle.lt_desk.proofs.MaskLemmas.{bits_set, bits_kept, bits_until}
 use Rattle.lt_desk.proofs.freezes.tell_each.Goals as goal
 use Rattle.lt_desk.proofs.freezes.tell_each.Goals.{then-tell_node, else-tell_node}
 
-pub next_known-requires : goal.next_known-requires
-next_known-requires c =
+pub next_recorded-requires : goal.next_recorded-requires
+next_recorded-requires c =
     let f = told_target c.args.me c.args.modes in
     omega (arith, c.requires, ap length c.loop-x.invariant.entries, length-map_first f c.loop-x.from 0 c.args.table.now.entries)
 

@@ -40,7 +40,7 @@ invariant_of-self c =
           (
             still_kept es c.self.inside.told c.still_told-self-inside.result x e new c.record-after.result new.frozen_told
                 c.self.invariant.1.1.1.0 within there c.record-after.ensures refl c.still_told-self-inside.ensures,
-            known_kept es c.self.inside.known c.marked-self-inside.result x c.args.node e new c.record-after.result _
+            known_kept es c.self.inside.recorded c.marked-self-inside.result x c.args.node e new c.record-after.result _
                 c.self.invariant.1.1.1.1 c.from-x.ensures within there c.record-after.ensures (ap not c.is_empty.ensures) c.marked-self-inside.ensures.own c.marked-self-inside.ensures.others,
           ),
         ),

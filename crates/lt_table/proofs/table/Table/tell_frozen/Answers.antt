@@ -37,7 +37,7 @@ invariant_of-self c =
           (
             still_kept es c.self.inside.told c.still_told-self-inside.result x e new c.record-known.result c.args.modes
                 c.self.invariant.1.1.1.0 within there c.record-known.ensures (sym (ap (λ (entry : Entry). entry.frozen_told) same)) c.still_told-self-inside.ensures,
-            known_same es c.self.inside.known x e new c.self.invariant.1.1.1.1 within there (ap record_of same),
+            known_same es c.self.inside.recorded x e new c.self.invariant.1.1.1.1 within there (ap record_of same),
           ),
         ),
       ),
