@@ -1,6 +1,5 @@
-ghost use Rattle.std.specs.Prelude.{◌≡◌, ◌+◌, ◌<◌, ◌^◌, [], ◌∷◌, ◌++◌, length, take, slice_get, IfOk, OnOk};
-ghost use Rattle.lt_modes.specs.declared.moves.Step.TheVariants.{Act};
-ghost use Rattle.lt_merge.specs.Merging.{just_made, all_entries, AreLogs, Merges};
+ghost use Rattle.std.specs.Prelude.{◌≡◌, ◌+◌, ◌<◌, ◌^◌, ◌++◌, length, take, slice_get, IfOk, OnOk};
+ghost use Rattle.lt_merge.specs.Merging.{all_entries, AreLogs, Merges};
 ghost use Rattle.lt_merge.specs.Heads.{Begins, entries_in, rest_of};
 
 use crate::heads::{Head, advance, heads_of};
@@ -41,35 +40,4 @@ fn take_move(logs: &[Log], head: Head, run: &mut Run) -> Result<(), AllocError>
     ensures { OnOk result (run.new.entries ≡ run.old.entries ++ take 1 (rest_of logs.now head)) }
 {
     run.copy_move(&logs[head.log], head.place)
-}
-
-#[cfg(test)]
-mod tests {
-    use super::*;
-    use lt_modes::{Move, Stamp, Step};
-    use std::test::Fail;
-
-    fn log_of(alloc: Global, stamp: Stamp) -> Result<Log, AllocError>
-        ensures { IfOk result (λ log. log.entries ≡ just_made (record { stamp = stamp; step = Act 0 }) ∷ []) }
-    {
-        let mut log = Log::new(alloc);
-        log.reserve(0)?;
-        log.push(Move {
-            stamp,
-            step: Step::Act(0),
-        });
-        Ok(log)
-    }
-
-    #[test]
-    fn merges_two_logs(rt: HostRuntime) -> Result<(), Fail> {
-        let mut logs = Vec::new(rt.alloc());
-        logs.push(log_of(rt.alloc(), Stamp { clock: 3, node: 1 })?)?;
-        logs.push(log_of(rt.alloc(), Stamp { clock: 3, node: 0 })?)?;
-        let run = merge(rt.alloc(), logs)?;
-        assert_eq!(rt; run.len(), 2);
-        assert_eq!(rt; run.made(0).stamp.node, 0);
-        assert_eq!(rt; run.made(1).stamp.node, 1);
-        Ok(())
-    }
 }

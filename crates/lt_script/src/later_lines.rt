@@ -28,7 +28,7 @@ pub fn add_line(script: &mut Script, word: &[u8], rest: &[u8]) -> Result<Option<
     }
 }
 
-// The same of a line of any form. Its code stays out of that for most lines.
+// The same of a line of any form. It is no part of `add_line`, so that most lines do without its locals.
 #[inline(never)]
 fn add_other_line(
     script: &mut Script,
@@ -143,7 +143,7 @@ fn add_command_line(
     }
 }
 
-// The same of a command of one mode.
+// Adds a command of one mode in one set, or tells its first fault.
 #[inline(always)]
 fn add_one_mode(
     script: &mut Script,

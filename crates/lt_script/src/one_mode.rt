@@ -1,4 +1,4 @@
-// Commands of one mode in one set, as most lines have them: each is read in one go.
+// Commands of one mode in one set, in the form that most lines have: `lock S M`, `unlock S M` and `try S M`.
 ghost use Rattle.std.specs.Prelude.{◌≡◌, ◌∷◌, Some, IfSome};
 ghost use Rattle.lt_text.specs.Text.{words};
 ghost use Rattle.lt_script.specs.Forms.{asked_of, CommandForm};
@@ -27,7 +27,7 @@ pub struct OneMode<'a> {
     mode: Mode,
 }
 
-/// What is asked for, by what stands behind the client's name; none where it is written in another way than usual.
+/// What is asked for, by what stands behind the client's name. None tells that it may have another form.
 #[inline(always)]
 pub fn one_mode<'a>(line: &'a [u8]) -> Option<OneMode<'a>>
     ensures { IfSome result (λ asked. asked_of (words line.now) ≡ Some (one_mode_seen asked)) }

@@ -19,6 +19,8 @@ mod made;
 #[cfg(test)]
 mod mail;
 #[cfg(test)]
+mod merge;
+#[cfg(test)]
 mod modes;
 #[cfg(test)]
 mod node;
