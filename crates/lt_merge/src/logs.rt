@@ -1,4 +1,4 @@
-ghost use Rattle.std.specs.Prelude.{◌≡◌, ◌+◌, ◌<◌, ◌^◌, ◌++◌, length, take, slice_get, IfOk, OnOk};
+ghost use Rattle.std.specs.Prelude.{◌≡◌, ◌+◌, ◌<◌, ◌^◌, [], ◌++◌, length, take, slice_get, IfOk, OnOk};
 ghost use Rattle.lt_merge.specs.Merging.{all_entries, AreLogs, Merges};
 ghost use Rattle.lt_merge.specs.Heads.{Begins, entries_in, rest_of};
 
