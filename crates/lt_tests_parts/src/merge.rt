@@ -34,27 +34,31 @@ fn of_two_moves_with_one_clock_that_of_the_lesser_node_is_first(
     Ok(())
 }
 
-#[test]
-fn events_stand_at_their_move(rt: HostRuntime) -> Result<(), Fail> {
-    let grant = Event::Grant {
+fn grant() -> Event {
+    Event::Grant {
         client: 0,
         set: 0,
         mode: Mode::Read,
+    }
+}
+
+#[test]
+fn events_stand_at_their_move(rt: HostRuntime) -> Result<(), Fail> {
+    let first = Move {
+        stamp: Stamp { clock: 1, node: 0 },
+        step: Step::Act(0),
     };
-    let step = Step::Act(0);
+    let second = Move {
+        stamp: Stamp { clock: 2, node: 0 },
+        step: Step::Take(1),
+    };
     let mut run = Log::new(rt.alloc());
     run.reserve(2)?;
-    run.push(Move {
-        stamp: Stamp { clock: 1, node: 0 },
-        step,
-    });
-    run.add_event(grant);
-    run.add_event(grant);
+    run.push(first);
+    run.add_event(grant());
+    run.add_event(grant());
     run.reserve(0)?;
-    run.push(Move {
-        stamp: Stamp { clock: 2, node: 0 },
-        step,
-    });
+    run.push(second);
     same(&rt, run.made(1).stamp.clock, 2);
     same(&rt, run.events(0).len(), 2);
     same(&rt, run.events(1).len(), 0);
