@@ -51,6 +51,7 @@ impl Table {
     }
 
     /// Counts one such lock more. It fails where the count would pass the largest number.
+    #[inline(always)]
     pub fn add(&mut self, script: &Script, lock: Holding) -> Result<(), AllocError>
         ensures added { OnOk result ((held : List AnyHolding)
             → Counts script.now self.old held → Counts script.now self.new (held ++ lock ∷ [])) }
@@ -67,6 +68,7 @@ impl Table {
     }
 
     /// Counts one such lock less, if there is one.
+    #[inline(always)]
     pub fn take(&mut self, script: &Script, lock: Holding)
         ensures { (held : List AnyHolding)
             → Counts script.now self.old held → Counts script.now self.new (without_one held lock) }
@@ -95,6 +97,7 @@ impl Table {
     }
 
     // Writes the cell at this place.
+    #[inline(always)]
     fn put(&mut self, place: usize, count: usize)
         ensures { self.new ≡ slice_set self.old place count }
     {
@@ -105,6 +108,7 @@ impl Table {
 }
 
 // Whether the script has the lock's client and its set.
+#[inline(always)]
 fn has_cell(script: &Script, lock: Holding) -> bool
     ensures has { IsTrue result ↔ HasCell script.now lock }
     ensures few { length script.now.sets ≤ 8 }
@@ -113,6 +117,7 @@ fn has_cell(script: &Script, lock: Holding) -> bool
 }
 
 // The place of the lock's cell.
+#[inline(always)]
 fn cell_of(lock: Holding) -> usize
     ensures { result ≡ cell_of lock }
 {

@@ -32,7 +32,7 @@ impl Model for Tally {
 
 impl Tally {
     /// What no events come to.
-    fn new(alloc: Global, script: &Script) -> Result<Tally, AllocError>
+    pub fn new(alloc: Global, script: &Script) -> Result<Tally, AllocError>
         ensures { IfOk result (λ tally. IsTallied script.now tally []) }
     {
         Ok(Tally {
@@ -67,7 +67,8 @@ impl Tally {
     }
 
     /// Takes one event more into account. It fails where more locks are held than a number can say.
-    fn apply(&mut self, script: &Script, event: Event) -> Result<(), AllocError>
+    #[inline(always)]
+    pub fn apply(&mut self, script: &Script, event: Event) -> Result<(), AllocError>
         ensures applied { OnOk result ((events : List AnyEvent)
             → IsTallied script.now self.old events
             → IsTallied script.now self.new (events ++ event ∷ [])) }
@@ -109,6 +110,7 @@ impl Tally {
     }
 
     // Adds a lock, for which its client waits no more.
+    #[inline(always)]
     fn grant(&mut self, script: &Script, client: u16, set: u8, mode: Mode) -> Result<(), AllocError>
         ensures granted { OnOk result ((events : List AnyEvent)
             → IsTallied script.now self.old events
@@ -146,6 +148,7 @@ impl Tally {
     }
 
     // The client now waits for this, or for nothing.
+    #[inline(always)]
     fn wait(&mut self, client: u16, waiting: Option<Holding>)
         ensures { self.new ≡ record self.old { waiting = slice_set self.old.waiting client waiting } }
     {
@@ -156,6 +159,7 @@ impl Tally {
     }
 
     // The set's token now went there.
+    #[inline(always)]
     fn own(&mut self, set: u8, owner: Link)
         ensures { self.new ≡ record self.old { owners = slice_set self.old.owners set owner } }
     {
