@@ -2,7 +2,7 @@
 use Rattle.std.proofs.Common.{◌≡◌, ◌<◌, ◌^◌, ◌==◌, ◌||◌, not, true, List, ℕ, Bool, Option, Some, length, if◌then◌else◌, flat_map, zero, suc, cond, false, [], ◌∷◌, ◌++◌, fold, None, arith, ◌+◌, take, get_or, refl, sym, ap, ◌∙◌, append_assoc}
 use Rattle.std.specs.List.{AllByRecursion, list_all}
 use Rattle.std.proofs.lemmas.List.Sums.{count_by-le-length}
-use Rattle.std.proofs.lemmas.List.{take_more}
+use Rattle.std.proofs.lemmas.List.{take_more, map-append}
 use Rattle.std.proofs.lemmas.List.Concat.{flat_map-append}
 use Rattle.lt_modes.specs.declared.moves.Move.{Move}
 use Rattle.lt_modes.specs.Script.{ScriptData, set_name, client_name}
@@ -18,7 +18,7 @@ use Rattle.lt_merge.specs.Merging.{made_at, events_at}
 use Rattle.lt_journal.specs.LineFits.{IsNumber, HasNode, FitsStep, FitsEvent, FitsCut, HasSet, HasClient, FitsLine}
 use Rattle.lt_journal.specs.declared.line.Line.{Line}
 use Rattle.lt_journal.specs.declared.line.Line.TheVariants.{Version, Held, Move as MoveLine}
-use Rattle.lt_journal.specs.RunLines.{shown_event, event_lines, first_lines, entry_lines, moves_lines, lines_below, held_line, held_in_mode, held_in_set, held_by, held_lines, waiting_line, waiting_lines, owner_line, owner_lines, closing_lines, run_lines, line_text, lines_text}
+use Rattle.lt_journal.specs.RunLines.{shown_event, line_of_event, event_lines, first_lines, entry_lines, moves_lines, lines_below, held_line, held_in_mode, held_in_set, held_by, held_lines, waiting_line, waiting_lines, owner_line, owner_lines, closing_lines, run_lines, line_text, lines_text}
 
 -- no space, line feed or carriage return
 abbrev pub is_plain_byte : ℕ → Bool
@@ -215,6 +215,17 @@ flat_map-more {X} {A} f xs i d h =
     sym (ap (λ (ys : List X). flat_map f ys) (take_more xs i d h)
     ∙ (flat_map-append f (take i xs) (get_or xs i d ∷ [])
     ∙ ap (λ (ys : List A). flat_map f (take i xs) ++ ys) (append_nil (f (get_or xs i d)))))
+
+-- the text of the events up to this one, and of this one
+pub events_text-more : (script : ScriptData) (version : ℕ) (events : List Event) (i : ℕ) (event : Event) → event ≡ get_or events i event → i < length events
+    → lines_text script (event_lines version (take i events)) ++ line_text script (line_of_event version event) ≡ lines_text script (event_lines version (take (i + 1) events))
+events_text-more script version events i event is inside =
+    let before = event_lines version (take i events) in
+    sym (ap (λ (es : List Event). lines_text script (event_lines version es)) (take_more events i event inside)
+    ∙ (ap (λ (e : Event). lines_text script (event_lines version (take i events ++ e ∷ []))) (sym is)
+    ∙ (ap (λ (ls : List Line). lines_text script ls) (map-append (line_of_event version) (take i events) (event ∷ []))
+    ∙ (flat_map-append (line_text script) before (line_of_event version event ∷ [])
+    ∙ ap (λ (text : List ℕ). lines_text script before ++ text) (append_nil (line_text script (line_of_event version event)))))))
 
 -- the moves up to this one
 take_entry : (entries : List Logged) (k : ℕ) (made : Move) (events : List Event) → made_at entries k ≡ Some made → events_at entries k ≡ Some events → take (suc k) entries ≡ take k entries ++ record { made = made; events = events } ∷ []

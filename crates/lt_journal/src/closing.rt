@@ -1,6 +1,6 @@
 ghost use Rattle.std.specs.Prelude.{◌≡◌, ◌<◌, ◌++◌, ◌∷◌, [], List, None, IfOk, OnOk, length};
 ghost use Rattle.lt_modes.specs.declared.event.Event.{Event as AnyEvent};
-ghost use Rattle.lt_spec.specs.Holdings.{holdings, wanted, owner_of};
+ghost use Rattle.lt_spec.specs.Holdings.{holdings, wanted, owner_of, lines_of};
 ghost use Rattle.lt_tally.specs.LockTable.{IsTallied};
 ghost use Rattle.lt_journal.specs.RunLines.{held_line, held_in_set, held_by, held_lines, waiting_line, waiting_lines, owner_line, owner_lines, closing_lines};
 
@@ -17,10 +17,23 @@ pub fn closing_lines(alloc: Global, script: &Script, run: &Run) -> Result<Vec<Li
     ensures { IfOk result (λ lines. lines.items ≡ closing_lines script.now run.now.entries None) }
 {
     let tally = tally_of(alloc, script, run)?;
+    lines_at_rest(alloc, script, &tally, run)
+}
+
+/// The same, where the run comes to this tally.
+pub(crate) fn lines_at_rest(
+    alloc: Global,
+    script: &Script,
+    tally: &Tally,
+    run: &Run,
+) -> Result<Vec<Line>, AllocError>
+    requires { IsTallied script.now tally.now (lines_of run.now.entries) }
+    ensures { IfOk result (λ lines. lines.items ≡ closing_lines script.now run.now.entries None) }
+{
     let mut lines = Vec::new(alloc);
-    held_lines(&mut lines, script, &tally)?;
-    waiting_lines(&mut lines, script, &tally)?;
-    owner_lines(&mut lines, script, &tally)?;
+    held_lines(&mut lines, script, tally)?;
+    waiting_lines(&mut lines, script, tally)?;
+    owner_lines(&mut lines, script, tally)?;
     push_line(&mut lines, Line::End { count: run.len() })?;
     Ok(lines)
 }

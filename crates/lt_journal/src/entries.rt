@@ -1,30 +1,87 @@
 // The lines of a move and its events, as they are written fast.
-ghost use Rattle.std.specs.Prelude.{◌≡◌, ◌++◌, [], ◌∷◌, OnOk};
+ghost use Rattle.std.specs.Prelude.{◌≡◌, ◌≤◌, ◌++◌, [], ◌∷◌, List, OnOk, length};
 ghost use Rattle.lt_journal.specs.declared.line.Line.TheVariants.{Move as MoveLine, Event as EventLine};
-ghost use Rattle.std.specs.Fmt.{decimal};
-ghost use Rattle.lt_modes.specs.Modes.{word_of};
-ghost use Rattle.lt_modes.specs.Script.{set_name, client_name};
-ghost use Rattle.lt_text.specs.Text.{after_space};
-ghost use Rattle.lt_journal.specs.RunLines.{line_text};
+ghost use Rattle.lt_modes.specs.declared.event.Event.{Event as AnyEvent};
+ghost use Rattle.lt_tally.specs.LockTable.{IsTallied};
+ghost use Rattle.lt_journal.specs.RunLines.{line_text, line_of_event};
 
-use crate::events::{words_of_event, words_of_modes};
+use crate::events::{shown_event, words_of_event, words_of_modes};
 use crate::text::Text;
 use crate::wording::Wording;
-use lt_modes::{Event, Mode, Move, Step};
+use lt_modes::{Event, Move, Step};
+use lt_tally::Tally;
 use std::alloc::AllocError;
 
 /// Writes the line of a move: `move CLOCK NODE act CLIENT` or `move CLOCK NODE take FROM`.
+#[inline(always)]
 pub(crate) fn move_line(text: &mut Text, wording: &Wording, made: Move) -> Result<(), AllocError>
     ensures { OnOk result (text.new ≡ text.old ++ line_text wording.now (MoveLine made.stamp.clock made.stamp.node made.step)) }
 {
-    text.move_at(made.stamp.clock)?;
     match made.step {
-        Step::Act(client) => {
-            text.act(made.stamp.node)?;
-            wording.last_client(text, client)
-        }
-        Step::Take(from) => text.take_line(made.stamp.node, from),
+        Step::Act(client) => wording.act_line(text, made.stamp.clock, made.stamp.node, client),
+        Step::Take(from) => text.take_line(made.stamp.clock, made.stamp.node, from),
     }
+}
+
+/// Writes the line of an event as a journal of this version shows it, and takes the event into account.
+#[inline(always)]
+pub(crate) fn entry(
+    text: &mut Text,
+    tally: &mut Tally,
+    wording: &Wording,
+    version: u8,
+    event: &Event,
+) -> Result<(), AllocError>
+    ensures text { OnOk result (text.new ≡ text.old ++ line_text wording.now (line_of_event version event.now)) }
+    ensures tally { OnOk result ((events : List AnyEvent)
+        → IsTallied wording.now tally.old events
+        → IsTallied wording.now tally.new (events ++ event.now ∷ [])) }
+{
+    // In an arm of its own the variant is known, so that neither the line nor the count asks for it again.
+    match event {
+        Event::Grant { .. } => plain_entry(text, tally, wording, event),
+        Event::Wait { .. } => plain_entry(text, tally, wording, event),
+        Event::Unlock { .. } => plain_entry(text, tally, wording, event),
+        Event::Token { .. } => plain_entry(text, tally, wording, event),
+        _ => other_entry(text, tally, wording, version, event),
+    }
+}
+
+// Writes the line of an event as it is, and takes the event into account.
+#[inline(always)]
+fn plain_entry(
+    text: &mut Text,
+    tally: &mut Tally,
+    wording: &Wording,
+    event: &Event,
+) -> Result<(), AllocError>
+    ensures text { OnOk result (text.new ≡ text.old ++ line_text wording.now (EventLine event.now)) }
+    ensures tally { OnOk result ((events : List AnyEvent)
+        → IsTallied wording.now tally.old events
+        → IsTallied wording.now tally.new (events ++ event.now ∷ [])) }
+{
+    event_line(text, wording, *event)?;
+    tally.apply(wording.script(), *event)?;
+    Ok(())
+}
+
+// The same of any event, as a journal of this version shows it.
+#[inline(never)]
+fn other_entry(
+    text: &mut Text,
+    tally: &mut Tally,
+    wording: &Wording,
+    version: u8,
+    event: &Event,
+) -> Result<(), AllocError>
+    ensures text { OnOk result (text.new ≡ text.old ++ line_text wording.now (line_of_event version event.now)) }
+    ensures tally { OnOk result ((events : List AnyEvent)
+        → IsTallied wording.now tally.old events
+        → IsTallied wording.now tally.new (events ++ event.now ∷ [])) }
+{
+    other_line(text, wording, shown_event(version, *event))?;
+    tally.apply(wording.script(), *event)?;
+    Ok(())
 }
 
 /// Writes the line of an event.
@@ -32,59 +89,23 @@ pub(crate) fn move_line(text: &mut Text, wording: &Wording, made: Move) -> Resul
 pub fn event_line(text: &mut Text, wording: &Wording, event: Event) -> Result<(), AllocError>
     ensures { OnOk result (text.new ≡ text.old ++ line_text wording.now (EventLine event)) }
 {
+    // A copy of a word in a local variable can't overlap what is written.
     match event {
         Event::Grant { client, set, mode } => {
-            text.first_word("grant")?;
-            last_words(text, wording, client, set, mode)
+            let first = *b"grant";
+            wording.lock_line(text, &first, client, set, mode)
         }
         Event::Wait { client, set, mode } => {
-            text.first_word("wait")?;
-            last_words(text, wording, client, set, mode)
+            let first = *b"wait";
+            wording.lock_line(text, &first, client, set, mode)
         }
         Event::Unlock { client, set, mode } => {
-            text.first_word("unlock")?;
-            last_words(text, wording, client, set, mode)
+            let first = *b"unlock";
+            wording.lock_line(text, &first, client, set, mode)
         }
-        Event::Token { set, to, epoch } => {
-            letter(text, wording, "token", set, to)?;
-            text.number(epoch)?;
-            text.end_line()
-        }
+        Event::Token { set, to, epoch } => wording.token_line(text, set, to, epoch),
         other => other_line(text, wording, other),
     }
-}
-
-// Writes the words after the first of a line that names a client, a set and a mode, and the line end.
-#[inline(always)]
-fn last_words(
-    text: &mut Text,
-    wording: &Wording,
-    client: u16,
-    set: u8,
-    mode: Mode,
-) -> Result<(), AllocError>
-    ensures { OnOk result (text.new ≡ text.old ++ after_space (client_name wording.now client)
-        ++ after_space (set_name wording.now set) ++ after_space (word_of mode) ++ 10 ∷ []) }
-{
-    wording.client(text, client)?;
-    wording.last_lock(text, set, mode)
-}
-
-// Writes the words that say which letter goes to which node.
-#[inline(always)]
-fn letter(
-    text: &mut Text,
-    wording: &Wording,
-    first: &str,
-    set: u8,
-    to: u8,
-) -> Result<(), AllocError>
-    ensures { OnOk result (text.new ≡ text.old ++ first.now
-        ++ after_space (set_name wording.now set) ++ after_space (decimal to)) }
-{
-    text.first_word(first)?;
-    wording.set(text, set)?;
-    text.number(u64::from(to))
 }
 
 // Writes the line of any event.
@@ -99,7 +120,9 @@ fn other_line(text: &mut Text, wording: &Wording, event: Event) -> Result<(), Al
             client,
             mode,
         } => {
-            letter(text, wording, "copy", set, to)?;
+            text.first_word("copy")?;
+            wording.set(text, set)?;
+            text.number(u64::from(to))?;
             wording.client(text, client)?;
             text.word(mode.word().as_bytes())?;
         }
@@ -109,7 +132,9 @@ fn other_line(text: &mut Text, wording: &Wording, event: Event) -> Result<(), Al
             number,
             modes,
         } => {
-            letter(text, wording, "freeze", set, to)?;
+            text.first_word("freeze")?;
+            wording.set(text, set)?;
+            text.number(u64::from(to))?;
             text.number(number)?;
             words_of_modes(text, modes)?;
         }

@@ -1,9 +1,11 @@
-ghost use Rattle.std.specs.Prelude.{◌≡◌, ◌++◌, OnOk, IfOk};
+ghost use Rattle.std.specs.Prelude.{◌≡◌, ◌++◌, [], ◌∷◌, List, OnOk, IfOk};
+ghost use Rattle.lt_modes.specs.declared.event.Event.{Event as AnyEvent};
+ghost use Rattle.lt_spec.specs.Holdings.{lines_of};
+ghost use Rattle.lt_tally.specs.LockTable.{IsTallied};
 ghost use Rattle.lt_journal.specs.RunLines.{first_lines, event_lines, moves_lines, closing_lines, lines_text, text_of};
 
-use crate::closing::closing_lines;
-use crate::entries::{event_line, move_line};
-use crate::events::shown_event;
+use crate::closing::lines_at_rest;
+use crate::entries::{entry, move_line};
 use crate::line::Line;
 use crate::line_words::write_lines;
 use crate::text::Text;
@@ -11,6 +13,7 @@ use crate::wording::Wording;
 use lt_merge::Run;
 use lt_modes::Event;
 use lt_script::Script;
+use lt_tally::{Tally, tally_of};
 use std::alloc::{AllocError, Global};
 
 // For how many bytes of a move and its events there is room at first. Where a run has more, the room grows.
@@ -28,8 +31,10 @@ pub fn write(
 {
     let mut text = Text::with_room(alloc, run.len() as usize * ROOM)?;
     first_lines(&mut text, script)?;
-    move_lines(&mut text, &Wording::new(alloc, script)?, run)?;
-    push_closing(alloc, &mut text, script, run, cut)?;
+    let wording = Wording::new(alloc, script)?;
+    let mut tally = Tally::new(alloc, script)?;
+    move_lines(&mut text, &mut tally, &wording, run)?;
+    push_closing(alloc, &mut text, script, &tally, run, cut)?;
     Ok(text.into_bytes())
 }
 
@@ -43,7 +48,8 @@ pub fn write_closing(
     ensures { IfOk result (λ text. text.items ≡ lines_text script.now (closing_lines script.now run.now.entries cut)) }
 {
     let mut text = Text::new(alloc);
-    push_closing(alloc, &mut text, script, run, cut)?;
+    let tally = tally_of(alloc, script, run)?;
+    push_closing(alloc, &mut text, script, &tally, run, cut)?;
     Ok(text.into_bytes())
 }
 
@@ -57,42 +63,60 @@ fn first_lines(text: &mut Text, script: &Script) -> Result<(), AllocError>
     write_lines(text, script, &[Line::Version])
 }
 
-// Writes the lines of all moves.
-fn move_lines(text: &mut Text, wording: &Wording, run: &Run) -> Result<(), AllocError>
-    ensures { OnOk result (text.new ≡ text.old ++ lines_text wording.now (moves_lines wording.now.version run.now.entries)) }
+// Writes the lines of all moves, and takes their events into account.
+fn move_lines(
+    text: &mut Text,
+    tally: &mut Tally,
+    wording: &Wording,
+    run: &Run,
+) -> Result<(), AllocError>
+    requires { IsTallied wording.now tally.old [] }
+    ensures text { OnOk result (text.new ≡ text.old ++ lines_text wording.now (moves_lines wording.now.version run.now.entries)) }
+    ensures tally { OnOk result (IsTallied wording.now tally.new (lines_of run.now.entries)) }
 {
     for k in 0..run.len() {
         move_line(text, wording, run.made(k))?;
-        event_lines(text, wording, run.events(k))?;
+        event_lines(text, tally, wording, run.events(k))?;
     }
     Ok(())
 }
 
-// Writes the lines of a move's events.
-fn event_lines(text: &mut Text, wording: &Wording, events: &[Event]) -> Result<(), AllocError>
-    ensures { OnOk result (text.new ≡ text.old ++ lines_text wording.now (event_lines wording.now.version events.now)) }
+// Writes the lines of a move's events, and takes these into account.
+#[inline(always)]
+fn event_lines(
+    text: &mut Text,
+    tally: &mut Tally,
+    wording: &Wording,
+    events: &[Event],
+) -> Result<(), AllocError>
+    ensures text { OnOk result (text.new ≡ text.old ++ lines_text wording.now (event_lines wording.now.version events.now)) }
+    ensures tally { OnOk result ((before : List AnyEvent)
+        → IsTallied wording.now tally.old before
+        → IsTallied wording.now tally.new (before ++ events.now)) }
 {
     let version = wording.script().version();
     for event in events {
-        event_line(text, wording, shown_event(version, *event))?;
+        entry(text, tally, wording, version, event)?;
     }
     Ok(())
 }
 
-// Writes the lines after the moves: those at rest, or `cut NODE`.
+// Writes the lines after the moves of a run that comes to this: those at rest, or `cut NODE`.
 fn push_closing(
     alloc: Global,
     text: &mut Text,
     script: &Script,
+    tally: &Tally,
     run: &Run,
     cut: Option<u8>,
 ) -> Result<(), AllocError>
+    requires { IsTallied script.now tally.now (lines_of run.now.entries) }
     ensures { OnOk result (text.new ≡ text.old ++ lines_text script.now (closing_lines script.now run.now.entries cut)) }
 {
     match cut {
         Some(node) => write_lines(text, script, &[Line::Cut { node }]),
         None => {
-            let lines = closing_lines(alloc, script, run)?;
+            let lines = lines_at_rest(alloc, script, tally, run)?;
             write_lines(text, script, &lines)
         }
     }

@@ -157,7 +157,7 @@ fn any_number_field(words: &[u8]) -> Option<(u32, &[u8])>
     Some((number, rest?))
 }
 
-// Whether the first so many digits are some, and the first of several isn't 0.
+// Of so many digits at the front: whether there are some, and the first of several isn't 0.
 #[inline(always)]
 fn is_numeral(words: &[u8], count: usize) -> bool
     requires { count ≤ length words.now }

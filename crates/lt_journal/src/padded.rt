@@ -1,4 +1,4 @@
-ghost use Rattle.std.specs.Prelude.{◌≡◌, ◌≤◌, ◌++◌, [], ◌∷◌, IfSome};
+ghost use Rattle.std.specs.Prelude.{◌≡◌, ◌≤◌, ◌+◌, ◌++◌, [], ◌∷◌, IfSome};
 
 use crate::page::Page;
 use std::marker::Model;
@@ -41,7 +41,8 @@ impl Padded {
     #[inline(always)]
     pub fn write(&self, page: &mut Page)
         requires { 32 ≤ page.old.room }
-        ensures { page.new.text ≡ page.old.text ++ self.now }
+        ensures text { page.new.text ≡ page.old.text ++ self.now }
+        ensures room { page.old.room ≤ page.new.room + 32 }
     {
         page.put_front(&self.block, self.len);
     }

@@ -1,11 +1,12 @@
-ghost use Rattle.std.specs.Prelude.{◌≡◌, ◌+◌, ◌/◌, ◌%◌, ◌<◌, ◌≤◌, ◌^◌, ◌++◌, [], ◌∷◌, length, take, OnOk, IfOk};
+ghost use Rattle.std.specs.Prelude.{◌≡◌, ◌+◌, ◌/◌, ◌%◌, ◌<◌, ◌≤◌, ◌^◌, ◌++◌, [], ◌∷◌, codes, length, take, OnOk, IfOk};
 ghost use Rattle.std.specs.Fmt.{decimal};
 ghost use Rattle.lt_text.specs.Text.{after_space};
 
+use itoa::Buffer;
 use std::alloc::{AllocError, Global};
 use std::marker::Model;
 
-// So many bytes more than is asked for are there each time that room is made.
+// So many bytes are added each time that room is made, or as many as are asked for where these are more.
 const STEP: usize = 1024;
 
 const ZEROS: [u8; STEP] = [0; STEP];
@@ -20,7 +21,9 @@ static ONES: [u8; 100] =
 /// Bytes that are written one behind the other into room that was made before.
 #[derive(Debug, Drop)]
 pub(crate) struct Page {
+    // What is written, and the room behind it.
     bytes: Vec<u8>,
+    // How many of the bytes are written.
     len: usize,
 }
 
@@ -139,6 +142,37 @@ impl Page {
         ensures room { self.new.room + len ≡ self.old.room + length self.old.text }
     {
         self.len = len;
+    }
+
+    /// Writes the word `move` and the clock of a move's line, and makes room for the rest of it.
+    #[inline(always)]
+    pub fn put_move(&mut self, clock: u64) -> Result<(), AllocError>
+        ensures text { OnOk result (self.new.text ≡ self.old.text ++ codes "move" ++ after_space (decimal clock)) }
+        ensures room { OnOk result (48 ≤ self.new.room) }
+    {
+        if clock >= 10_000 {
+            return self.put_long_move(clock);
+        }
+        self.make_room(57)?;
+        self.put(b"move");
+        self.put_number(clock);
+        Ok(())
+    }
+
+    // The same of any clock. It stands apart, so that its buffer doesn't burden the others.
+    #[cold]
+    #[inline(never)]
+    fn put_long_move(&mut self, clock: u64) -> Result<(), AllocError>
+        ensures text { OnOk result (self.new.text ≡ self.old.text ++ codes "move" ++ after_space (decimal clock)) }
+        ensures room { OnOk result (48 ≤ self.new.room) }
+    {
+        let mut digits = Buffer::new();
+        let digits = digits.format(clock).as_bytes();
+        self.make_room(5)?;
+        self.put(b"move ");
+        self.make_room(digits.len())?;
+        self.put(digits);
+        self.make_room(48)
     }
 
     /// Writes a number of one to four digits as a later word of a line.

@@ -1,4 +1,4 @@
-ghost use Rattle.std.specs.Prelude.{◌≡◌, [], ◌∷◌, ◌++◌, codes, OnOk, IfOk};
+ghost use Rattle.std.specs.Prelude.{◌≡◌, ◌<◌, ◌≤◌, [], ◌∷◌, ◌++◌, codes, length, OnOk, IfOk};
 ghost use Rattle.std.specs.Fmt.{decimal};
 ghost use Rattle.lt_text.specs.Text.{after_space};
 
@@ -45,7 +45,14 @@ impl Text {
     pub fn first_word(&mut self, word: &str) -> Result<(), AllocError>
         ensures { OnOk result (self.new ≡ self.old ++ word.now) }
     {
-        let word = word.as_bytes();
+        self.first(word.as_bytes())
+    }
+
+    /// The same of a word that is given as bytes.
+    #[inline(always)]
+    pub(crate) fn first(&mut self, word: &[u8]) -> Result<(), AllocError>
+        ensures { OnOk result (self.new ≡ self.old ++ word.now) }
+    {
         self.page.make_room(word.len())?;
         self.page.put(word);
         Ok(())
@@ -85,44 +92,72 @@ impl Text {
         self.word(digits.format(number).as_bytes())
     }
 
-    /// Writes the word `move` and the clock of a move's line.
+    /// Writes the line of a move that acts for the client of this name.
     #[inline(always)]
-    pub(crate) fn move_at(&mut self, clock: u64) -> Result<(), AllocError>
-        ensures { OnOk result (self.new ≡ self.old ++ codes "move" ++ after_space (decimal clock)) }
+    pub(crate) fn act_line(
+        &mut self,
+        clock: u64,
+        node: u8,
+        client: &Padded,
+    ) -> Result<(), AllocError>
+        ensures { OnOk result (self.new ≡ self.old ++ codes "move" ++ after_space (decimal clock)
+            ++ after_space (decimal node) ++ after_space (codes "act") ++ client.now ++ 10 ∷ []) }
     {
-        if clock >= 10_000 {
-            self.first_word("move")?;
-            return self.long_number(clock);
-        }
-        self.page.make_room(9)?;
-        self.page.put(b"move");
-        self.page.put_number(clock);
-        Ok(())
-    }
-
-    /// Writes the node and the word `act` of a move's line.
-    #[inline(always)]
-    pub(crate) fn act(&mut self, node: u8) -> Result<(), AllocError>
-        ensures { OnOk result (self.new ≡ self.old ++ after_space (decimal node) ++ after_space (codes "act")) }
-    {
-        self.page.make_room(9)?;
+        self.page.put_move(clock)?;
         self.page.put_number(u64::from(node));
         self.page.put(b" act");
+        client.write_line(&mut self.page);
         Ok(())
     }
 
-    /// Writes the node, the word `take`, the sender and the line end of a move's line.
+    /// Writes the line of a move that takes a letter of this node.
     #[inline(always)]
-    pub(crate) fn take_line(&mut self, node: u8, from: u8) -> Result<(), AllocError>
-        ensures { OnOk result (self.new ≡ self.old ++ after_space (decimal node) ++ after_space (codes "take")
-            ++ after_space (decimal from) ++ 10 ∷ []) }
+    pub(crate) fn take_line(&mut self, clock: u64, node: u8, from: u8) -> Result<(), AllocError>
+        ensures { OnOk result (self.new ≡ self.old ++ codes "move" ++ after_space (decimal clock)
+            ++ after_space (decimal node) ++ after_space (codes "take") ++ after_space (decimal from) ++ 10 ∷ []) }
     {
-        self.page.make_room(16)?;
+        self.page.put_move(clock)?;
         self.page.put_number(u64::from(node));
         // A copy in a local variable can't overlap what is written.
         let take = *b" take";
         self.page.put(&take);
         self.page.put_number(u64::from(from));
+        self.page.put(b"\n");
+        Ok(())
+    }
+
+    /// Writes a line of a first word and of words that stand in two blocks.
+    #[inline(always)]
+    pub(crate) fn lock_line(
+        &mut self,
+        first: &[u8],
+        client: &Padded,
+        lock: &Padded,
+    ) -> Result<(), AllocError>
+        requires { length first.now ≤ 8 }
+        ensures { OnOk result (self.new ≡ self.old ++ first.now ++ client.now ++ lock.now ++ 10 ∷ []) }
+    {
+        self.page.make_room(72)?;
+        self.page.put(first);
+        client.write(&mut self.page);
+        lock.write_line(&mut self.page);
+        Ok(())
+    }
+
+    /// Writes the line of a token of the set of this name, which goes to a node.
+    #[inline(always)]
+    pub(crate) fn token_line(&mut self, set: &Padded, to: u8, epoch: u64) -> Result<(), AllocError>
+        requires { epoch < 10000 }
+        ensures { OnOk result (self.new ≡ self.old ++ codes "token" ++ set.now
+            ++ after_space (decimal to) ++ after_space (decimal epoch) ++ 10 ∷ []) }
+    {
+        self.page.make_room(48)?;
+        // A copy in a local variable can't overlap what is written.
+        let token = *b"token";
+        self.page.put(&token);
+        set.write(&mut self.page);
+        self.page.put_number(u64::from(to));
+        self.page.put_number(epoch);
         self.page.put(b"\n");
         Ok(())
     }
@@ -134,16 +169,6 @@ impl Text {
     {
         self.page.make_room(32)?;
         words.write(&mut self.page);
-        Ok(())
-    }
-
-    /// Writes words that stand in a block, and a line end.
-    #[inline(always)]
-    pub(crate) fn padded_line(&mut self, words: &Padded) -> Result<(), AllocError>
-        ensures { OnOk result (self.new ≡ self.old ++ words.now ++ 10 ∷ []) }
-    {
-        self.page.make_room(32)?;
-        words.write_line(&mut self.page);
         Ok(())
     }
 

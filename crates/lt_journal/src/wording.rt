@@ -1,14 +1,19 @@
 // The names of a script, kept as a journal has them.
-ghost use Rattle.std.specs.Prelude.{◌≡◌, ◌<◌, ◌++◌, [], ◌∷◌, OnOk, IfOk, IfSome};
+ghost use Rattle.std.specs.Prelude.{◌≡◌, ◌≤◌, ◌++◌, OnOk, IfOk, IfSome, length};
 ghost use Rattle.lt_modes.specs.Modes.{word_of};
 ghost use Rattle.lt_modes.specs.Script.{set_name, client_name};
+ghost use Rattle.lt_modes.specs.declared.moves.Step.TheVariants.{Act};
+ghost use Rattle.lt_modes.specs.declared.event.Event.TheVariants.{Token};
 ghost use Rattle.lt_text.specs.Text.{after_space};
+ghost use Rattle.lt_journal.specs.declared.line.Line.TheVariants.{Move as MoveLine, Event as EventLine};
+ghost use Rattle.lt_journal.specs.RunLines.{line, line_text, lock_words};
 ghost use Rattle.lt_journal.specs.Wording.{AreClientWords, AreSetWords, AreLockWords};
 
+use crate::events::{words_of_event, words_of_move};
 use crate::names::{client_name, set_name};
 use crate::padded::Padded;
 use crate::text::Text;
-use lt_modes::{MODES, Mode, place};
+use lt_modes::{Event, MODES, Mode, Step, place};
 use lt_script::Script;
 use std::alloc::{AllocError, Global};
 use std::marker::Model;
@@ -91,15 +96,21 @@ impl Wording {
         }
     }
 
-    /// Writes the client's name as the last word of a line, with the line end.
+    /// Writes the line of a move that acts for the client.
     #[inline(always)]
-    pub(crate) fn last_client(&self, text: &mut Text, client: u16) -> Result<(), AllocError>
-        ensures { OnOk result (text.new ≡ text.old ++ after_space (client_name self.now client) ++ 10 ∷ []) }
+    pub(crate) fn act_line(
+        &self,
+        text: &mut Text,
+        clock: u64,
+        node: u8,
+        client: u16,
+    ) -> Result<(), AllocError>
+        ensures { OnOk result (text.new ≡ text.old ++ line_text self.now (MoveLine clock node (Act client))) }
     {
         if let Some(word) = self.word_of_client(client) {
-            return text.padded_line(word);
+            return text.act_line(clock, node, word);
         }
-        text.word(client_name(&self.script, client))?;
+        words_of_move(text, &self.script, clock, node, Step::Act(client))?;
         text.end_line()
     }
 
@@ -114,17 +125,63 @@ impl Wording {
         }
     }
 
-    /// Writes the set and the mode as the last words of a line, with the line end.
+    /// Writes a line of a first word, a client, a set and a mode.
     #[inline(always)]
-    pub(crate) fn last_lock(&self, text: &mut Text, set: u8, mode: Mode) -> Result<(), AllocError>
-        ensures { OnOk result (text.new ≡ text.old
-            ++ after_space (set_name self.now set) ++ after_space (word_of mode) ++ 10 ∷ []) }
+    pub(crate) fn lock_line(
+        &self,
+        text: &mut Text,
+        first: &[u8],
+        client: u16,
+        set: u8,
+        mode: Mode,
+    ) -> Result<(), AllocError>
+        requires { length first.now ≤ 8 }
+        ensures { OnOk result (text.new ≡ text.old ++ line (lock_words self.now first.now client set mode)) }
     {
-        if let Some(words) = self.words_of_lock(set, mode) {
-            return text.padded_line(words);
+        if let Some(name) = self.word_of_client(client) {
+            if let Some(words) = self.words_of_lock(set, mode) {
+                return text.lock_line(first, name, words);
+            }
         }
+        self.long_lock_line(text, first, client, set, mode)
+    }
+
+    // Writes a line of a first word, a client, a set and a mode, of names of any length.
+    #[inline(never)]
+    fn long_lock_line(
+        &self,
+        text: &mut Text,
+        first: &[u8],
+        client: u16,
+        set: u8,
+        mode: Mode,
+    ) -> Result<(), AllocError>
+        ensures { OnOk result (text.new ≡ text.old ++ line (lock_words self.now first.now client set mode)) }
+    {
+        text.first(first)?;
+        text.word(client_name(&self.script, client))?;
         text.word(set_name(&self.script, set))?;
         text.word(mode.word().as_bytes())?;
+        text.end_line()
+    }
+
+    /// Writes the line of a token that goes to a node.
+    #[inline(always)]
+    pub(crate) fn token_line(
+        &self,
+        text: &mut Text,
+        set: u8,
+        to: u8,
+        epoch: u64,
+    ) -> Result<(), AllocError>
+        ensures { OnOk result (text.new ≡ text.old ++ line_text self.now (EventLine (Token set to epoch))) }
+    {
+        if epoch < 10_000 {
+            if let Some(name) = self.word_of_set(set) {
+                return text.token_line(name, to, epoch);
+            }
+        }
+        words_of_event(text, &self.script, Event::Token { set, to, epoch })?;
         text.end_line()
     }
 
