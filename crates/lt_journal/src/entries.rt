@@ -37,12 +37,20 @@ pub(crate) fn entry(
         → IsTallied wording.now tally.old events
         → IsTallied wording.now tally.new (events ++ event.now ∷ [])) }
 {
-    // In an arm of its own the variant is known, so that neither the line nor the count asks for it again.
-    match event {
-        Event::Grant { .. } => plain_entry(text, tally, wording, event),
-        Event::Wait { .. } => plain_entry(text, tally, wording, event),
-        Event::Unlock { .. } => plain_entry(text, tally, wording, event),
-        Event::Token { .. } => plain_entry(text, tally, wording, event),
+    // What is made here can't overlap what is written, so neither the line nor the count asks for the variant again.
+    match *event {
+        Event::Grant { client, set, mode } => {
+            plain_entry(text, tally, wording, &Event::Grant { client, set, mode })
+        }
+        Event::Wait { client, set, mode } => {
+            plain_entry(text, tally, wording, &Event::Wait { client, set, mode })
+        }
+        Event::Unlock { client, set, mode } => {
+            plain_entry(text, tally, wording, &Event::Unlock { client, set, mode })
+        }
+        Event::Token { set, to, epoch } => {
+            plain_entry(text, tally, wording, &Event::Token { set, to, epoch })
+        }
         _ => other_entry(text, tally, wording, version, event),
     }
 }
