@@ -41,22 +41,22 @@ pub fn words_of_event(text: &mut Text, script: &Script, event: Event) -> Result<
     ensures { OnOk result (text.new ≡ text.old ++ spaced (event_words script.now event)) }
 {
     match event {
-        Event::Grant { client, set, mode } => lock(text, script, "grant", client, set, mode)?,
-        Event::Wait { client, set, mode } => lock(text, script, "wait", client, set, mode)?,
+        Event::Grant { client, set, mode } => lock(text, script, b"grant", client, set, mode)?,
+        Event::Wait { client, set, mode } => lock(text, script, b"wait", client, set, mode)?,
         Event::Try {
             client,
             set,
             mode,
             ..
-        } => lock(text, script, "try", client, set, mode)?,
-        Event::Unlock { client, set, mode } => lock(text, script, "unlock", client, set, mode)?,
-        Event::NotHeld { client, set, mode } => lock(text, script, "not_held", client, set, mode)?,
+        } => lock(text, script, b"try", client, set, mode)?,
+        Event::Unlock { client, set, mode } => lock(text, script, b"unlock", client, set, mode)?,
+        Event::NotHeld { client, set, mode } => lock(text, script, b"not_held", client, set, mode)?,
         Event::Change {
             client,
             set,
             gives_up,
             ..
-        } => lock(text, script, "change", client, set, gives_up)?,
+        } => lock(text, script, b"change", client, set, gives_up)?,
         Event::DropAll {
             client,
             other,
@@ -100,14 +100,14 @@ fn further_words(text: &mut Text, script: &Script, event: Event) -> Result<(), A
 pub fn lock(
     text: &mut Text,
     script: &Script,
-    first: &str,
+    first: &[u8],
     client: u16,
     set: u8,
     mode: Mode,
 ) -> Result<(), AllocError>
     ensures { OnOk result (text.new ≡ text.old ++ spaced (lock_words script.now first.now client set mode)) }
 {
-    text.first_word(first)?;
+    text.first(first)?;
     text.word(client_name(script, client))?;
     text.word(set_name(script, set))?;
     text.word(mode.word().as_bytes())

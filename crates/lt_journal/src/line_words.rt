@@ -35,10 +35,10 @@ pub fn write_words(text: &mut Text, script: &Script, line: Line) -> Result<(), A
             mode,
             count,
         } => {
-            lock(text, script, "held", client, set, mode)?;
+            lock(text, script, b"held", client, set, mode)?;
             text.number(count)
         }
-        Line::Waiting { client, set, mode } => lock(text, script, "waiting", client, set, mode),
+        Line::Waiting { client, set, mode } => lock(text, script, b"waiting", client, set, mode),
         Line::Owner { set, node, epoch } => {
             text.first_word("owner")?;
             text.word(set_name(script, set))?;

@@ -9,7 +9,7 @@ ghost use Rattle.lt_journal.specs.declared.line.Line.TheVariants.{Move as MoveLi
 ghost use Rattle.lt_journal.specs.RunLines.{line, line_text, lock_words};
 ghost use Rattle.lt_journal.specs.Wording.{AreClientWords, AreSetWords, AreLockWords};
 
-use crate::events::{words_of_event, words_of_move};
+use crate::events::{lock, words_of_event, words_of_move};
 use crate::names::{client_name, set_name};
 use crate::padded::Padded;
 use crate::text::Text;
@@ -143,25 +143,7 @@ impl Wording {
                 return text.lock_line(first, name, words);
             }
         }
-        self.long_lock_line(text, first, client, set, mode)
-    }
-
-    // Writes a line of a first word, a client, a set and a mode, of names of any length.
-    #[inline(never)]
-    fn long_lock_line(
-        &self,
-        text: &mut Text,
-        first: &[u8],
-        client: u16,
-        set: u8,
-        mode: Mode,
-    ) -> Result<(), AllocError>
-        ensures { OnOk result (text.new ≡ text.old ++ line (lock_words self.now first.now client set mode)) }
-    {
-        text.first(first)?;
-        text.word(client_name(&self.script, client))?;
-        text.word(set_name(&self.script, set))?;
-        text.word(mode.word().as_bytes())?;
+        lock(text, &self.script, first, client, set, mode)?;
         text.end_line()
     }
 
