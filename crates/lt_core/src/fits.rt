@@ -79,12 +79,6 @@ impl Core {
                 return false;
             }
         }
-        self.parked_apart()
-    }
-
-    fn parked_apart(&self) -> bool
-        ensures { result ≡ are_apart (parked_asks self.now.state) }
-    {
         asks_apart(&self.parked)
     }
 

@@ -22,10 +22,7 @@ impl Core {
     pub fn keeps_at_most(&self, asks: u32) -> bool
         ensures { result ≡ nat_le (length (asks_here self.now.state)) asks }
     {
-        let queued = match &self.desk {
-            Some(desk) => desk.len(),
-            None => 0,
-        };
+        let queued = self.queue_len();
         queued <= asks && count_parked(&self.parked) <= (asks - queued) as usize
     }
 
@@ -68,7 +65,7 @@ impl Core {
 }
 
 // How many asks are parked.
-fn count_parked(parked: &VecDeque<Parked>) -> usize
+pub(crate) fn count_parked(parked: &VecDeque<Parked>) -> usize
     ensures { result ≡ length (filter_map ask_if (map parked_seen parked.now.items)) }
 {
     let mut asks = 0;

@@ -8,6 +8,7 @@ ghost use Rattle.lt_core.specs.CoreData.{HasMemory, KeepsRoom, waiting_here, tel
 ghost use Rattle.lt_core.specs.Steps.{ask_count, is_ask_of};
 
 use crate::fits::{has_later, parks_later};
+use crate::keeping::count_parked;
 use lt_desk::{Body, Desk, Letter, Parked, Post};
 use lt_held::Held;
 use lt_link::Links;
@@ -157,11 +158,7 @@ impl Core {
         requires { waiting_here self.now.state < 2 ^ 32 }
         ensures { result ≡ waiting_here self.now.state }
     {
-        let here = match &self.desk {
-            Some(desk) => desk.len(),
-            None => 0,
-        };
-        here + count_asks(&self.parked)
+        self.queue_len() + count_parked(&self.parked) as u32
     }
 
     pub fn has_desk(&self) -> bool
@@ -232,18 +229,6 @@ fn reserve_box(alloc: Global, spare: &mut Option<Box<Pending>>) -> Result<(), Al
         *spare = Some(Box::new(alloc, Pending::new())?);
     }
     Ok(())
-}
-
-// How many asks are parked.
-fn count_asks(parked: &VecDeque<Parked>) -> u32
-    requires { length (filter_map ask_if (map parked_seen parked.now.items)) < 2 ^ 32 }
-    ensures { result ≡ length (filter_map ask_if (map parked_seen parked.now.items)) }
-{
-    let mut asks = 0;
-    for k in 0..parked.len() {
-        asks += asks_of(&parked[k]);
-    }
-    asks
 }
 
 // How many asks it is.

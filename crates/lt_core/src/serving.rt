@@ -51,22 +51,11 @@ impl Core {
         ensures does { Does (serve_one self.old.set stamp k self.old.state) self.old out.old self.new out.new }
         ensures room { HasRoom 0 stamp.clock self.new }
     {
-        if self.ask(k).node == stamp.node {
+        if self.queued(k).node == stamp.node {
             let ask = self.take_out(k);
             self.answer(&ask, out);
         } else {
             self.send_copy(k, stamp, out);
-        }
-    }
-
-    // The ask at a place of the queue.
-    fn ask(&self, k: u32) -> Ask
-        requires { k < length (queue_of self.now.state) }
-        ensures { result ≡ ask_at self.now.state k }
-    {
-        match &self.desk {
-            Some(desk) => desk.ask(k),
-            None => unreachable!(),
         }
     }
 

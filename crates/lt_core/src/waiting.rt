@@ -1,7 +1,7 @@
 ghost use Rattle.std.specs.Prelude.{◌≡◌, ◌<◌, is_some, length, slice_index_or};
 ghost use Rattle.lt_modes.specs.Modes.{count_of};
 ghost use Rattle.lt_modes.specs.State.{no_ask, ParkedAsk};
-ghost use Rattle.lt_modes.specs.Serving.{waits};
+ghost use Rattle.lt_modes.specs.Serving.{waits, queue_of, ask_at};
 ghost use Rattle.lt_modes.specs.Waiting.{pending_ask, is_before, stands_before, has_older, parked_behind};
 ghost use Rattle.lt_core.specs.Behind.{is_behind_older};
 
@@ -36,6 +36,27 @@ impl Core {
             .iter()
             .copied()
             .find(|ask| ask.client == client)
+    }
+
+    /// The length of the queue of the desk here; 0 where the desk is elsewhere.
+    pub fn queue_len(&self) -> u32
+        ensures { result ≡ length (queue_of self.now.state) }
+    {
+        match &self.desk {
+            Some(desk) => desk.len(),
+            None => 0,
+        }
+    }
+
+    /// The ask at place k of the queue of the desk here.
+    pub fn queued(&self, k: u32) -> Ask
+        requires { k < length (queue_of self.now.state) }
+        ensures { result ≡ ask_at self.now.state k }
+    {
+        match &self.desk {
+            Some(desk) => desk.ask(k),
+            None => unreachable!(),
+        }
     }
 
     /// Whether in the queue of the desk here an ask of the other client stands before one of the client.

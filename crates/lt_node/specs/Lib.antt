@@ -1,2 +1,3 @@
 pub mod NodeData
 pub mod Clients
+pub mod Marks

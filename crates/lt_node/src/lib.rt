@@ -3,6 +3,7 @@
 
 mod acting;
 mod appending;
+mod behind;
 mod client;
 mod commands;
 mod family;

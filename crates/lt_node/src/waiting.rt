@@ -63,7 +63,7 @@ impl Node {
     }
 
     // What the node keeps for the set.
-    fn core(&self, set: u8) -> &Core
+    pub(crate) fn core(&self, set: u8) -> &Core
         requires { set < length self.now.script.sets }
         ensures { result.now ≡ core_at self.now set }
     {

@@ -1,3 +1,4 @@
+mod behind;
 mod full;
 mod order;
 mod ready;
