@@ -1,7 +1,5 @@
 -- Marks that are added to marks.
-use Rattle.std.proofs.Common.{◌≡◌, ◌≢◌, ◌<◌, ◌≤◌, ◌+◌, ◌∙◌, ◌==◌, ◌&&◌, ◌||◌, ℕ, Bool, true, false, List, length, drop, inl, inr, refl, sym, ap, ap₂, arith, subst, slice_index_or, slice_set, nat_lt, eq-eqb, ne_eqb, get_or-set_other, length-set}
-use Rattle.std.proofs.lemmas.Bool.{cases_eq, cases_lt, lt-ltb, le-ltb, ltb-false}
-use Rattle.std.proofs.lemmas.Grind.{get_or-set_at}
+use Rattle.std.proofs.Common.{◌≡◌, ◌<◌, ◌+◌, ◌∙◌, ◌==◌, ◌&&◌, ◌||◌, ℕ, suc, Bool, true, false, List, [], ◌∷◌, length, drop, refl, sym, ap, arith, slice_index_or}
 use Rattle.std.proofs.Math.Bool.{or_assoc, or_comm, or-false}
 use Rattle.std.proofs.Math.Seq.{drop-length}
 use Rattle.std.specs.List.{list_any}
@@ -35,41 +33,6 @@ added_then first second old between new one more = record {
       ∙ or_assoc (slice_index_or old k false) (first k) (second k);
 }
 
-or_true : (b : Bool) → true ≡ (b || true)
-or_true true = refl
-or_true false = refl
-
--- one mark is set
-pub added_one : (client : ℕ) (is_so : Bool) (old : List Bool) → client < length old → is_so ≡ true → AreAdded (λ other. client == other && is_so) old (slice_set old client true)
-added_one client is_so old inside so = record {
-  count = length-set old client true;
-  marks = λ k below. elim (cases_eq k client) [
-    | inl same ↦
-        get_or-set_at old client k true false same inside
-        ∙ or_true (slice_index_or old k false)
-        ∙ ap (λ (b : Bool). slice_index_or old k false || b) (sym (ap₂ ◌&&◌ (eq-eqb client k (sym same)) so))
-    | inr other ↦
-        get_or-set_other old client k true false other
-        ∙ sym (or-false (slice_index_or old k false))
-        ∙ ap (λ (b : Bool). slice_index_or old k false || (b && is_so)) (sym (ne_eqb client k (λ e. other (sym e))))
-  ];
-}
-
--- no mark is set where that isn't so, or the client has none
-pub added_not : (client : ℕ) (is_so : Bool) (old : List Bool) → is_so ≡ false → AreAdded (λ other. client == other && is_so) old old
-added_not client is_so old not_so = added_none (λ other. client == other && is_so) old (λ k. none (client == k) is_so not_so)
-  where
-    none : (a b : Bool) → b ≡ false → (a && b) ≡ false
-    none true b e = e
-    none false b e = refl
-
-pub added_past : (client : ℕ) (is_so : Bool) (old : List Bool) → length old ≤ client → AreAdded (λ other. client == other && is_so) old old
-added_past client is_so old past = record {
-  count = refl;
-  marks = λ k inside.
-      sym (ap (λ (b : Bool). slice_index_or old k false || (b && is_so)) (ne_eqb client k (λ e. absurd (omega (arith, inside, past, e)))) ∙ or-false (slice_index_or old k false));
-}
-
 -- The clients whose asks stand before one of a client, from a place of the queue on.
 
 pub before_none : (client : ℕ) (queue : List Ask) (old : List Bool) → AreAdded (λ other. is_before other client (drop (length queue) queue)) old old
@@ -85,9 +48,9 @@ pub before_more : (client k : ℕ) (later : Bool) (queue : List Ask) (old betwee
     → AreAdded (λ other. is_before other client (drop k queue)) old new
 before_more client k later queue old between new inside is before here =
     added_same _ _ old new (λ other below.
-        or_comm (is_before other client (drop (k + 1) queue)) ((slice_index_or queue k no_ask).client == other && later)
-        ∙ ap (λ (b : Bool). ((slice_index_or queue k no_ask).client == other && b) || is_before other client (drop (k + 1) queue)) is
-        ∙ sym (before_step other client queue k inside))
+    or_comm (is_before other client (drop (k + 1) queue)) ((slice_index_or queue k no_ask).client == other && later)
+    ∙ ap (λ (b : Bool). ((slice_index_or queue k no_ask).client == other && b) || is_before other client (drop (k + 1) queue)) is
+    ∙ sym (before_step other client queue k inside))
     (added_then _ _ old between new before here)
 
 pub later_more : (client k : ℕ) (later : Bool) (queue : List Ask) → k < length queue → later ≡ has_client client (drop (k + 1) queue)
@@ -95,38 +58,10 @@ pub later_more : (client k : ℕ) (later : Bool) (queue : List Ask) → k < leng
 later_more client k later queue inside is =
     or_comm later ((slice_index_or queue k no_ask).client == client)
     ∙ ap (λ (b : Bool). (slice_index_or queue k no_ask).client == client || b) is
-    ∙ sym (any_step client queue k inside)
-
--- The first clients that pass a test.
-
-pub below_none : (test : ℕ → Bool) (old : List Bool) → AreAdded (λ other. nat_lt other 0 && test other) old old
-below_none test old = added_none _ old (λ other. ap (λ (b : Bool). b && test other) (le-ltb other 0 (omega arith)))
-
-pub below_more : (test : ℕ → Bool) (k : ℕ) (old between new : List Bool) → AreAdded (λ other. nat_lt other k && test other) old between
-    → AreAdded (λ other. k == other && test k) between new → AreAdded (λ other. nat_lt other (k + 1) && test other) old new
-below_more test k old between new before here = added_same _ _ old new (λ other inside. by_order other) (added_then _ _ old between new before here)
+    ∙ sym (any_step client queue k inside ∙ ap (λ (n : ℕ). (slice_index_or queue k no_ask).client == client || has_client client (drop n queue)) next)
   where
-    by_order : (other : ℕ) → ((nat_lt other k && test other) || (k == other && test k)) ≡ (nat_lt other (k + 1) && test other)
-    by_order other = elim (cases_eq other k) [
-      | inl same ↦
-          ap₂ (λ (a b : Bool). (a && test other) || (b && test k)) (le-ltb other k (omega (arith, same))) (eq-eqb k other (sym same))
-          ∙ ap test (sym same)
-          ∙ ap (λ (b : Bool). b && test other) (sym (lt-ltb other (k + 1) (omega (arith, same))))
-      | inr differ ↦
-          ap (λ (b : Bool). (nat_lt other k && test other) || (b && test k)) (ne_eqb k other (λ e. differ (sym e)))
-          ∙ or-false (nat_lt other k && test other)
-          ∙ ap (λ (b : Bool). b && test other) (next other differ)
-    ]
-      where
-        next : (other : ℕ) → (other ≢ k) → nat_lt other k ≡ nat_lt other (k + 1)
-        next other differ = elim (cases_lt other k) [
-          | inl below ↦ lt-ltb other k below ∙ sym (lt-ltb other (k + 1) (omega (arith, below)))
-          | inr above ↦ le-ltb other k above ∙ sym (le-ltb other (k + 1) (omega (arith, above, differ)))
-        ]
-
-pub below_all : (test : ℕ → Bool) (n : ℕ) (old new : List Bool) → length old ≤ n → AreAdded (λ other. nat_lt other n && test other) old new → AreAdded test old new
-below_all test n old new few added =
-    added_same _ _ old new (λ other inside. ap (λ (b : Bool). b && test other) (lt-ltb other n (omega (arith, inside, few)))) added
+    next : suc k ≡ k + 1
+    next = omega arith
 
 -- nobody who has no parked ask is parked behind others
 pub parked_none : (s : SetState) (client other : ℕ) → has_client client (parked_asks s) ≡ false → parked_behind s other client ≡ false
