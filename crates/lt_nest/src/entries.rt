@@ -1,10 +1,11 @@
 ghost use Rattle.std.specs.Prelude.{◌≡◌, ◌≢◌, ◌<◌, ◌≤◌, ◌+◌, ◌^◌, length, filter, position, vec_len, vec_capacity, IfSome};
 ghost use Rattle.lt_nest.specs.declared.locks.Entry.{Entry as AnyEntry};
 ghost use Rattle.lt_nest.specs.Forest.{is_open_transaction};
+ghost use Rattle.lt_nest.specs.Kept.{IsRecent};
 ghost use Rattle.lt_nest.specs.Locks.{is_held_by, is_entry_of, locks_held_by, total_locks, add_locks, pass_one, pass, drop_entries};
 
 use crate::forest::{Transaction, is_open};
-use crate::locks::Entry;
+use crate::locks::{Entry, Recent};
 use lt_modes::Mode;
 
 #[tactic(auto, using(crate::proofs::ServedSets::locks_more, crate::proofs::ServedSets::locks_within))]
@@ -21,24 +22,69 @@ pub(crate) fn count(entries: &[Entry], x: u16, mode: Mode) -> u32
     locks
 }
 
-/// Gives x so many locks more.
-pub(crate) fn add(entries: &mut Vec<Entry>, x: u16, mode: Mode, locks: u32)
+/// Gives x so many locks more, and tells where their entry is. It is looked for only where it isn't the recent one.
+#[tactic(auto, using(crate::proofs::FirstEntries::place_pushed, crate::proofs::FirstEntries::place_counted))]
+pub(crate) fn add(
+    entries: &mut Vec<Entry>,
+    recent: Option<Recent>,
+    x: u16,
+    mode: Mode,
+    locks: u32,
+) -> Recent
     requires room { vec_len entries.old < vec_capacity entries.old }
     requires count { total_locks entries.old.items + locks < 2 ^ 32 }
+    requires recent { IfSome recent (IsRecent entries.old.items) }
     ensures entries { entries.new.items ≡ add_locks entries.old.items x mode locks }
+    ensures recent { IsRecent entries.new.items result }
     ensures capacity { vec_capacity entries.new ≡ vec_capacity entries.old }
     ensures len { vec_len entries.new ≤ vec_len entries.old + 1 }
 {
-    match place(entries, x, mode) {
+    match recent_place(entries, recent, x, mode) {
         Some(k) => {
             let entry = &mut entries[k];
             entry.count += locks;
+            Recent {
+                owner: x,
+                mode,
+                place: k,
+            }
         }
-        None => entries.push_reserved(Entry {
-            owner: x,
-            mode,
-            count: locks,
-        }),
+        None => {
+            let place = entries.len();
+            entries.push_reserved(Entry {
+                owner: x,
+                mode,
+                count: locks,
+            });
+            Recent {
+                owner: x,
+                mode,
+                place,
+            }
+        }
+    }
+}
+
+/// The place of the entry of x and the mode, which is looked for only where it isn't the recent one.
+pub(crate) fn recent_place(
+    entries: &[Entry],
+    recent: Option<Recent>,
+    x: u16,
+    mode: Mode,
+) -> Option<usize>
+    requires recent { IfSome recent (IsRecent entries.now) }
+    ensures place { result ≡ position (is_entry_of x mode) entries.now }
+    ensures within { IfSome result (λ k. k < length entries.now) }
+{
+    match recent {
+        Some(last) => {
+            if last.owner == x && last.mode == mode {
+                Some(last.place)
+            } else {
+                place(entries, x, mode)
+            }
+        }
+        None => place(entries, x, mode),
     }
 }
 
@@ -81,7 +127,7 @@ fn pass_one(entries: &mut Vec<Entry>, p: u16, k: usize)
     ensures len { vec_len entries.new ≤ vec_len entries.old }
 {
     let entry = entries.remove(k);
-    add(entries, p, entry.mode, entry.count);
+    add(entries, None, p, entry.mode, entry.count);
 }
 
 pub(crate) fn drop_entries(entries: &mut Vec<Entry>, x: u16)

@@ -55,8 +55,8 @@ fn marked_entries_bar(transactions: &[Transaction], entries: &[Entry], x: u16, m
     entries.iter().any(|entry| is_against(transactions, &marks, x, mode, entry.owner, entry.mode))
 }
 
-// Whether an ask stands against the mode for x.
-fn asks_bar(transactions: &[Transaction], asks: &[Ask], x: u16, mode: Mode) -> bool
+/// Whether an ask stands against the mode for x.
+pub(crate) fn asks_bar(transactions: &[Transaction], asks: &[Ask], x: u16, mode: Mode) -> bool
     requires { IsForest transactions.now }
     ensures { result ≡ list_any (ask_is_against transactions.now x mode) asks.now }
 {
