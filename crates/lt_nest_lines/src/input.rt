@@ -4,6 +4,7 @@ ghost use Rattle.lt_nest_lines.specs.Play.{name_at};
 ghost use Rattle.lt_nest_lines.specs.declared.limits.TheConstants.{MAX_SETS, MAX_TRANSACTIONS, MAX_LINES};
 
 use crate::name::{Name, name_at, place_of};
+use crate::names::Names;
 use crate::naming::is_name;
 use crate::order::Order;
 use lt_text::is;
@@ -16,7 +17,7 @@ use std::marker::Model;
 #[derive(Drop)]
 pub struct Input {
     sets: Vec<Name>,
-    transactions: Vec<Name>,
+    transactions: Names,
     orders: Vec<Order>,
 }
 
@@ -25,9 +26,9 @@ impl Model for Input {
 
     ghost Value = { InputData };
 
-    ghost view = { λ i. record { sets = i.sets.items; transactions = i.transactions.items; orders = i.orders.items } };
+    ghost view = { λ i. record { sets = i.sets.items; transactions = i.transactions; orders = i.orders.items } };
 
-    ghost invariant = { λ i. IsInput (record { sets = i.sets.items; transactions = i.transactions.items; orders = i.orders.items }) };
+    ghost invariant = { λ i. IsInput (record { sets = i.sets.items; transactions = i.transactions; orders = i.orders.items }) };
 }
 
 impl Input {
@@ -37,7 +38,7 @@ impl Input {
     {
         Input {
             sets: Vec::new(alloc),
-            transactions: Vec::new(alloc),
+            transactions: Names::new(alloc),
             orders: Vec::new(alloc),
         }
     }
@@ -84,7 +85,7 @@ impl Input {
     pub fn transaction_name(&self, transaction: usize) -> &[u8]
         ensures { result.now ≡ name_at self.now.transactions transaction }
     {
-        name_at(&self.transactions, transaction)
+        self.transactions.name(transaction)
     }
 
     /// The number of the set with this name.
@@ -102,7 +103,7 @@ impl Input {
     pub fn transaction(&self, name: &[u8]) -> Option<u16>
         ensures { result ≡ place_of self.now.transactions name.now }
     {
-        match place_of(&self.transactions, name) {
+        match self.transactions.place_of(name) {
             Some(k) => Some(k as u16),
             None => None,
         }
@@ -154,8 +155,7 @@ impl Input {
         requires within { AsksWithin (length self.old.sets) order }
         ensures { OnOk result (self.new ≡ with_declared_transaction self.old name.now order) }
     {
-        let name = Name::new(alloc, name)?;
-        self.transactions.push(name)?;
+        self.transactions.push(alloc, name)?;
         self.orders.push(order)?;
         Ok(())
     }

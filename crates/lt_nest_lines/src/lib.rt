@@ -11,6 +11,7 @@ mod input;
 mod laws;
 mod limits;
 mod name;
+mod names;
 mod naming;
 mod nested;
 mod order;
