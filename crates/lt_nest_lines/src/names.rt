@@ -79,7 +79,7 @@ impl Names {
     }
 }
 
-/// A number below 1024 by which most words differ.
+// A number below 1024 by which most words differ.
 #[tactic(auto, using(crate::proofs::Tags::tag_more), unfolding(crate::specs::Tags::tag_of))]
 fn tag(word: &[u8]) -> usize
     ensures tag { result ≡ tag_of word.now }
