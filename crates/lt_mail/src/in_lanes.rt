@@ -1,10 +1,10 @@
 // The taking ends of a node's rings, and in which of them letters are known.
-ghost use Rattle.std.specs.Prelude.{◌≡◌, ◌≢◌, ◌<◌, ◌++◌, [], ◌∷◌, length, IfSome, IfNone, IfOk, OnOk};
+ghost use Rattle.std.specs.Prelude.{◌≡◌, ◌≢◌, ◌<◌, ◌++◌, [], ◌∷◌, length, IfSome, IfNone, IfOk, OnOk, true, slice_get};
 ghost use Rattle.lt_mail.specs.Known.{NoneKnownBut, AreAlone};
-ghost use Rattle.lt_mail.specs.Passing.{LooksAtSome, LaneChanges, TakesKnown, FindsNoLetter, IsSender, SawNone};
+ghost use Rattle.lt_mail.specs.Passing.{LooksAtSome, LaneChanges, TakesKnown, FindsNoLetter, IsSender, Saw, SawNone};
 
 use crate::lane::InLane;
-use crate::looking::{first_of, first_with_letter, take_known_at};
+use crate::looking::{first_of, first_with_letter, take_known_at, take_next_at};
 use lt_desk::Letter;
 use std::alloc::{AllocError, Global};
 use std::marker::Model;
@@ -59,18 +59,8 @@ impl InLanes {
         Ok(())
     }
 
-    /// The first ring but that from `me` in which a letter is, which is then known. It looks again, whatever is known.
-    pub(crate) fn first(&mut self, me: usize) -> Option<usize>
-        ensures looked { LooksAtSome self.old self.new }
-        ensures some { IfSome result (IsSender me self.new) }
-        ensures first { IfSome result (λ from. SawNone from me self.new) }
-        ensures none { IfNone result (SawNone (length self.new) me self.new) }
-    {
-        find_first(&mut self.lanes, &mut self.known, me)
-    }
-
-    /// A ring but that from `me` in which a letter is, which is then known: one where a letter was known, or else that
-    /// of the first of these senders, bit q for node q. Where letters may be known in any ring it looks at all.
+    /// A ring but that from `me` in which a letter is, which is then known. Where letters may be known in one ring
+    /// alone, it looks at that one, and then at those of these senders, bit q for node q, in order; else at all.
     pub(crate) fn first_among(&mut self, senders: u64, me: usize) -> Option<usize>
         ensures looked { LooksAtSome self.old self.new }
         ensures some { IfSome result (IsSender me self.new) }
@@ -78,6 +68,15 @@ impl InLanes {
         ensures none { IfNone result (SawNone (length self.new) me self.new) }
     {
         find(&mut self.lanes, &mut self.known, me, senders)
+    }
+
+    /// Takes the next letter in the ring, which is known to be there.
+    #[tactic(auto, using(crate::proofs::AloneLemmas::alone_taken))]
+    pub(crate) fn take_next(&mut self, from: usize) -> Letter
+        requires { Saw true (slice_get self.old from) }
+        ensures { LaneChanges (TakesKnown result) self.old self.new from }
+    {
+        take_next_at(&mut self.lanes, from)
     }
 
     /// Takes the first letter that is known to be in the ring.

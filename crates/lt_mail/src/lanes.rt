@@ -53,6 +53,16 @@ impl InLane {
         self.ring.pop().ok()
     }
 
+    /// Takes the next letter in the ring, which is known to be there.
+    pub fn take_next(&mut self) -> Letter
+        requires { 0 < length (known self.old) }
+        ensures ring { SameConsumer self.old.ring self.new.ring }
+        ensures taken { taken self.new ≡ taken self.old ++ result ∷ [] }
+        ensures known { known self.old ≡ result ∷ known self.new }
+    {
+        self.ring.pop_known()
+    }
+
     /// Takes the first letter that is known to be in the ring.
     pub fn take_known(&mut self) -> Option<Letter>
         ensures ring { SameConsumer self.old.ring self.new.ring }

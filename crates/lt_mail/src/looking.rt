@@ -88,6 +88,15 @@ fn look_at_other(ins: &mut [InLane], me: usize, from: usize) -> bool
     from != me && from < ins.len() && look_at(ins, from)
 }
 
+/// Takes the next letter in the ring, which is known to be there.
+pub(crate) fn take_next_at(ins: &mut [InLane], from: usize) -> Letter
+    requires { Saw true (slice_get ins.old from) }
+    ensures { LaneChanges (TakesKnown result) ins.old ins.new from }
+{
+    let lane = &mut ins[from];
+    lane.take_next()
+}
+
 /// Takes the first letter that is known to be in the ring.
 pub(crate) fn take_known_at(ins: &mut [InLane], from: usize) -> Option<Letter>
     requires { from < length ins.old }

@@ -110,6 +110,19 @@ impl Mail {
         self.take_on(from)
     }
 
+    /// Takes the next letter of a node, which is known to be in its ring.
+    pub fn take_next(&mut self, from: u8) -> Letter
+        requires peer { from < ins_count self.old }
+        requires known { 0 < length (known_from self.old from) }
+        ensures taken { (node : ℕ) → taken_from self.new node ≡ taken_from self.old node ++ if_from from (letter_seen result) node }
+        ensures known { known_from self.old from ≡ letter_seen result ∷ known_from self.new from }
+        ensures ins { (node : ℕ) → node ≢ from → in_at self.new node ≡ in_at self.old node }
+        ensures outs { (node : ℕ) → out_at self.new node ≡ out_at self.old node }
+        ensures ends { SameEnds self.old self.new }
+    {
+        self.take_next_on(from)
+    }
+
     /// Takes the first letter of a node that is known to be in its ring.
     pub fn take_known(&mut self, from: u8) -> Option<Letter>
         requires peer { from < ins_count self.old }
@@ -143,41 +156,10 @@ impl Mail {
         make_room(&mut self.waiting, letters)
     }
 
-    /// The first other node of which a letter is in its ring, and then known. It looks again, whatever is known.
-    pub fn first_sender(&mut self) -> Option<u8>
-        requires few { ins_count self.old ≤ 256 }
-        ensures some { IfSome result (λ from. (from < ins_count self.new) × (from ≢ self.new.me) × (0 < length (known_from self.new from))) }
-        ensures first { IfSome result (λ from. (node : ℕ) → node < from → node ≢ self.new.me
-            → known_from self.new node ≡ []) }
-        ensures none { IfNone result ((node : ℕ) → node ≢ self.new.me → known_from self.new node ≡ []) }
-        ensures taken { (node : ℕ) → taken_from self.new node ≡ taken_from self.old node }
-        ensures known { (node : ℕ) → IsPrefix (known_from self.old node) (known_from self.new node) }
-        ensures outs { (node : ℕ) → out_at self.new node ≡ out_at self.old node }
-        ensures ends { SameEnds self.old self.new }
-    {
-        self.sender(None)
-    }
-
-    /// The first other node of which a letter is known to be in its ring, or else of these senders, bit q for node q,
-    /// the first one of which a letter is there, and then known. Where letters of more nodes may be known, it looks at
-    /// all.
-    pub fn first_sender_among(&mut self, senders: u64) -> Option<u8>
-        requires few { ins_count self.old ≤ 256 }
-        ensures some { IfSome result (λ from. (from < ins_count self.new) × (from ≢ self.new.me) × (0 < length (known_from self.new from))) }
-        ensures first { IfSome result (λ from. (node : ℕ) → node < from → node ≢ self.new.me
-            → known_from self.new node ≡ []) }
-        ensures none { IfNone result ((node : ℕ) → node ≢ self.new.me → known_from self.new node ≡ []) }
-        ensures taken { (node : ℕ) → taken_from self.new node ≡ taken_from self.old node }
-        ensures known { (node : ℕ) → IsPrefix (known_from self.old node) (known_from self.new node) }
-        ensures outs { (node : ℕ) → out_at self.new node ≡ out_at self.old node }
-        ensures ends { SameEnds self.old self.new }
-    {
-        self.sender(Some(senders))
-    }
-
-    // The first sender, of these or of all.
+    /// Another node of which a letter is in its ring, and then known. Where letters may be known in one ring alone, it
+    /// looks at that ring, and then at those of these senders, bit q for node q, in order; else at all rings in order.
     #[tactic(auto, using(crate::proofs::LookLemmas::all_looked, crate::proofs::LookLemmas::none_before, crate::proofs::LookLemmas::none_known, crate::proofs::LookLemmas::saw_letter))]
-    fn sender(&mut self, senders: Option<u64>) -> Option<u8>
+    pub fn first_sender_among(&mut self, senders: u64) -> Option<u8>
         requires few { ins_count self.old ≤ 256 }
         ensures some { IfSome result (λ from. (from < ins_count self.new) × (from ≢ self.new.me) × (0 < length (known_from self.new from))) }
         ensures first { IfSome result (λ from. (node : ℕ) → node < from → node ≢ self.new.me
@@ -195,18 +177,14 @@ impl Mail {
     }
 
     // Looks for it, in terms of the rings.
-    fn look(&mut self, senders: Option<u64>) -> Option<usize>
+    fn look(&mut self, senders: u64) -> Option<usize>
         ensures looked { LooksAtSome self.old.ins self.new.ins }
         ensures others { (self.new.me ≡ self.old.me) × (self.new.outs.items ≡ self.old.outs.items) × (self.new.waiting.items ≡ self.old.waiting.items) }
         ensures some { IfSome result (λ from. (from < ins_count self.new) × (from ≢ self.new.me) × Saw true (in_at self.new from)) }
         ensures first { IfSome result (λ from. SawNone from self.new.me self.new.ins) }
         ensures none { IfNone result (SawNone (ins_count self.new) self.new.me self.new.ins) }
     {
-        let me = usize::from(self.me);
-        match senders {
-            Some(senders) => self.ins.first_among(senders, me),
-            None => self.ins.first(me),
-        }
+        self.ins.first_among(senders, usize::from(self.me))
     }
 
     /// Flushes the outbox to each node.
@@ -229,7 +207,10 @@ fn make_room(waiting: &mut VecDeque<Post>, letters: usize) -> Result<(), AllocEr
     ensures kept { deque_capacity waiting.old ≤ deque_capacity waiting.new }
     ensures full { OnErr result (deque_capacity waiting.old < deque_len waiting.old + letters) }
 {
-    if waiting.is_empty() && waiting.capacity() < letters {
+    if letters <= waiting.capacity() - waiting.len() {
+        return Ok(());
+    }
+    if waiting.is_empty() {
         let alloc = *waiting.allocator();
         *waiting = VecDeque::with_capacity(alloc, places_for(letters))?;
     }
@@ -282,6 +263,14 @@ impl Mail {
         self.ins.known.alone = false;
         let lane = &mut self.ins.lanes[usize::from(from)];
         lane.take()
+    }
+
+    pub(crate) fn take_next_on(&mut self, from: u8) -> Letter
+        requires peer { from < ins_count self.old }
+        requires known { Saw true (in_at self.old from) }
+        ensures { InChanges (TakesKnown result) self.old self.new from }
+    {
+        self.ins.take_next(usize::from(from))
     }
 
     pub(crate) fn take_known_on(&mut self, from: u8) -> Option<Letter>

@@ -10,6 +10,7 @@ use std::collections::VecDeque;
 ///
 /// Once a ring had no place, the later letters to its node stay too.
 #[tactic(auto, using(crate::proofs::FlushLemmas::none_waits))]
+#[inline(always)]
 pub(crate) fn pass(outs: &mut Vec<OutEnd>, waiting: &mut VecDeque<Post>, only: Option<u8>)
     ensures { Passed only outs.old.items waiting.old.items outs.new.items waiting.new.items }
 {
@@ -20,6 +21,7 @@ pub(crate) fn pass(outs: &mut Vec<OutEnd>, waiting: &mut VecDeque<Post>, only: O
 
 // Most often no letter waits, and then the marks aren't made.
 #[tactic(auto, using(crate::proofs::PassLemmas::first_passed, crate::proofs::PassLemmas::left_one, crate::proofs::PassLemmas::kept_one, crate::proofs::PassLemmas::gave_one, crate::proofs::FlushLemmas::all_passed))]
+#[inline(never)]
 fn pass_waiting(outs: &mut Vec<OutEnd>, waiting: &mut VecDeque<Post>, only: Option<u8>)
     ensures { Passed only outs.old.items waiting.old.items outs.new.items waiting.new.items }
 {

@@ -21,6 +21,7 @@ pub enum Choice {
 }
 
 /// The move that this runner shows: the letter in hand, or where there is none or it doesn't fit, a client's command.
+#[inline(always)]
 pub(crate) fn choose(parts: &Parts) -> Choice
     requires { RunnerInvariant parts.now }
     ensures { result ≡ next_choice parts.now }
@@ -32,6 +33,7 @@ pub(crate) fn choose(parts: &Parts) -> Choice
     }
 }
 
+#[inline(always)]
 fn may_move(node: &Node) -> bool
     ensures { result ≡ may_move node.now.script (state_of node.now) }
 {

@@ -74,6 +74,7 @@ impl Parts {
     }
 
     // Puts the move into the log, and its letters into the mail.
+    #[inline(always)]
     fn finish_move(&mut self, made: Move)
         requires count { outs_count self.old.mail ≡ self.old.node.script.nodes }
         requires peers { All (IsForPeer self.old.node.script.nodes self.old.node.me) self.old.out.posts }

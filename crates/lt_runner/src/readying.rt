@@ -117,6 +117,7 @@ impl Parts {
     }
 
     // Makes room in the log and in the outboxes for all that a move may send out.
+    #[inline(always)]
     fn reserve_rest(&mut self) -> Result<(), AllocError>
         requires { RunnerInvariant self.old }
         ensures kept { RunnerInvariant self.new }
@@ -131,7 +132,8 @@ impl Parts {
     }
 }
 
-// Takes a letter that is known, or one of these senders, where there is one.
+// Takes a letter of another node into the hand, if one is in a ring. Where letters may be known in one ring alone, it
+// looks at no others but those of these senders.
 #[tactic(auto, using(crate::proofs::Fetched::poll_ends, crate::proofs::Fetched::poll_empty))]
 fn poll(mail: &mut Mail, hand: &mut Option<Hand>, senders: u64, me: u8, nodes: u8)
     requires own { mail.old.me ≡ me }
@@ -156,6 +158,7 @@ fn sender(mail: &mut Mail, senders: u64, _me: u8, _nodes: u8) -> Option<u8>
 }
 
 /// Takes the first letter of the node, which is known to be in its ring, into the hand.
+#[inline(always)]
 pub(crate) fn hold_next(mail: &mut Mail, hand: &mut Option<Hand>, from: u8, _me: u8, _nodes: u8)
     requires node { (from < _nodes) × (from ≢ _me) }
     requires count { ins_count mail.old ≡ _nodes }
@@ -163,7 +166,6 @@ pub(crate) fn hold_next(mail: &mut Mail, hand: &mut Option<Hand>, from: u8, _me:
     requires empty { hand.old ≡ None }
     ensures { Knows _nodes _me _nodes mail.old mail.new hand.new }
 {
-    if let Some(letter) = mail.take_known(from) {
-        *hand = Some(Hand { from, letter });
-    }
+    let letter = mail.take_next(from);
+    *hand = Some(Hand { from, letter });
 }

@@ -1,4 +1,4 @@
-ghost use Rattle.std.specs.Prelude.{◌≡◌, ◌≢◌, ◌<◌, ◌≤◌, ◌==◌, [], length, IfOk};
+ghost use Rattle.std.specs.Prelude.{◌≡◌, ◌≢◌, ◌<◌, ◌≤◌, ◌==◌, [], length, IfOk, IsTrue};
 ghost use Rattle.lt_spec.specs.World.{start};
 ghost use Rattle.lt_spec.specs.declared.moves.TheConstants.{MAX_MOVES};
 ghost use Rattle.lt_node.specs.NodeData.{state_of};
@@ -6,7 +6,7 @@ ghost use Rattle.lt_mail.specs.Opening.{IsFresh};
 ghost use Rattle.lt_runner.specs.declared.choice.Choice.TheVariants as choices;
 ghost use Rattle.lt_runner.specs.declared.turning.Turned.TheVariants as turns;
 ghost use Rattle.lt_runner.specs.declared.turning.Worked.TheVariants as answers;
-ghost use Rattle.lt_runner.specs.Choices.{next_choice};
+ghost use Rattle.lt_runner.specs.Choices.{act_choice, next_choice};
 ghost use Rattle.lt_runner.specs.Kept.{RunnerInvariant, AsSeen, IsFlushed, Grew, TurnEnds, WorkEnds};
 ghost use Rattle.lt_runner.specs.Ready.{StartsWith};
 
@@ -132,6 +132,14 @@ impl Runner {
     {
         let parts = self.parts.as_mut();
         parts.senders = senders;
+    }
+
+    /// Whether no client could act when a move was last looked for, and nothing happened since.
+    pub fn rests(&self) -> bool
+        ensures { IsTrue result
+            → act_choice self.now.node.script self.now.node.me (state_of self.now.node) ≡ choices.Nothing }
+    {
+        self.parts.idle
     }
 
     /// Whether as many moves were made as there may be.

@@ -35,7 +35,8 @@ pub(crate) struct Outlook {
     by_mail: bool,
     // For each node those that sent it letters since it was claimed last.
     senders: [u64; 64],
-    // Letters are looked for in all rings.
+    // Letters of all nodes are looked for: by the worker that stays, after as many visits as there are nodes that made no
+    // move.
     wide: bool,
     // The nodes with mail that another worker had when they were claimed, and that weren't claimed since.
     owed: u64,
@@ -84,7 +85,7 @@ impl Outlook {
         ensures visits { self.new.visits ≡ self.old.visits }
     {
         self.by_mail = self.mail != 0;
-        self.wide = self.visits.vain >= u64::from(count);
+        self.wide = self.stays && self.visits.vain >= u64::from(count);
         if self.acts & first_bits(count) == 0 {
             self.acts = !self.full | self.owed;
         }
@@ -104,7 +105,7 @@ impl Outlook {
         self.by_mail
     }
 
-    /// The nodes whose letters it looks for at this node: where it has found nothing at all others, all of them.
+    /// The nodes whose letters it looks for at this node: those that this worker knows to have sent it some, or all.
     pub(crate) fn senders_of(&self, node: u8) -> u64 {
         if self.wide {
             u64::MAX
@@ -133,8 +134,8 @@ impl Outlook {
         self.senders[usize::from(node % 64)] = 0;
     }
 
-    /// The node made so many moves, and sent letters to the nodes that were reached.
-    pub(crate) fn note_moves(&mut self, node: u8, moves: u32, reached: u64)
+    /// The node made so many moves, may have more, and sent letters to the nodes that were reached.
+    pub(crate) fn note_moves(&mut self, node: u8, moves: u32, reached: u64, more: bool)
         requires { HaveRoom self.old.visits }
         ensures { self.new.visits ≡ after_move self.old.visits }
     {
@@ -143,7 +144,9 @@ impl Outlook {
         }
         self.visits.note_move();
         self.mail |= reached;
-        self.acts |= bit(node);
+        if more {
+            self.acts |= bit(node);
+        }
         add_sender(&mut self.senders, reached, node);
     }
 

@@ -1,58 +1,31 @@
 // A visit for letters alone.
-ghost use Rattle.std.specs.Prelude.{◌≡◌, ◌≢◌, None, IfSome};
+ghost use Rattle.std.specs.Prelude.{◌≡◌, ◌≢◌};
 ghost use Rattle.lt_runner.specs.declared.choice.Choice.TheVariants as choices;
 ghost use Rattle.lt_runner.specs.declared.turning.Turned.TheVariants as turns;
 ghost use Rattle.lt_runner.specs.declared.turning.Worked.TheVariants as answers;
 ghost use Rattle.lt_runner.specs.Choices.{next_choice};
-ghost use Rattle.lt_runner.specs.Kept.{AsSeen, CouldMove, Grew, IsFlushed, WorkEnds};
-ghost use Rattle.lt_threads.specs.Taking.{MovedWithin, TakeEnds};
+ghost use Rattle.lt_runner.specs.Kept.{CouldMove, Grew, IsFlushed, WorkEnds};
+ghost use Rattle.lt_threads.specs.Taking.{TakeEnds};
 
 use lt_runner::{Choice, Found, Gate, Runner, Turned, Worked};
 
-/// Lets the runner take letters until it finds none or has sent one, and tells to which nodes, a bit each.
+/// Lets the runner take letters until it finds none.
 ///
 /// It ends, since each letter that is taken is a move for which the log has a place left.
 #[tactic(auto, using(crate::proofs::Pushing::grew_join, crate::proofs::Taken::less_room))]
-pub(crate) fn take_letters<G: Gate>(runner: &mut Runner, gate: &G) -> (u64, Worked)
+pub(crate) fn take_letters<G: Gate>(runner: &mut Runner, gate: &G) -> Worked
     ensures grew { Grew runner.old runner.new }
-    ensures ends { WorkEnds result.1 0 runner.new }
-    ensures flushed { result.1 ≡ answers.Idle → IsFlushed runner.new }
+    ensures ends { WorkEnds result 0 runner.new }
+    ensures flushed { result ≡ answers.Idle → IsFlushed runner.new }
 {
-    loop {
-        if let Some(ended) = take_one(runner, gate) {
-            return ended;
+    'letters: loop {
+        match turn_by_mail(runner, gate) {
+            Turned::Moved => {}
+            Turned::Quiet => return Worked::Idle,
+            Turned::Full => return Worked::Full,
+            Turned::NoMemory => return Worked::NoMemory,
         }
     }
-}
-
-// Lets the runner take a letter, and tells whether the visit ends so.
-#[tactic(auto, using(crate::proofs::Taken::taking))]
-fn take_one<G: Gate>(runner: &mut Runner, gate: &G) -> Option<(u64, Worked)>
-    ensures grew { Grew runner.old runner.new }
-    ensures moved { result ≡ None → MovedWithin runner.old runner.new }
-    ensures ends { IfSome result (λ ended. WorkEnds ended.1 0 runner.new) }
-    ensures flushed { IfSome result (λ ended. ended.1 ≡ answers.Idle → IsFlushed runner.new) }
-{
-    match turn_by_mail(runner, gate) {
-        Turned::Moved => send_on(runner),
-        Turned::Quiet => Some((0, Worked::Idle)),
-        Turned::Full => Some((0, Worked::Full)),
-        Turned::NoMemory => Some((0, Worked::NoMemory)),
-    }
-}
-
-// Where letters were sent, a look for the next move gives the rings what waits in the outboxes.
-fn send_on(runner: &mut Runner) -> Option<(u64, Worked)>
-    ensures seen { AsSeen runner.old runner.new }
-    ensures ends { IfSome result (λ ended. ended.1 ≡ answers.Idle) }
-    ensures flushed { IfSome result (λ _. IsFlushed runner.new) }
-{
-    let reached = runner.reached();
-    if reached == 0 {
-        return None;
-    }
-    runner.find();
-    Some((reached, Worked::Idle))
 }
 
 #[tactic(auto, using(crate::proofs::Taken::taking))]

@@ -26,6 +26,8 @@ struct Visit {
     moves: u32,
     // The nodes that letters went to, a bit each.
     reached: u64,
+    // Whether the runner may have a further move.
+    more: bool,
     worked: Worked,
 }
 
@@ -75,7 +77,8 @@ impl Worker {
         if visit.moves == 0 {
             self.outlook.note_no_move();
         } else {
-            self.outlook.note_moves(node, visit.moves, visit.reached);
+            self.outlook
+                .note_moves(node, visit.moves, visit.reached, visit.more);
         }
         match visit.worked {
             Worked::Idle => {}
@@ -112,29 +115,31 @@ fn work_counted<G: Gate>(runner: &mut Runner, by_mail: bool, gate: &G) -> Visit
     Visit {
         moves,
         reached,
+        more: !runner.rests(),
         worked,
     }
 }
 
-// Lets the runner take letters, or make any moves, until it finds none or has sent a letter.
+// Lets the runner work, and tells to which nodes it sent letters.
+#[tactic(auto, using(crate::proofs::Taken::ends_later))]
 fn work<G: Gate>(runner: &mut Runner, by_mail: bool, gate: &G) -> (u64, Worked)
     ensures grew { Grew runner.old runner.new }
     ensures ends { WorkEnds result.1 0 runner.new }
     ensures flushed { result.1 ≡ answers.Idle → IsFlushed runner.new }
 {
+    let worked = make_moves(runner, by_mail, gate);
+    (runner.reached(), worked)
+}
+
+// Lets the runner take letters until it finds none, or make any moves until it finds none or has sent a letter.
+fn make_moves<G: Gate>(runner: &mut Runner, by_mail: bool, gate: &G) -> Worked
+    ensures grew { Grew runner.old runner.new }
+    ensures ends { WorkEnds result 0 runner.new }
+    ensures flushed { result ≡ answers.Idle → IsFlushed runner.new }
+{
     if by_mail {
         take_letters(runner, gate)
     } else {
-        work_until_sent(runner, gate)
+        runner.work_until_sent(gate)
     }
-}
-
-#[tactic(auto, using(crate::proofs::Taken::ends_later))]
-fn work_until_sent<G: Gate>(runner: &mut Runner, gate: &G) -> (u64, Worked)
-    ensures grew { Grew runner.old runner.new }
-    ensures ends { WorkEnds result.1 0 runner.new }
-    ensures flushed { result.1 ≡ answers.Idle → IsFlushed runner.new }
-{
-    let worked = runner.work_until_sent(gate);
-    (runner.reached(), worked)
 }

@@ -1,6 +1,6 @@
 -- What was looked at, in words of the mail.
 use Rattle.lt_mail.proofs.LookLemmas.{all_looked, none_known}
-use Rattle.lt_mail.proofs.mail.Mail.sender.Goals as goal
+use Rattle.lt_mail.proofs.mail.Mail.first_sender_among.Goals as goal
 
 pub returns-in-Some-clause-known : goal.returns-in-Some-clause-known
 returns-in-Some-clause-known c =
