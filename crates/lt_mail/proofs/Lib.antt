@@ -1,6 +1,7 @@
 pub mod LookLemmas
 pub mod PassLemmas
 pub mod FlushLemmas
+pub mod OneLemmas
 pub mod BothLemmas
 pub mod OpeningLemmas
 pub mod AloneLemmas

@@ -49,7 +49,7 @@ none_passed only outs waiting held left marks free len = record {
       same = λ _. (refl, refl);
     }
 
-none_marked : (n node : ℕ) → is_held (replicate n false) node ≡ false
+pub none_marked : (n node : ℕ) → is_held (replicate n false) node ≡ false
 none_marked zero node = refl
 none_marked (suc n) zero = refl
 none_marked (suc n) (suc node) = none_marked n node

@@ -19,10 +19,39 @@ pub(crate) fn pass(outs: &mut Vec<OutEnd>, waiting: &mut VecDeque<Post>, only: O
     }
 }
 
-// Most often no letter waits, and then the marks aren't made.
-#[tactic(auto, using(crate::proofs::PassLemmas::first_passed, crate::proofs::PassLemmas::left_one, crate::proofs::PassLemmas::kept_one, crate::proofs::PassLemmas::gave_one, crate::proofs::FlushLemmas::all_passed))]
 #[inline(never)]
 fn pass_waiting(outs: &mut Vec<OutEnd>, waiting: &mut VecDeque<Post>, only: Option<u8>)
+    ensures { Passed only outs.old.items waiting.old.items outs.new.items waiting.new.items }
+{
+    if waiting.len() == 1 {
+        pass_one(outs, waiting, only);
+    } else {
+        pass_all(outs, waiting, only);
+    }
+}
+
+// Most often no letter or one waits, and then the marks aren't made.
+#[tactic(auto, using(crate::proofs::FlushLemmas::none_waits, crate::proofs::OneLemmas::one_passed))]
+fn pass_one(outs: &mut Vec<OutEnd>, waiting: &mut VecDeque<Post>, only: Option<u8>)
+    requires { length waiting.old.items ≡ 1 }
+    ensures { Passed only outs.old.items waiting.old.items outs.new.items waiting.new.items }
+{
+    let Some(post) = waiting.pop_front() else {
+        return;
+    };
+    let to = usize::from(post.to);
+    if !is_tried(only, post.to) {
+        waiting.push_back_reserved(post);
+    } else if can_give(outs, to, false) {
+        give(outs, to, post.letter);
+    } else {
+        waiting.push_back_reserved(post);
+    }
+}
+
+#[tactic(auto, using(crate::proofs::PassLemmas::first_passed, crate::proofs::PassLemmas::left_one, crate::proofs::PassLemmas::kept_one, crate::proofs::PassLemmas::gave_one, crate::proofs::FlushLemmas::all_passed))]
+#[inline(never)]
+fn pass_all(outs: &mut Vec<OutEnd>, waiting: &mut VecDeque<Post>, only: Option<u8>)
     ensures { Passed only outs.old.items waiting.old.items outs.new.items waiting.new.items }
 {
     let mut held = [false; 256];

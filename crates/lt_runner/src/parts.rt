@@ -17,7 +17,7 @@ pub struct Parts {
     pub(crate) limit: u32,
     // The nodes that letters went to since this was last asked, bit q % 64 for node q.
     pub(crate) reached: u64,
-    // The nodes whose rings are looked at for a letter where none is known, bit q for node q.
+    // The nodes whose rings are looked at for a letter beside that in which letters may be known, bit q for node q.
     pub(crate) senders: u64,
     // No client can act, as was found when one was last looked for.
     pub(crate) idle: bool,

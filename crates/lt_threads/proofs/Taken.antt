@@ -29,11 +29,6 @@ take_later Quiet a b c seen h = h
 take_later Full a b c seen h = h
 take_later NoMemory a b c seen h = h
 
-pub moved_seen : (a b c : Parts) → MovedWithin a b → AsSeen b c → MovedWithin a c
-moved_seen a b c h seen =
-    let same = ap (λ (log : List Logged). length log) seen.log in
-    record { more = omega (arith, h.more, same); within = omega (arith, h.within, same, seen.same.limit) }
-
 -- fewer moves are left
 pub less_room : (a b : Parts) → Grew a b → MovedWithin a b → b.limit - length b.log.entries < a.limit - length a.log.entries
 less_room a b grew h = omega (arith, h.more, h.within, grew.same.limit)
@@ -58,4 +53,4 @@ moves_seen moves a b c d before e after = omega (
 )
 
 -- what is known of one letter that is taken, or of none
-pub ruleset taking = (seen_grew, grew_join, moved_grew, moved_within, moved_seen, take_later)
+pub ruleset taking = (seen_grew, grew_join, moved_grew, moved_within, take_later)

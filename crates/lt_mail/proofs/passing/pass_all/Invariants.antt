@@ -1,6 +1,6 @@
 -- The loop over the letters that wait.
 use Rattle.lt_mail.specs.Passing.{Passing}
-use Rattle.lt_mail.proofs.passing.pass_waiting.Given as goal
+use Rattle.lt_mail.proofs.passing.pass_all.Given as goal
 
 abbrev pub invariant-loop-left : goal.invariant-loop-left
 invariant-loop-left l = record {
