@@ -5,5 +5,7 @@ mod DueLines
 mod LastLines
 mod Passed
 mod Feeding
+mod FirstLines
+mod FirstTaken
 mod Wanting
 pub mod Inputs

@@ -3,6 +3,7 @@ ghost use Rattle.lt_text.specs.Text.{lines, without_return, is_line_end, HasNone
 ghost use Rattle.lt_modes.specs.Script.{ScriptData};
 ghost use Rattle.lt_law_journals.specs.Checking.{Reader as AnyReader, checked, read_on, Feed, new_feed, fed_piece, last_ended, ended};
 ghost use Rattle.lt_checker.specs.Checker.{AreGoodToLast, CheckerData, StandsFor, IsAnswer, IsMemory, MayReadOn, MayReadLast, with_piece, spent, IsWorldAnswer};
+ghost use Rattle.lt_checker.specs.First.{FeedsLine};
 
 use crate::error::ReplayError;
 use crate::reader::Reader;
@@ -132,17 +133,72 @@ fn feed_all(
 {
     let mut left = piece;
     while !reader.is_bad() {
-        let Some(end) = memchr(b'\n', left) else {
+        let Some(later) = feed_line(reader, rest, left)? else {
             keep(rest, left);
             return Ok(());
         };
-        let (line, _) = left.split_at(end);
-        end_line(reader, rest, line)?;
-        let (_, later) = left.split_at(end + 1);
         left = later;
     }
     skip_lines(rest, left);
     Ok(())
+}
+
+// Takes the first line that ends in the bytes, and tells what stands after its line end.
+#[inline(always)]
+fn feed_line<'a>(
+    reader: &mut Reader,
+    rest: &mut ArrayVec<u8, 201>,
+    bytes: &'a [u8],
+) -> Result<Option<&'a [u8]>, AllocError>
+    ensures script { reader.new.script ≡ reader.old.script }
+    ensures fed { IfOk result (λ found. FeedsLine reader.old.script (record { reader = reader.old.reader; rest = rest.old.items }) bytes.now
+        found (record { reader = reader.new.reader; rest = rest.new.items })) }
+    ensures ends { IsErr result → ¬ HasNone is_line_end bytes.now }
+{
+    if rest.is_empty() {
+        feed_first(reader, rest, bytes)
+    } else {
+        feed_next(reader, rest, bytes)
+    }
+}
+
+// The same of a line that begins here. Its end is looked for only if it isn't found as the one that must come.
+#[inline(always)]
+fn feed_first<'a>(
+    reader: &mut Reader,
+    rest: &mut ArrayVec<u8, 201>,
+    bytes: &'a [u8],
+) -> Result<Option<&'a [u8]>, AllocError>
+    requires { rest.old.items ≡ [] }
+    ensures script { reader.new.script ≡ reader.old.script }
+    ensures fed { IfOk result (λ found. FeedsLine reader.old.script (record { reader = reader.old.reader; rest = rest.old.items }) bytes.now
+        found (record { reader = reader.new.reader; rest = rest.new.items })) }
+    ensures ends { IsErr result → ¬ HasNone is_line_end bytes.now }
+{
+    if let Some(later) = reader.take_first(bytes)? {
+        return Ok(Some(later));
+    }
+    feed_next(reader, rest, bytes)
+}
+
+// The same of a line whose end is looked for.
+fn feed_next<'a>(
+    reader: &mut Reader,
+    rest: &mut ArrayVec<u8, 201>,
+    bytes: &'a [u8],
+) -> Result<Option<&'a [u8]>, AllocError>
+    ensures script { reader.new.script ≡ reader.old.script }
+    ensures fed { IfOk result (λ found. FeedsLine reader.old.script (record { reader = reader.old.reader; rest = rest.old.items }) bytes.now
+        found (record { reader = reader.new.reader; rest = rest.new.items })) }
+    ensures ends { IsErr result → ¬ HasNone is_line_end bytes.now }
+{
+    let Some(end) = memchr(b'\n', bytes) else {
+        return Ok(None);
+    };
+    let (line, _) = bytes.split_at(end);
+    end_line(reader, rest, line)?;
+    let (_, later) = bytes.split_at(end + 1);
+    Ok(Some(later))
 }
 
 // The line whose last bytes these are is whole.

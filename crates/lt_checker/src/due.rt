@@ -1,6 +1,6 @@
-ghost use Rattle.std.specs.Prelude.{◌≡◌, [], ◌∷◌, ◌++◌, slice_get, IsTrue, OnOk, IfOk, IfSome, IsFalse, false, ◌<◌, ◌+◌, ◌^◌};
+ghost use Rattle.std.specs.Prelude.{◌≡◌, [], ◌∷◌, ◌++◌, None, slice_get, IsTrue, OnOk, IfOk, IfSome, IsFalse, false, ◌<◌, ◌+◌, ◌^◌};
 ghost use Rattle.std.specs.Str.{bytes_eq};
-ghost use Rattle.lt_journal.specs.RunLines.{first_lines, line_of_event};
+ghost use Rattle.lt_journal.specs.RunLines.{first_lines, line_of_event, closing_lines};
 ghost use Rattle.lt_law_journals.specs.Checking.{closing_at_rest, written, is_complete};
 ghost use Rattle.lt_modes.specs.Script.{ScriptData};
 ghost use Rattle.lt_spec.specs.Script.{IsScript};
@@ -76,6 +76,30 @@ pub(crate) fn is_event_line(
     Ok(line == words)
 }
 
+/// What stands after the line of the event and its line end, if the bytes begin with these. Where memory is refused, that
+/// isn't known.
+#[inline(always)]
+pub(crate) fn after_event_line<'a>(
+    words: &mut Text,
+    wording: &Wording,
+    event: Event,
+    bytes: &'a [u8],
+) -> Option<&'a [u8]>
+    ensures { IfSome result (λ later. bytes.now ≡ written wording.now (line_of_event wording.now.version event) ++ 10 ∷ later.now) }
+{
+    words.clear();
+    let shown = shown_event(wording.script().version(), event);
+    let Ok(()) = event_line(words, wording, shown) else {
+        return None;
+    };
+    let text = words.bytes();
+    if bytes.len() < text.len() {
+        return None;
+    }
+    let (first, later) = bytes.split_at(text.len());
+    if first == text { Some(later) } else { None }
+}
+
 /// Whether the line is this one, which is written into `words`.
 pub(crate) fn is_line(
     words: &mut Text,
@@ -124,6 +148,7 @@ fn push_all(due: &mut VecDeque<Line>, lines: &[Line]) -> Result<(), AllocError>
 }
 
 /// Adds the closing lines, where the world is at rest.
+#[inline(always)]
 pub(crate) fn push_closing(
     alloc: Global,
     due: &mut VecDeque<Line>,
@@ -134,8 +159,22 @@ pub(crate) fn push_closing(
     ensures { OnOk result (due.new.items ≡ due.old.items ++ closing_at_rest script.now world.now.run) }
 {
     if world.at_rest() {
-        let lines = closing_lines(alloc, script, world.run())?;
-        push_all(due, &lines)?;
+        push_rest(alloc, due, script, world.run())?;
     }
+    Ok(())
+}
+
+// Adds the closing lines of a run.
+#[inline(never)]
+fn push_rest(
+    alloc: Global,
+    due: &mut VecDeque<Line>,
+    script: &Script,
+    run: &Run,
+) -> Result<(), AllocError>
+    ensures { OnOk result (due.new.items ≡ due.old.items ++ closing_lines script.now run.now.entries None) }
+{
+    let lines = closing_lines(alloc, script, run)?;
+    push_all(due, &lines)?;
     Ok(())
 }

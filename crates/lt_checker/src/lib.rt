@@ -9,6 +9,7 @@ mod following;
 mod head;
 mod input;
 mod limits;
+mod moves;
 mod reader;
 mod replaying;
 mod rest;

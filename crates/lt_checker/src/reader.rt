@@ -1,3 +1,5 @@
+mod first;
+
 ghost use Rattle.std.specs.Prelude.{◌≡◌, ◌≢◌, None, IfOk, OnOk, IsTrue, IsFalse, IsErr};
 ghost use Rattle.lt_spec.specs.Script.{IsScript};
 ghost use Rattle.lt_law_journals.specs.Checking.{first_reader, read_on, verdict};
