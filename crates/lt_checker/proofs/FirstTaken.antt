@@ -1,18 +1,17 @@
 -- A line that is the one that is due has no line end in it and is short, so bytes that begin with it are cut after it.
-use Rattle.std.proofs.Common.{◌≡◌, ◌≢◌, ◌∙◌, ℕ, zero, suc, ◌+◌, ◌-◌, ◌<◌, ◌≤◌, Bool, true, false, List, [], ◌∷◌, ◌++◌, length, take, drop, ◌==◌, append_assoc, take-append-drop, ap₂, eqb-true, get_or, Some, None, Option, refl, sym, ap, subst, arith, flat_map, lt-ltb, take_all, length-append, bytes_eq}
+use Rattle.std.proofs.Common.{◌≡◌, ◌∙◌, ℕ, zero, suc, ◌-◌, ◌<◌, Bool, true, false, List, [], ◌∷◌, ◌++◌, length, take, drop, ◌==◌, append_assoc, take-append-drop, ap₂, eqb-true, get_or, refl, sym, ap, subst, arith, flat_map, lt-ltb, take_all, length-append, bytes_eq}
 use Rattle.std.specs.List.{AllByRecursion}
 use Rattle.std.proofs.lemmas.Slice.Eq.{bytes_eq-Decides}
 use Rattle.lt_modes.specs.Script.{ScriptData}
 use Rattle.lt_spec.specs.Script.{IsScript}
 use Rattle.lt_spec.specs.World.{Logged}
-use Rattle.lt_text.specs.Text.{after_space, spaced, is_line_end, without_return, HasNone, IsLine}
+use Rattle.lt_text.specs.Text.{after_space, spaced, is_line_end, without_return, HasNone}
 use Rattle.lt_journal.specs.declared.line.Line.{Line}
-use Rattle.lt_journal.specs.Grammar.{read_line}
 use Rattle.lt_journal.specs.LineFits.{FitsLine}
 use Rattle.lt_journal.specs.RunLines.{line_words}
-use Rattle.lt_journal.proofs.Plain.{IsPlain, ArePlain}
+use Rattle.lt_journal.proofs.Plain.{ArePlain}
 use Rattle.lt_journal.proofs.Written.{named, few_nodes, plain_line, line_back}
-use Rattle.lt_law_journals.specs.Checking.{Place, Reader, Feed, written, read_on, by_move, by_due, place_after, fed_piece, lines_so_far}
+use Rattle.lt_law_journals.specs.Checking.{Reader, written, read_on, by_move, by_due, place_after, fed_piece}
 use Rattle.lt_law_journals.proofs.Accepting.{fit_right}
 use Rattle.lt_law_journals.proofs.Feeds.{all_so_far}
 use Rattle.lt_law_journals.proofs.Short.{short_line}

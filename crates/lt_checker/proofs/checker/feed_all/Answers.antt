@@ -1,4 +1,4 @@
-use Rattle.std.proofs.Common.{rules, ◌∙◌, List, ℕ, IsTrue, IsFalse, Option, Some, None, ap, subst, sym, refl}
+use Rattle.std.proofs.Common.{rules, ◌∙◌, List, ℕ, IsTrue, IsFalse, Option, Some, ap, subst, sym, refl}
 use denote.Ref.{Bor}
 use Rattle.lt_modes.specs.Script.{ScriptData}
 use Rattle.lt_text.specs.Text.{is_line_end, HasNone}

@@ -1,7 +1,6 @@
-use Rattle.std.proofs.Common.{List, ℕ, Option, Some, None, subst}
+use Rattle.std.proofs.Common.{List, ℕ, Option, subst}
 use denote.Ref.{Bor}
-use Rattle.lt_checker.specs.Checker.{ReaderData}
-use Rattle.lt_checker.specs.First.{TakesFirst, FeedsLine}
+use Rattle.lt_checker.specs.First.{TakesFirst}
 use Rattle.lt_checker.proofs.FirstTaken.{fed_first}
 use Rattle.lt_checker.proofs.checker.feed_first.Goals as goal
 

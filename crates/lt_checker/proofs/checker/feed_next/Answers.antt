@@ -1,5 +1,4 @@
-use Rattle.std.proofs.Common.{◌+◌, ◌-◌, ◌<◌, ap, arith, length, length-drop, refl}
-use Rattle.lt_checker.specs.First.{IsFedTo}
+use Rattle.std.proofs.Common.{◌+◌, ap, arith, length, length-drop, refl}
 use Rattle.lt_checker.proofs.Pieces.{none_found, one_found, next_line, first_cut}
 use Rattle.lt_checker.proofs.checker.feed_next.Goals as goal
 
