@@ -22,7 +22,8 @@ goes_on (Some found) = found.0
 abbrev pub LedByFirst : ScriptData → Place → List ℕ → Option (Bool × Bor (List ℕ)) → Place → Type 0
 LedByFirst script old bytes None new = new ≡ old
 LedByFirst script old bytes (Some found) new =
-    (line : List ℕ) × BeginsWithLine bytes line found.1.now × LedTo (place_after script old line) found.0 new.run new.due
+    (line : List ℕ) × BeginsWithLine bytes line found.1.now
+    × LedTo (place_after script old line) found.0 new.run new.due
 
 -- the reader took the first line of the bytes, after which these stand; or it is as it was
 abbrev pub TakesFirst : ScriptData → Reader → List ℕ → Option (Bor (List ℕ)) → Reader → Type 0

@@ -151,11 +151,13 @@ fn feed_line<'a>(
     bytes: &'a [u8],
 ) -> Result<Option<&'a [u8]>, AllocError>
     ensures script { reader.new.script ≡ reader.old.script }
-    ensures fed { IfOk result (λ found. FeedsLine reader.old.script (record { reader = reader.old.reader; rest = rest.old.items }) bytes.now
-        found (record { reader = reader.new.reader; rest = rest.new.items })) }
+    ensures fed { IfOk result (λ found. FeedsLine reader.old.script
+        (record { reader = reader.old.reader; rest = rest.old.items }) bytes.now found
+        (record { reader = reader.new.reader; rest = rest.new.items })) }
     ensures ends { IsErr result → ¬ HasNone is_line_end bytes.now }
 {
-    if rest.is_empty() {
+    let begins = rest.is_empty();
+    if begins {
         feed_first(reader, rest, bytes)
     } else {
         feed_next(reader, rest, bytes)
@@ -171,8 +173,9 @@ fn feed_first<'a>(
 ) -> Result<Option<&'a [u8]>, AllocError>
     requires { rest.old.items ≡ [] }
     ensures script { reader.new.script ≡ reader.old.script }
-    ensures fed { IfOk result (λ found. FeedsLine reader.old.script (record { reader = reader.old.reader; rest = rest.old.items }) bytes.now
-        found (record { reader = reader.new.reader; rest = rest.new.items })) }
+    ensures fed { IfOk result (λ found. FeedsLine reader.old.script
+        (record { reader = reader.old.reader; rest = rest.old.items }) bytes.now found
+        (record { reader = reader.new.reader; rest = rest.new.items })) }
     ensures ends { IsErr result → ¬ HasNone is_line_end bytes.now }
 {
     if let Some(later) = reader.take_first(bytes)? {
@@ -188,8 +191,9 @@ fn feed_next<'a>(
     bytes: &'a [u8],
 ) -> Result<Option<&'a [u8]>, AllocError>
     ensures script { reader.new.script ≡ reader.old.script }
-    ensures fed { IfOk result (λ found. FeedsLine reader.old.script (record { reader = reader.old.reader; rest = rest.old.items }) bytes.now
-        found (record { reader = reader.new.reader; rest = rest.new.items })) }
+    ensures fed { IfOk result (λ found. FeedsLine reader.old.script
+        (record { reader = reader.old.reader; rest = rest.old.items }) bytes.now found
+        (record { reader = reader.new.reader; rest = rest.new.items })) }
     ensures ends { IsErr result → ¬ HasNone is_line_end bytes.now }
 {
     let Some(end) = memchr(b'\n', bytes) else {

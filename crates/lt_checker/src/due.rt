@@ -85,7 +85,8 @@ pub(crate) fn after_event_line<'a>(
     event: Event,
     bytes: &'a [u8],
 ) -> Option<&'a [u8]>
-    ensures { IfSome result (λ later. bytes.now ≡ written wording.now (line_of_event wording.now.version event) ++ 10 ∷ later.now) }
+    ensures { IfSome result (λ later. bytes.now
+        ≡ written wording.now (line_of_event wording.now.version event) ++ 10 ∷ later.now) }
 {
     words.clear();
     let shown = shown_event(wording.script().version(), event);

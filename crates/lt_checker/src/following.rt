@@ -52,8 +52,9 @@ pub(crate) fn follow_first<'a>(
     ensures place { IfOk result (λ found. IsTrue (goes_on found)
         → IsPlace wording.now world.new (due_lines wording.now world.new.run due.new.told due.new.later.items)) }
     ensures led { IfOk result (λ found. LedByFirst wording.now
-        (record { run = world.old.run; due = due_lines wording.now world.old.run due.old.told due.old.later.items }) bytes.now
-        found (record { run = world.new.run; due = due_lines wording.now world.new.run due.new.told due.new.later.items })) }
+        (record { run = world.old.run; due = due_lines wording.now world.old.run due.old.told due.old.later.items })
+        bytes.now found
+        (record { run = world.new.run; due = due_lines wording.now world.new.run due.new.told due.new.later.items })) }
     ensures ends { IsErr result → ¬ HasNone is_line_end bytes.now }
 {
     if let Some(event) = last_event(world.run(), due.told) {

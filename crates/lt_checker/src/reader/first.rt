@@ -12,7 +12,8 @@ impl Reader {
     #[inline(always)]
     pub(crate) fn take_first<'a>(&mut self, bytes: &'a [u8]) -> Result<Option<&'a [u8]>, AllocError>
         ensures script { self.new.script ≡ self.old.script }
-        ensures reader { IfOk result (λ found. TakesFirst self.old.script self.old.reader bytes.now found self.new.reader) }
+        ensures reader { IfOk result (λ found.
+            TakesFirst self.old.script self.old.reader bytes.now found self.new.reader) }
         ensures cause { IsErr result → self.old.reader.place ≢ None }
         ensures ends { IsErr result → ¬ HasNone is_line_end bytes.now }
     {
