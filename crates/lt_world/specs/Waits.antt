@@ -1,7 +1,7 @@
 -- What keeps a client from the ask that it waits for.
-use Rattle.std.specs.Prelude.{ℕ, Bool, false, ◌==◌, ◌&&◌, not, Option, None, Some}
+use Rattle.std.specs.Prelude.{◌≡◌, ◌<◌, ℕ, List, Bool, false, ◌==◌, ◌&&◌, not, Option, None, Some, length, slice_index_or}
 use Rattle.lt_modes.specs.declared.ask.Ask.{Ask}
-use Rattle.lt_spec.specs.Holdings.{is_kept_by}
+use Rattle.lt_spec.specs.Holdings.{is_kept_by, waits_behind}
 use Rattle.lt_world.specs.Fields.{WorldData, world_of}
 
 -- the other client stands in the way of the ask for its set, if there is one
@@ -12,3 +12,9 @@ stands_in_way w other (Some found) = is_kept_by w.script (world_of w) found.0 ot
 -- the other one is another client, and stands in the way of the client's ask, if there is one
 abbrev pub waits_by : WorldData → ℕ → ℕ → Option (ℕ × Ask) → Bool
 waits_by w client other ask = not (client == other) && stands_in_way w other ask
+
+-- a mark for each client: the other one's ask for the set waits behind one of the client
+pub record AreBehind (w : WorldData) (set waiting : ℕ) (marks : List Bool) : Type 0 where
+  pub count : length marks ≡ length w.script.clients
+  pub marks_are : (client : ℕ) → client < length w.script.clients
+      → slice_index_or marks client false ≡ waits_behind w.script (world_of w) set client waiting

@@ -19,7 +19,7 @@ use std::alloc::AllocError;
 
 // Room for one move, before it is made.
 impl Network {
-    /// Makes room for the move. Where memory is refused, all stand as they did.
+    /// Makes room for the move; a letter that it takes is in hand then. Where memory is refused, no letter moved.
     pub(crate) fn reserve(
         &mut self,
         script: &Script,
@@ -96,7 +96,7 @@ impl Network {
         }
     }
 
-    // Makes room for the next command of a client of this node.
+    // Makes room for it in the node, and for what it sends out.
     fn reserve_command(&mut self, node: u8, client: u16) -> Result<(), AllocError>
         requires node { node < length self.old.nodes.items }
         requires acts { CanAct (node_at self.old.nodes.items node) client }

@@ -28,7 +28,7 @@ impl World {
         None
     }
 
-    /// How a run ends that goes on until some node is so or no move is enabled.
+    /// How the run ends, which went on until `full` finds a node or no move is enabled.
     pub fn ending(&self) -> Ending
         requires { full_node self.now.script self.now.limit self.now.run ≡ None → IsTrue (is_at_rest self.now.script (world_of self.now)) }
         ensures { EndsBy self.now.limit result self.now.script self.now.run }

@@ -78,7 +78,7 @@ impl World {
         self.next_act(earlier)
     }
 
-    // The first runnable client after this one, in the order of moves.
+    // The first runnable client after this one, or of all where there is none, in the order of moves.
     fn next_act(&self, earlier: Option<u16>) -> Option<u16>
         requires { IfSome earlier (IsRunnable self.now) }
         ensures next { result ≡ next_act self.now.script (world_of self.now) earlier }

@@ -7,7 +7,7 @@ ghost use Rattle.lt_spec.specs.Holdings.{holds_against, waits_behind, is_kept_by
 ghost use Rattle.lt_spec.specs.Rings.{numbers_below};
 ghost use Rattle.lt_node.specs.NodeData.{first_ask};
 ghost use Rattle.lt_world.specs.Fields.{world_of, bars_by_lock};
-ghost use Rattle.lt_world.specs.Waits.{stands_in_way, waits_by, AreBehind};
+ghost use Rattle.lt_world.specs.Waits.{stands_in_way, waits_by};
 
 use super::World;
 use lt_modes::{Ask, MODES, Mode};
@@ -33,7 +33,7 @@ impl World {
         let ask = self.ask_of(client);
         let behind = self.behind(*marks.allocator(), &ask)?;
         for other in 0..self.script.clients() {
-            marks.push(self.waits_beside(client, other, &ask, &behind))?;
+            marks.push(self.waits_by_marks(client, other, &ask, &behind))?;
         }
         Ok(())
     }
@@ -55,28 +55,6 @@ impl World {
         ensures { result ≡ first_ask self.now.script ((world_of self.now).node (home self.now.script client)) client }
     {
         self.network.nodes[usize::from(self.script.home(client))].ask_of(client)
-    }
-
-    // Whether the other one is another client, and stands in the way of the client's ask, if there is one.
-    fn waits_beside(&self, client: u16, other: u16, ask: &Option<(u8, Ask)>, behind: &[bool]) -> bool
-        requires other { other < length self.now.script.clients }
-        requires set { IfSome ask.now (λ found. found.0 < length self.now.script.sets) }
-        requires behind { AreBehind self.now ask.now behind.now }
-        ensures { result ≡ waits_by self.now client other ask.now }
-    {
-        client != other && self.is_kept_beside(other, ask, behind)
-    }
-
-    fn is_kept_beside(&self, other: u16, ask: &Option<(u8, Ask)>, behind: &[bool]) -> bool
-        requires other { other < length self.now.script.clients }
-        requires set { IfSome ask.now (λ found. found.0 < length self.now.script.sets) }
-        requires behind { AreBehind self.now ask.now behind.now }
-        ensures { result ≡ stands_in_way self.now other ask.now }
-    {
-        match ask {
-            Some((set, ask)) => behind[usize::from(other)] || self.holds_against(*set, ask.mode, other),
-            None => false,
-        }
     }
 
     // Whether the other one is another client, and stands in the way of the client's ask, if there is one.
@@ -110,7 +88,7 @@ impl World {
     }
 
     // Whether the client holds a lock of the set with which the mode conflicts.
-    fn holds_against(&self, set: u8, mode: Mode, client: u16) -> bool
+    pub(super) fn holds_against(&self, set: u8, mode: Mode, client: u16) -> bool
         requires set { set < length self.now.script.sets }
         requires client { client < length self.now.script.clients }
         ensures { result ≡ holds_against self.now.script (world_of self.now) set mode client }

@@ -11,8 +11,8 @@ loop-other-preserved c =
     let old = c.args.marks.now.items in
     let k = c.loop-other.other in
     let row = waits_for w.script (world_of w) c.args.client in
-    let mark : c.waits_by.result ≡ row k = c.waits_by.ensures ∙ sym (c.ask_of-ask.ensures.waits k) in
-    let pushed : c.push.new.self.items ≡ c.loop-other.marks.items ++ c.waits_by.result ∷ [] = search rules in
+    let mark : c.waits_by_marks.result ≡ row k = c.waits_by_marks.ensures ∙ sym (c.ask_of-ask.ensures.waits k) in
+    let pushed : c.push.new.self.items ≡ c.loop-other.marks.items ++ c.waits_by_marks.result ∷ [] = search rules in
     pushed
     ∙ ap (λ (b : Bool). c.loop-other.marks.items ++ b ∷ []) mark
     ∙ ap (λ (l : List Bool). l ++ row k ∷ []) c.loop-other.invariant
