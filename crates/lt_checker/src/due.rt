@@ -76,8 +76,8 @@ pub(crate) fn is_event_line(
     Ok(line == words)
 }
 
-/// What stands after the line of the event and its line end, if the bytes begin with these. Where memory is refused, that
-/// isn't known.
+/// What stands after the line of the event and its line end, if the bytes begin with these. Where memory is refused,
+/// that isn't known.
 #[inline(always)]
 pub(crate) fn after_event_line<'a>(
     words: &mut Text,

@@ -35,8 +35,8 @@ pub(crate) struct Outlook {
     by_mail: bool,
     // For each node those that sent it letters since it was claimed last.
     senders: [u64; 64],
-    // Letters of all nodes are looked for: by the worker that stays, after as many visits as there are nodes that made no
-    // move.
+    // Letters of all nodes are looked for: by the worker that stays, after as many visits as there are nodes, none of
+    // which made a move.
     wide: bool,
     // The nodes with mail that another worker had when they were claimed, and that weren't claimed since.
     owed: u64,
