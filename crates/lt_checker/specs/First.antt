@@ -1,4 +1,4 @@
--- A line that is taken where its end wasn't looked for, since it is the one that is due.
+-- A line that is taken before its end was looked for: that of an event that is due, or of a move.
 use Rattle.std.specs.Prelude.{◌≡◌, ◌<◌, ◌≤◌, ℕ, length, List, ◌∷◌, ◌++◌, Bool, true, Option, Some, None}
 use denote.Ref.{Bor}
 use Rattle.lt_modes.specs.Script.{ScriptData}

@@ -164,7 +164,7 @@ fn feed_line<'a>(
     }
 }
 
-// The same of a line that begins here. Its end is looked for only if it isn't found as the one that must come.
+// The same of a line that begins here. Its end is looked for only if `take_first` finds none.
 #[inline(always)]
 fn feed_first<'a>(
     reader: &mut Reader,

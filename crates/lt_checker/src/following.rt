@@ -39,7 +39,7 @@ pub(crate) fn follow(
 }
 
 /// Goes on by the first line of the bytes, and tells whether it isn't bad and what stands after its line end, if it is
-/// found as the line of an event that is due, or as that of a move where none is.
+/// found as the line of an event that is due or, where no line is due, as that of a move.
 #[inline(always)]
 pub(crate) fn follow_first<'a>(
     alloc: Global,

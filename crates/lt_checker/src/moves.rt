@@ -1,4 +1,4 @@
-// The lines of moves, as they are read where no line's end was looked for.
+// The lines of moves, as they are read from bytes in which no line's end was looked for before.
 ghost use Rattle.std.specs.Prelude.{◌≡◌, ◌<◌, ◌≤◌, ◌^◌, ◌++◌, ◌∷◌, length, decimal, position, IfSome};
 ghost use Rattle.lt_text.specs.Text.{spaced, is_line_end};
 ghost use Rattle.lt_modes.specs.Script.{client_name};

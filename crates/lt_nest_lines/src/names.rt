@@ -8,7 +8,7 @@ use crate::name::{Name, name_at};
 use std::alloc::{AllocError, Global};
 use std::marker::Model;
 
-/// Names in order, of which a word is found without looking at all of them.
+/// Names in order. A word is looked for among those from the first place of its tag on.
 #[derive(Drop)]
 pub(crate) struct Names {
     names: Vec<Name>,

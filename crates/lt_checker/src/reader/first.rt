@@ -8,7 +8,7 @@ use std::alloc::AllocError;
 
 impl Reader {
     /// Takes the first line of the bytes, and tells what stands after its line end, if it is found as the line of an
-    /// event that is due, or as that of a move where none is. Else the reader stays as it was.
+    /// event that is due or, where no line is due, as that of a move. Else the reader stays as it was.
     #[inline(always)]
     pub(crate) fn take_first<'a>(&mut self, bytes: &'a [u8]) -> Result<Option<&'a [u8]>, AllocError>
         ensures script { self.new.script ≡ self.old.script }
