@@ -115,6 +115,36 @@ REFUSED_NESTS = {
     'a line too many': (['set s', 't begin', 't abort'] + ['t abort'] * 65533, 65536),
 }
 
+# All that there may be of version 1 at once: 16 nodes, 8 sets in one family, and 64 clients, with names of 32 bytes. One
+# client takes 1,000 locks and drops them by one command. Then each locks each set twice, and asks for what others bar.
+WIDE_SETS = [f'a-set-in-the-family-as-number-{k}' for k in range(10, 18)]
+WIDE_CLIENTS = [f'client-that-has-a-name-number-{k}' for k in range(10, 74)]
+WIDE = ['nodes 16', f'set {WIDE_SETS[0]}'] + [f'set {name} with {WIDE_SETS[0]}' for name in WIDE_SETS[1:]]
+WIDE += [f'client {name} at {k % 16}' for k, name in enumerate(WIDE_CLIENTS, 10)]
+WIDE += [f'{WIDE_CLIENTS[0]} lock {name} intention_read' for name in WIDE_SETS] * 125
+WIDE += [f'{WIDE_CLIENTS[0]} drop {WIDE_CLIENTS[0]} {WIDE_SETS[0]}']
+for who in WIDE_CLIENTS:
+    WIDE += [f'{who} lock {name} {mode}' for mode in ['intention_read', 'read'] for name in WIDE_SETS]
+    WIDE += [f'{who} lock {WIDE_SETS[0]} intention_write']
+
+# All that there may be of version 2 but names: each client locks each set once.
+SIXTH = 'read_intention_write'
+SECOND = ['version 2', 'nodes 64'] + [f'set s{k}' for k in range(8)]
+SECOND += [f'client c{k} at {k % 64}' for k in range(256)]
+SECOND += [f'c{k} {word} s{s} {SIXTH}' for k in range(256) for s in range(8) for word in ['lock', 'unlock']]
+
+# What a model in another language makes of great scripts: the script's bytes, and for these words the status, how many bytes
+# the journal has, and how many moves it is.
+COUNTED = {
+    'the widest': (WIDE, 178_091, [(['sim', 'first'], 3, 443_982, 3043)]),
+    'the greatest of version 2 by a mode': (SECOND, None, [(['sim', 'first'], 0, 411_530, 8152)]),
+}
+DRAWN = (94_384, [(['sim', 'first'], 0, 347_418, 8900), (['sim', '7'], 0, 347_595, 9263)])
+
+# A million lines without words and a comment of 3,000,001 bytes, a small script, and its journal.
+LONG = b'\n' * 1_000_000 + b'#' * 3_000_001 + b'\nnodes 1\nset s\nclient a at 0\na lock s read\njournal\n'
+LONG += b'move 1 0 act a\ngrant a s read\nheld a s read 1\nowner s 0 0\nend 1\n'
+
 calls, wrong = 0, []
 
 
@@ -152,6 +182,22 @@ for name, data in SCRIPTS.items():
         moves = journal.rsplit(b'end ', 1)[-1]
         is_so(name, f'{words}: another count of moves', call(name, RUN, ['check'], whole) == b'ok ' + moves)
         is_so(name, f'{words}: somebody waits', call(name, WAITS, [], whole) == b'no cycle\n')
+for name, (lines, size, rows) in {**COUNTED, 'a drawn one': (None, *DRAWN)}.items():
+    data = text_of(lines) if lines else call(name, RUN, 'make 16 64 4096 7'.split(), b'')
+    is_so(name, 'another script', size in (None, len(data)))
+    for words, status, size, moves in rows:
+        journal = call(name, RUN, words, data, status)
+        is_so(name, f'{words}: a journal of {len(journal)} bytes', len(journal) == size)
+        whole = data + b'journal\n' + journal
+        is_so(name, f'{words}: another count of moves', call(name, RUN, ['check'], whole) == b'ok %d\n' % moves)
+    whole = data + b'journal\n' + call(name, RUN, ['run'], data, rows[0][1])
+    call(name, RUN, ['check'], whole)
+text = call('the longest line', RUN, ['sim', 'first'], b'nodes 1' + b' ' * 193)
+is_so('the longest line', f'the journal {text[:200]!r}', text == b'end 0\n')
+is_so('a long input', 'another count of moves', call('a long input', RUN, ['check'], LONG) == b'ok 1\n')
+refused('a line after a long input', RUN, ['check'], LONG + b'end 1\n', 8, 'line 1000012: journal')
+whole = b'nodes 1\nset s\nclient a at 0\njournal\n' + b'move 1 0 act a\n' * 100_000
+refused('a long bad journal', RUN, ['check'], whole, 8, 'line 5: journal')
 for name, words, lines, last in [
     ('a ring', ['sim', '0'], RING, b'cycle ' + b' '.join(b'c%d' % k for k in range(8))),
     ('a long ring', ['sim', '0'], LONG_RING, b'cycle ' + b' '.join(b'c%d' % k for k in range(16))),

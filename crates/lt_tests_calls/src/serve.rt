@@ -5,9 +5,7 @@ mod meeting;
 mod order;
 mod pieces;
 mod refusals;
-mod sizes;
 mod threads;
-mod wide;
 
 ghost use Rattle.std.specs.Prelude.{◌<◌, ◌≤◌};
 ghost use Rattle.lt_spec.specs.declared.moves.TheConstants.{MAX_MOVES};
