@@ -1,0 +1,33 @@
+ghost use Rattle.std.specs.Prelude.{◌≡◌, List, [], ◌∷◌, ◌++◌};
+ghost use Rattle.std.specs.Borrow.{ftrue};
+
+use std::marker::{Model, PhantomData};
+
+/// A history that only proofs read, as `items`. It takes no memory, and its calls do nothing at run time.
+#[derive(Drop)]
+pub struct History<T> {
+    of: PhantomData<T>,
+    pub ghost items: { List T },
+}
+
+impl<T> Model for History<T> {
+    ghost also_owns = { λ _. ftrue };
+}
+
+// It owns nothing.
+unsafe impl<T: Send> Send for History<T> {}
+
+impl<T> History<T> {
+    pub fn new() -> History<T>
+        ensures { result.items ≡ [] }
+    {
+        History { of: PhantomData }
+    }
+
+    /// The same, with one item more.
+    pub fn and(&self, item: &T) -> History<T>
+        ensures { result.items ≡ self.now.items ++ item.now ∷ [] }
+    {
+        History { of: PhantomData }
+    }
+}
