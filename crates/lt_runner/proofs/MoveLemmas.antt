@@ -49,6 +49,7 @@ finished a f node out hand cause h can reaches d e hands peer place idle = recor
     script = ap (λ (n : NodeData). n.script) e.node ∙ d.script;
     me = ap (λ (n : NodeData). n.me) e.node ∙ d.me;
     limit = e.limit;
+    gone = e.gone;
     ends = e.mail.ends;
   };
   can = can;

@@ -35,6 +35,7 @@ pub record Finished (made : Move) (a b : Parts) : Type 0 where
   pub hand : b.hand ≡ a.hand
   pub limit : b.limit ≡ a.limit
   pub log : b.log.entries ≡ a.log.entries ++ record { made = made; events = a.out.events } ∷ []
+  pub gone : b.log.gone ≡ a.log.gone
   pub mail : Posted a.out.posts a.mail b.mail
   pub posts : b.out.posts ≡ []
   pub events : b.out.events ≡ []

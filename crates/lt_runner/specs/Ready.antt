@@ -52,4 +52,5 @@ pub record StartsWith (script : ScriptData) (node : ℕ) (mail : Mail) (limit : 
   pub mail_is : p.mail ≡ mail
   pub limit_is : p.limit ≡ limit
   pub log : p.log.entries ≡ []
+  pub gone : p.log.gone ≡ 0
   pub hand : p.hand ≡ None

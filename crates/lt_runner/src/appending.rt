@@ -1,4 +1,4 @@
-// Commands that come while the runner is at work, and what it shows of its moves.
+// Commands that come while the runner is at work, and what it shows of its moves or forgets.
 ghost use Rattle.std.specs.Prelude.{◌≡◌, ◌<◌, length, OnOk, OnErr};
 ghost use Rattle.lt_spec.specs.Script.{HasTargets, HasModesOf};
 ghost use Rattle.lt_spec.specs.declared.limits.TheConstants.{MAX_COMMANDS};
@@ -6,10 +6,10 @@ ghost use Rattle.lt_spec.specs.NodeMove.{home};
 ghost use Rattle.lt_runner.specs.Kept.{with_appended};
 
 use crate::runner::Runner;
-use lt_merge::Log;
+use lt_log::LongLog;
 use lt_modes::Command;
 use lt_script::Script;
-use std::alloc::AllocError;
+use std::alloc::{AllocError, Global};
 
 impl Runner {
     /// The command becomes the last one of the client's list, in this runner's copy of the script.
@@ -36,8 +36,18 @@ impl Runner {
         self.parts.node.script()
     }
 
+    /// Forgets the moves that were made, and frees their memory.
+    #[tactic(auto, using(crate::proofs::Forgetting::kept_forgotten))]
+    pub fn forget_moves(&mut self, alloc: Global)
+        ensures rest { self.new ≡ record self.old { log = self.new.log } }
+        ensures entries { self.new.log.entries ≡ self.old.log.entries }
+        ensures gone { self.new.log.gone ≡ length self.old.log.entries }
+    {
+        self.parts.as_mut().log.forget(alloc);
+    }
+
     /// The moves that were made, in order.
-    pub fn log(&self) -> &Log
+    pub fn log(&self) -> &LongLog
         ensures { result.now ≡ self.now.log }
     {
         &self.parts.log

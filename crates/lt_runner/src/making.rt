@@ -12,8 +12,8 @@ ghost use Rattle.lt_merge.specs.Merging.{with_events};
 
 use crate::parts::{Hand, Parts};
 use lt_desk::Out;
+use lt_log::LongLog;
 use lt_mail::Mail;
-use lt_merge::Log;
 use lt_modes::{Move, Step};
 
 impl Parts {
@@ -113,10 +113,11 @@ pub(crate) fn post_all(mail: &mut Mail, out: &mut Out, _nodes: u8, _me: u8) -> u
 }
 
 // Notes the event lines of the last move.
-fn note_events(log: &mut Log, out: &mut Out)
-    requires some { 0 < length log.old.entries }
+fn note_events(log: &mut LongLog, out: &mut Out)
+    requires some { log.old.gone < length log.old.entries }
     requires room { length out.old.events ≤ log.old.room }
     ensures entries { log.new.entries ≡ with_events log.old.entries out.old.events }
+    ensures gone { log.new.gone ≡ log.old.gone }
     ensures out { out.new ≡ record out.old { events = [] } }
 {
     while let Some(event) = out.next_event() {
@@ -125,13 +126,15 @@ fn note_events(log: &mut Log, out: &mut Out)
 }
 
 /// Puts a move and its event lines at the end of the log.
-pub(crate) fn log_move(log: &mut Log, out: &mut Out, made: Move, _limit: u32)
+pub(crate) fn log_move(log: &mut LongLog, out: &mut Out, made: Move, _limit: u32)
     requires spare { 0 < log.old.spare }
     requires few { length log.old.entries < _limit }
     requires room { length out.old.events ≤ log.old.room }
     ensures log { log.new.entries ≡ log.old.entries ++ record { made = made; events = out.old.events } ∷ [] }
+    ensures gone { log.new.gone ≡ log.old.gone }
     ensures out { out.new ≡ record out.old { events = [] } }
 {
+    log.is_within();
     log.push(made);
     note_events(log, out);
 }

@@ -1,6 +1,6 @@
 use lt_desk::{Letter, Out};
+use lt_log::LongLog;
 use lt_mail::Mail;
-use lt_merge::Log;
 use lt_node::Node;
 
 /// What a runner has.
@@ -8,7 +8,7 @@ use lt_node::Node;
 pub struct Parts {
     pub(crate) node: Node,
     pub(crate) mail: Mail,
-    pub(crate) log: Log,
+    pub(crate) log: LongLog,
     // What a move sends out, on its way into the mail and the log; nothing between moves.
     pub(crate) out: Out,
     // The letter that is taken next.
@@ -17,7 +17,8 @@ pub struct Parts {
     pub(crate) limit: u32,
     // The nodes that letters went to since this was last asked, bit q % 64 for node q.
     pub(crate) reached: u64,
-    // The nodes whose rings are looked at for a letter beside that in which letters may be known, bit q for node q.
+    // The nodes, bit q for node q, whose rings are looked at for a letter after the one in which letters may be known.
+    // Where letters may be known in several, all rings are.
     pub(crate) senders: u64,
     // No client can act, as was found when one was last looked for.
     pub(crate) idle: bool,

@@ -14,8 +14,8 @@ use crate::gate::Gate;
 use crate::parts::Parts;
 use crate::turning::{Turned, Worked};
 use lt_desk::Out;
+use lt_log::LongLog;
 use lt_mail::Mail;
-use lt_merge::Log;
 use lt_node::Node;
 use lt_script::Script;
 use std::alloc::{AllocError, Global};
@@ -124,7 +124,8 @@ impl Runner {
         reached
     }
 
-    /// From now on letters of these nodes are looked for, bit q for node q, where none is known; at first of all.
+    /// From now on a letter is looked for in the ring in which letters may be known, then in those of these nodes, bit
+    /// q for node q; where letters may be known in several, in all rings. At first these nodes are all.
     #[tactic(auto, using(crate::proofs::KeptLemmas::kept_aimed, crate::proofs::KeptLemmas::seen_aimed))]
     pub fn look_for(&mut self, senders: u64)
         ensures seen { AsSeen self.old self.new }
@@ -146,7 +147,7 @@ impl Runner {
     pub fn is_full(&self) -> bool
         ensures { result ≡ (length self.now.log.entries == self.now.limit) }
     {
-        self.parts.moves() == self.parts.limit
+        self.parts.moves() == u64::from(self.parts.limit)
     }
 
     /// The number of its node.
@@ -157,7 +158,7 @@ impl Runner {
     }
 
     /// How many moves were made.
-    pub fn moves(&self) -> u32
+    pub fn moves(&self) -> u64
         ensures { result ≡ length self.now.log.entries }
     {
         self.parts.moves()
@@ -200,10 +201,10 @@ fn begin(
 }
 
 // A log with no moves yet, and room for as many as there are commands for each node, with two lines each.
-fn first_log(alloc: Global, script: &Script, limit: u32) -> Result<Log, AllocError>
-    ensures { IfOk result (λ log. log.entries ≡ []) }
+fn first_log(alloc: Global, script: &Script, limit: u32) -> Result<LongLog, AllocError>
+    ensures { IfOk result (λ log. (log.entries ≡ []) × (log.gone ≡ 0)) }
 {
     let moves = script.commands() / u32::from(script.nodes());
     let moves = moves.min(limit) as usize;
-    Log::with_room(alloc, moves, 2 * moves)
+    LongLog::with_room(alloc, moves, 2 * moves)
 }

@@ -13,7 +13,8 @@ loop-event-preserved c =
       noted =
           ap (λ es. with_events es c.next_event.new.self.events) c.add_event.ensures.entries
           ∙ subst (λ (es : List Event). with_events c.loop-event.log.entries es ≡ with_events c.args.log.now.entries c.args.out.now.events) first c.loop-event.invariant.noted;
-      some = omega (arith, ap length c.add_event.ensures.entries, length-with_event c.loop-event.log.entries c.in-Some.event, c.loop-event.invariant.some);
+      some = omega (arith, c.add_event.ensures.gone, ap length c.add_event.ensures.entries, length-with_event c.loop-event.log.entries c.in-Some.event, c.loop-event.invariant.some);
+      gone = c.add_event.ensures.gone ∙ c.loop-event.invariant.gone;
       room = omega (arith, ap length first, c.add_event.ensures.room, c.loop-event.invariant.room);
       rest = c.next_event.ensures.rest ∙ ap (λ (o : OutData). record o { events = c.next_event.new.self.events }) c.loop-event.invariant.rest;
     }
