@@ -1,5 +1,5 @@
-//! Tests of calls up to those of threads: streams, texts, scripts, journals, the parts of a node, the world, the pool
-//! and runners. They stand in a crate apart, so that none is proved again for its tests.
+//! Tests of calls up to those of threads: streams, texts, scripts, journals, logs, the parts of a node, the world, the
+//! pool and runners. They stand in a crate apart, so that none is proved again for its tests.
 #![tactic(auto)]
 
 #[cfg(test)]
@@ -14,6 +14,8 @@ mod journal;
 mod journal_example;
 #[cfg(test)]
 mod journal_reading;
+#[cfg(test)]
+mod log;
 #[cfg(test)]
 mod made;
 #[cfg(test)]

@@ -111,7 +111,7 @@ fn work_ends(rt: HostRuntime) -> Result<(), Fail> {
         let mut runner = first_runner(rt.alloc(), &script, limit)?;
         let gate = Counter::new();
         same(&rt, runner.work(patience, &gate), ends);
-        same(&rt, runner.moves(), moves);
+        same(&rt, runner.moves(), u64::from(moves));
         same(&rt, gate.count(), u64::from(moves));
     }
     Ok(())
@@ -127,7 +127,10 @@ fn one_turn_makes_one_move(rt: HostRuntime) -> Result<(), Fail> {
         same(&rt, runner.moves(), moves);
     }
     same(&rt, (runner.waits(0), runner.waits(1)), (false, true));
-    same(&rt, runner.into_log().len(), 2);
+    match runner.into_log() {
+        Some(log) => same(&rt, log.len(), 2),
+        None => return Err(Fail::from("no log")),
+    }
     Ok(())
 }
 
@@ -168,10 +171,12 @@ fn an_appended_command_is_made(rt: HostRuntime) -> Result<(), Fail> {
     let gate = Counter::new();
     same(&rt, runner.work(1, &gate), Worked::Idle);
     same(&rt, runner.log().len(), 2);
+    runner.forget_moves(rt.alloc());
     same(&rt, append_unlock(&mut runner, 0), Ok(true));
     same(&rt, runner.script().commands(), 3);
     same(&rt, runner.work(1, &gate), Worked::Idle);
     same(&rt, runner.log().len(), 3);
+    same(&rt, runner.log().forgotten(), 2);
     Ok(())
 }
 
@@ -207,7 +212,7 @@ fn all_work_at_once(rt: HostRuntime) -> Result<(), Fail> {
     }
     let mut moves = 0_u64;
     for runner in &runners {
-        moves = moves.saturating_add(u64::from(runner.moves()));
+        moves = moves.saturating_add(runner.moves());
     }
     same(&rt, moves, 3);
     same(&rt, gate.count(), 3);
