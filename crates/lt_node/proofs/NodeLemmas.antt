@@ -45,6 +45,7 @@ touch_does old had out s made core inside does =
     let states = put_read (λ (c : CoreData). c.state) old.cores (first_core old.script old.me) s core inside in
     record {
       script = refl;
+      gone = refl;
       me = refl;
       state = ap (λ (f : ℕ → SetState). let n : NodeState = record { clock = old.clock; made = λ client. slice_index_or old.made client 0; set = f } in n)
           (states ∙ ap (λ (v : SetState). put (λ k. (slice_index_or old.cores k (first_core old.script old.me k)).state) s v) does.state);
@@ -224,6 +225,7 @@ same_node m n cores same kept =
     subst (λ (n : NodeData). SameNode n (record m { cores = cores })) same
     (record {
       script = refl;
+      gone = refl;
       me = refl;
       made = refl;
       state = ap (λ (f : ℕ → SetState). let s : NodeState = record { clock = m.clock; made = λ c. slice_index_or m.made c 0; set = f } in s)

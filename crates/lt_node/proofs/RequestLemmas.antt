@@ -76,7 +76,7 @@ nothing_made script q clients k new = elim (cases_lt k (length clients)) [
 
 pub state_at_start : (script : ScriptData) (q : ℕ) (clients : List Progress) (cores : List CoreData) → AreNew script q clients
     → ((s : ℕ) → (slice_index_or cores s (first_core script q s)).state ≡ (first_core script q s).state)
-    → state_of (record { script = script; me = q; clock = 0; made = map progress_made clients; cores = cores }) ≡ (start script).node q
+    → state_of (record { script = script; gone = 0; me = q; clock = 0; made = map progress_made clients; cores = cores }) ≡ (start script).node q
 state_at_start script q clients cores new states =
     let made : (λ (c : ℕ). slice_index_or (map progress_made clients) c 0) ≡ (λ c. 0) =
     fun_ext (λ c. map_read progress_made clients c no_progress ∙ nothing_made script q clients c new) in
@@ -92,7 +92,7 @@ clients_known script q homes clients same new = record {
 
 pub node_at_start : (script : ScriptData) (q : ℕ) (clients : List Progress) (cores : List CoreData) → IsScript script → q < script.nodes → length clients ≡ length script.clients
     → length cores ≡ length script.sets → ((s : ℕ) → s < length cores → IsCoreOf q s (slice_index_or cores s (first_core script q s)))
-    → IsNode (record { script = script; me = q; clock = 0; made = map progress_made clients; cores = cores })
+    → IsNode (record { script = script; gone = 0; me = q; clock = 0; made = map progress_made clients; cores = cores })
 node_at_start script q clients cores known within count sets places =
     record { is_script = known; within = within; clients = length-map clients progress_made ∙ count; sets = sets; places = places }
 

@@ -187,7 +187,7 @@ take_here : (n : NodeData) (letter : Letter) (new : CoreData) (had out : OutData
 take_here n letter new had out inside does =
     let stamp = take_stamp n.me (state_of n) (letter_seen letter) in
     let done = touch_does (record n { clock = stamp.clock }) had out letter.set (take stamp (letter_seen letter) (core_at n letter.set).state) new inside does in
-    record { script = refl; me = refl; state = done.state; sent = done.sent }
+    record { script = refl; gone = refl; me = refl; state = done.state; sent = done.sent }
 
 pub take_does : (m n : NodeData) (k : ℕ) (letter : Letter) (core new : CoreData) (stamp : Stamp) (had out : OutData) → m ≡ n → k ≡ letter.set → IsTakenBy n letter core
     → stamp ≡ take_stamp n.me (state_of n) (letter_seen letter) → Does (take stamp (letter_seen letter) core.state) core had new out

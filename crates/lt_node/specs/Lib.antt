@@ -1,3 +1,4 @@
 pub mod NodeData
 pub mod Clients
 pub mod Marks
+pub mod Forgetting

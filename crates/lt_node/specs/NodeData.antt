@@ -22,6 +22,7 @@ use Rattle.lt_desk.specs.declared.letter.Letter.{Letter}
 use Rattle.lt_desk.specs.LetterSeen.{body_seen, asks_in, RoomIn}
 use Rattle.lt_core.specs.CoreData.{CoreData, HasMemory, HasRoom, waiting_here}
 use Rattle.lt_core.specs.Bound.{RoomToSend, most, brought}
+use Rattle.lt_node.specs.Forgetting.{without_first}
 
 abbrev pub ask_with_set : NodeState → ℕ → ℕ → Option (ℕ × Ask)
 ask_with_set n client s = option_map (λ (ask : Ask). (s, ask)) (pending_ask (n.set s) client)
@@ -37,13 +38,19 @@ first_ask script n client = ask_below n client (length script.sets)
 
 -- What contracts see of a node, and what a move of it does.
 
--- the script, the node's number and clock, how many commands each client has made here, and its sets
+-- the script, how many of its commands are forgotten, the node's number and clock, how many commands each client has
+-- made here, and its sets
 pub record NodeData : Type 0 where
   pub script : ScriptData
+  pub gone : ℕ
   pub me : ℕ
   pub clock : ℕ
   pub made : List ℕ
   pub cores : List CoreData
+
+-- the script without the commands that were forgotten
+abbrev pub kept_script : NodeData → ScriptData
+kept_script n = without_first n.gone n.script
 
 -- a set at the start, for which there is no room yet
 abbrev pub first_core : ScriptData → ℕ → ℕ → CoreData
@@ -76,6 +83,7 @@ with_sent made out = record out { posts = out.posts ++ made.posts; events = out.
 -- the node after the move, and what it sent out, are what the rule makes
 pub record NodeDoes (made : NodeMade) (old : NodeData) (had : OutData) (new : NodeData) (out : OutData) : Type 0 where
   pub script : new.script ≡ old.script
+  pub gone : new.gone ≡ old.gone
   pub me : new.me ≡ old.me
   pub state : state_of new ≡ made.node
   pub sent : out ≡ with_sent made had
@@ -83,6 +91,7 @@ pub record NodeDoes (made : NodeMade) (old : NodeData) (had : OutData) (new : No
 -- it is the same node, whose memory may be another
 pub record SameNode (old new : NodeData) : Type 0 where
   pub script : new.script ≡ old.script
+  pub gone : new.gone ≡ old.gone
   pub me : new.me ≡ old.me
   pub made : new.made ≡ old.made
   pub state : state_of new ≡ state_of old

@@ -59,6 +59,7 @@ impl Node {
         ensures targets { HasTargets self.old.script.sets self.old.script.clients client result }
         ensures kept { IsNode self.old }
         ensures place { (self.new.script ≡ self.old.script) × (self.new.me ≡ self.old.me) }
+        ensures gone { self.new.gone ≡ self.old.gone }
         ensures cores { self.new.cores ≡ self.old.cores }
         ensures state { state_of self.new ≡ one_made client (at_clock (self.old.clock + 1) (state_of self.old)) }
     {
@@ -146,7 +147,7 @@ impl Node {
             family::end_each(
                 &mut self.cores,
                 &mut self.waiting,
-                &self.script,
+                self.script.kept(),
                 set,
                 None,
                 stamp,
@@ -154,7 +155,7 @@ impl Node {
             );
             return Answer::Busy;
         }
-        let locks = family::locks(&self.cores, &self.script, set, other);
+        let locks = family::locks(&self.cores, self.script.kept(), set, other);
         out.push_event(Event::DropAll {
             client,
             other,
@@ -165,7 +166,7 @@ impl Node {
         family::end_each(
             &mut self.cores,
             &mut self.waiting,
-            &self.script,
+            self.script.kept(),
             set,
             Some(other),
             stamp,

@@ -6,9 +6,9 @@ ghost use Rattle.lt_spec.specs.NodeMove.{home};
 ghost use Rattle.lt_node.specs.Clients.{with_request, with_command};
 
 use crate::client::Client;
+use crate::long_script::LongScript;
 use crate::node::Node;
 use lt_modes::Command;
-use lt_script::Script;
 use std::alloc::AllocError;
 
 impl Node {
@@ -36,20 +36,21 @@ impl Node {
 // The command becomes the last one of the client, in its own list and in the script.
 fn append_to(
     list: &mut Client,
-    script: &mut Script,
+    script: &mut LongScript,
     client: u16,
     command: Command,
 ) -> Result<(), AllocError>
-    requires client { client < length script.old.clients }
-    requires targets { HasTargets script.old.sets script.old.clients client command }
-    requires modes { HasModesOf script.old.version command }
-    requires room { length script.old.commands < MAX_COMMANDS }
+    requires client { client < length script.old.whole.clients }
+    requires targets { HasTargets script.old.whole.sets script.old.whole.clients client command }
+    requires modes { HasModesOf script.old.whole.version command }
+    requires room { length script.old.whole.commands < MAX_COMMANDS }
     ensures list { OnOk result (list.new ≡ with_command list.old command) }
-    ensures script { OnOk result (script.new ≡ with_request script.old client command) }
+    ensures script { OnOk result
+        (script.new ≡ record script.old { whole = with_request script.old.whole client command }) }
     ensures same { OnErr result ((list.new ≡ list.old) × (script.new ≡ script.old)) }
 {
-    list.commands.reserve(1)?;
+    list.kept.commands.reserve(1)?;
     script.add_command(client, command)?;
-    list.commands.push_reserved(command);
+    list.kept.commands.push_reserved(command);
     Ok(())
 }

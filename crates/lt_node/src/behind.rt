@@ -18,7 +18,7 @@ impl Node {
         let core = self.core(set);
         mark_queued(marks, core, client);
         if core.parks(client) {
-            mark_parked(marks, core, client, self.script.clients());
+            mark_parked(marks, core, client, self.script.kept().clients());
         }
     }
 }

@@ -3,24 +3,42 @@ ghost use Rattle.lt_spec.specs.Script.{IsScript};
 ghost use Rattle.lt_spec.specs.NodeMove.{commands_of, home};
 ghost use Rattle.lt_node.specs.Clients.{HaveFirst, homes_in, with_own_request, progress_of, no_progress, next_of, one_command_more, with_command};
 
+use lt_log::History;
 use lt_modes::Command;
 use lt_script::Script;
 use std::alloc::{AllocError, Global};
 use std::marker::Model;
 
-/// A client's commands, and how many of them it has made.
+/// The commands that are kept of a client, and how many of these it has made.
 #[derive(Drop)]
-pub(crate) struct Client {
+pub(crate) struct KeptCommands {
     pub(crate) commands: Vec<Command>,
     made: u32,
 }
 
+/// A client's commands, and how many of them it has made. Those can be forgotten: then only proofs know them.
+#[derive(Drop)]
+pub(crate) struct Client {
+    // What was kept each time when the commands that were made were forgotten.
+    past: History<KeptCommands>,
+    // How many commands were forgotten.
+    gone: u32,
+    pub(crate) kept: KeptCommands,
+}
+
 impl Model for Client {
+    ghost use Rattle.std.specs.Prelude.{◌+◌, ◌++◌};
     ghost use Rattle.lt_node.specs.Clients.{Progress};
+    ghost use Rattle.lt_node.specs.Forgetting.{HasMade, past_made};
 
     ghost Value = { Progress };
 
-    ghost view = { λ c. record { commands = c.commands.items; made = c.made } };
+    ghost view = { λ c. record {
+      commands = past_made c.past.items ++ c.kept.commands.items;
+      made = c.gone + c.kept.made;
+    } };
+
+    ghost invariant = { λ c. HasMade c.past.items c.gone c.kept };
 }
 
 impl Client {
@@ -29,8 +47,12 @@ impl Client {
         ensures { IfOk result (λ client. client ≡ no_progress) }
     {
         Ok(Client {
-            commands: Vec::with_capacity(alloc, room)?,
-            made: 0,
+            past: History::new(),
+            gone: 0,
+            kept: KeptCommands {
+                commands: Vec::with_capacity(alloc, room)?,
+                made: 0,
+            },
         })
     }
 
@@ -38,7 +60,7 @@ impl Client {
     pub(crate) fn add(&mut self, command: Command) -> Result<(), AllocError>
         ensures { OnOk result (self.new ≡ with_command self.old command) }
     {
-        self.commands.push(command)?;
+        self.kept.commands.push(command)?;
         Ok(())
     }
 
@@ -46,14 +68,14 @@ impl Client {
     pub(crate) fn made(&self) -> u32
         ensures { result ≡ self.now.made }
     {
-        self.made
+        self.gone + self.kept.made
     }
 
     /// Whether a command is left.
     pub(crate) fn has_next(&self) -> bool
         ensures { result ≡ nat_lt self.now.made (length self.now.commands) }
     {
-        (self.made as usize) < self.commands.len()
+        (self.kept.made as usize) < self.kept.commands.len()
     }
 
     /// The next command.
@@ -61,7 +83,7 @@ impl Client {
         requires { self.now.made < length self.now.commands }
         ensures { result ≡ next_of self.now }
     {
-        self.commands[self.made as usize]
+        self.kept.commands[self.kept.made as usize]
     }
 
     /// Hands out the next command.
@@ -72,8 +94,18 @@ impl Client {
         ensures made { self.new ≡ one_command_more self.old }
     {
         let command = self.upcoming();
-        self.made += 1;
+        self.kept.made += 1;
         command
+    }
+
+    /// Forgets the commands that were made.
+    pub(crate) fn forget_made(&mut self)
+        ensures { self.new ≡ self.old }
+    {
+        self.past = self.past.and(&self.kept);
+        self.gone += self.kept.made;
+        self.kept.commands.drain(..self.kept.made as usize);
+        self.kept.made = 0;
     }
 }
 

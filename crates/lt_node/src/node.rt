@@ -5,11 +5,12 @@ ghost use Rattle.lt_core.specs.Steps.{rule_numbers as numbers_seen};
 ghost use Rattle.lt_spec.specs.NodeMove.{home, node_waits, has_command, act_stamp, take_stamp};
 ghost use Rattle.lt_spec.specs.World.{start};
 ghost use Rattle.lt_spec.specs.Script.{IsScript};
-ghost use Rattle.lt_node.specs.NodeData.{IsNode, IsCoreOf, state_of, first_core};
+ghost use Rattle.lt_node.specs.NodeData.{IsNode, IsCoreOf, state_of, first_core, kept_script};
 ghost use Rattle.lt_node.specs.Clients.{AreAtStart, HaveFrom, homes_in};
 
 use crate::client::{Client, clients_of, homes_of};
 use crate::commands::Commands;
+use crate::long_script::LongScript;
 use crate::marks::no_marks;
 use crate::own::own_of;
 use crate::ready::none_ready;
@@ -23,7 +24,7 @@ use std::marker::Model;
 /// One node of a script, of which it has a copy: all its sets and its clients.
 #[derive(Drop)]
 pub struct Node {
-    pub(crate) script: Script,
+    pub(crate) script: LongScript,
     pub(crate) me: u8,
     pub(crate) clock: u64,
     // The node of each client, by which letters are tested.
@@ -47,7 +48,8 @@ impl Model for Node {
     ghost Value = { NodeData };
 
     ghost view = { λ n. record {
-      script = n.script;
+      script = n.script.whole;
+      gone = n.script.gone;
       me = n.me;
       clock = n.clock;
       made = map progress_made n.clients.items;
@@ -55,14 +57,15 @@ impl Model for Node {
     } };
 
     ghost invariant = { λ n. IsNode (record {
-      script = n.script;
+      script = n.script.whole;
+      gone = n.script.gone;
       me = n.me;
       clock = n.clock;
       made = map progress_made n.clients.items;
       cores = n.cores.items;
-    }) × KnowsClients n.script n.me n.homes.items n.clients.items
-        × TellsWaiting n.script n.me n.cores.items n.waiting.items
-        × AreOwn n.script.clients n.me 0 (length n.script.clients) n.own.items
+    }) × KnowsClients n.script.whole n.me n.homes.items n.clients.items
+        × TellsWaiting n.script.whole n.me n.cores.items n.waiting.items
+        × AreOwn n.script.whole.clients n.me 0 (length n.script.whole.clients) n.own.items
         × KnowsReady n.cores.items n.sent.items
         × KnowsWithin n.clock n.cores.items n.sent.items };
 }
@@ -72,6 +75,7 @@ impl Node {
     pub fn new(alloc: Global, script: &Script, node: u8) -> Result<Node, AllocError>
         requires { node < script.now.nodes }
         ensures script { IfOk result (λ made. made.script ≡ script.now) }
+        ensures gone { IfOk result (λ made. made.gone ≡ 0) }
         ensures me { IfOk result (λ made. made.me ≡ node) }
         ensures state { IfOk result (λ made. state_of made ≡ (start script.now).node node) }
     {
@@ -90,6 +94,7 @@ impl Node {
         requires node { node < script.now.nodes }
         requires commands { HaveFrom script.now node commands.old }
         ensures script { IfOk result (λ made. made.script ≡ script.now) }
+        ensures gone { IfOk result (λ made. made.gone ≡ 0) }
         ensures me { IfOk result (λ made. made.me ≡ node) }
         ensures state { IfOk result (λ made. state_of made ≡ (start script.now).node node) }
         ensures left { OnOk result (HaveFrom script.now (node + 1) commands.new) }
@@ -113,6 +118,7 @@ impl Node {
         requires count { length clients.items ≡ length script.now.clients }
         requires each { AreAtStart script.now node clients.items }
         ensures script { IfOk result (λ made. made.script ≡ script.now) }
+        ensures gone { IfOk result (λ made. made.gone ≡ 0) }
         ensures me { IfOk result (λ made. made.me ≡ node) }
         ensures state { IfOk result (λ made. state_of made ≡ (start script.now).node node) }
     {
@@ -120,7 +126,7 @@ impl Node {
         let cores = cores_of(alloc, script, node)?;
         let waiting = no_marks(alloc, script)?;
         let sent = none_ready(alloc, script)?;
-        let script = script.copy(alloc)?;
+        let script = LongScript::of(script.copy(alloc)?);
         Ok(Node {
             script,
             me: node,
@@ -142,10 +148,19 @@ impl Node {
         self.me
     }
 
+    /// The script without the commands that were forgotten.
     pub fn script(&self) -> &Script
-        ensures { result.now ≡ self.now.script }
+        ensures kept { result.now ≡ kept_script self.now }
+        ensures whole { self.now.gone ≡ 0 → result.now ≡ self.now.script }
     {
-        &self.script
+        self.script.kept()
+    }
+
+    /// How many commands the script has, forgotten or not.
+    pub fn commands(&self) -> u32
+        ensures { result ≡ length self.now.script.commands }
+    {
+        self.script.commands()
     }
 
     pub fn clock(&self) -> u64
@@ -231,8 +246,8 @@ impl Node {
         ensures { numbers_seen result ≡ numbers_of self.now.script }
     {
         Numbers {
-            nodes: self.script.nodes(),
-            sets: u16::from(self.script.sets()),
+            nodes: self.script.kept().nodes(),
+            sets: u16::from(self.script.kept().sets()),
             homes: &self.homes,
         }
     }

@@ -38,7 +38,7 @@ impl Node {
     fn search_ask(&self, client: u16) -> Option<(u8, Ask)>
         ensures { result ≡ first_ask self.now.script (state_of self.now) client }
     {
-        for set in 0..self.script.sets() {
+        for set in 0..self.script.kept().sets() {
             if let Some(ask) = self.ask_in(set, client) {
                 return Some((set, ask));
             }

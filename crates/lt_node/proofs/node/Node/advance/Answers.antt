@@ -25,7 +25,7 @@ invariant_of-self c =
     let clients = c.self.inside.clients.items in
     let count = ap (λ (n : NodeData). length n.script.clients) c.self.view_is in (
       node_advanced _ clients c.from.result c.next.new.self c.self.invariant.0 refl,
-      clients_advanced c.self.inside.script c.self.inside.me c.self.inside.homes.items clients c.from.result c.index_mut.result.now c.next.new.self c.self.invariant.1
+      clients_advanced c.self.inside.script.whole c.self.inside.me c.self.inside.homes.items clients c.from.result c.index_mut.result.now c.next.new.self c.self.invariant.1
           (omega (arith, c.from.ensures, c.requires.client, count, c.self.invariant.0.clients, length-map clients progress_made)) c.index_mut.ensures.value c.next.ensures.made,
       c.self.invariant.2,
       c.self.invariant.3,

@@ -1,32 +1,30 @@
-use Rattle.std.proofs.Common.{length, refl, subst, sym}
-use Rattle.lt_modes.specs.Script.{ScriptData}
-use Rattle.lt_node.specs.NodeData.{TellsWaiting}
-use Rattle.lt_node.specs.Clients.{AreOwn}
+use Rattle.std.proofs.Common.{refl}
+use Rattle.lt_node.specs.Clients.{with_request}
 use Rattle.lt_node.proofs.MarkLemmas.{waiting_appended}
 use Rattle.lt_node.proofs.AdvanceLemmas.{appended_at}
 use Rattle.lt_node.proofs.node.Node.append.Goals as goal
 
 pub invariant_of-self-2 : goal.invariant_of-self-2
 invariant_of-self-2 c =
-    let appended = appended_at _ c.args.self.now c.self.inside.homes.items c.self.inside.clients.items c.args.client c.from.result c.index_mut.result.now c.append_to.new.list c.append_to.new.script c.args.command
+    let appended = appended_at _ c.args.self.now c.self.inside.homes.items c.self.inside.clients.items c.args.client c.from.result c.index_mut.result.now c.append_to.new.list
+    (with_request c.self.inside.script.whole c.args.client c.args.command) c.args.command
     c.self.view_is c.self.invariant.0 refl c.self.invariant.1 c.from.ensures c.index_mut.ensures.value
     (record { inside = c.requires.client; here = c.requires.home; targets = c.requires.targets; modes = c.requires.modes; room = c.requires.room })
-    c.in_ok-append_to.ensures.list c.in_ok-append_to.ensures.script in (
+    c.in_ok-append_to.ensures.list refl in
+    rw c.in_ok-append_to.ensures.script (
       appended.holds.node,
       appended.holds.knows,
-      subst (λ (script : ScriptData). TellsWaiting script c.self.inside.me c.self.inside.cores.items c.self.inside.waiting.items)
-          (sym c.in_ok-append_to.ensures.script)
-          (waiting_appended c.self.inside.script c.self.inside.me c.args.client c.args.command c.self.inside.cores.items c.self.inside.waiting.items c.self.invariant.2),
-      subst (λ (script : ScriptData). AreOwn script.clients c.self.inside.me 0 (length script.clients) c.self.inside.own.items)
-          (sym c.in_ok-append_to.ensures.script) c.self.invariant.3,
+      waiting_appended c.self.inside.script.whole c.self.inside.me c.args.client c.args.command c.self.inside.cores.items c.self.inside.waiting.items c.self.invariant.2,
+      c.self.invariant.3,
       c.self.invariant.4,
       c.self.invariant.5,
     )
 
 pub returns-clause-appended : goal.returns-clause-appended
 returns-clause-appended c =
-    let appended = appended_at _ c.args.self.now c.self.inside.homes.items c.self.inside.clients.items c.args.client c.from.result c.index_mut.result.now c.append_to.new.list c.append_to.new.script c.args.command
+    let appended = appended_at _ c.args.self.now c.self.inside.homes.items c.self.inside.clients.items c.args.client c.from.result c.index_mut.result.now c.append_to.new.list
+    (with_request c.self.inside.script.whole c.args.client c.args.command) c.args.command
     c.self.view_is c.self.invariant.0 refl c.self.invariant.1 c.from.ensures c.index_mut.ensures.value
     (record { inside = c.requires.client; here = c.requires.home; targets = c.requires.targets; modes = c.requires.modes; room = c.requires.room })
-    c.in_ok-append_to.ensures.list c.in_ok-append_to.ensures.script in
-    appended.is
+    c.in_ok-append_to.ensures.list refl in
+    rw c.in_ok-append_to.ensures.script appended.is

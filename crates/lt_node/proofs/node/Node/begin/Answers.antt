@@ -1,4 +1,6 @@
-use Rattle.std.proofs.Common.{ℕ, subst, sym}
+use Rattle.std.proofs.Common.{ℕ, ap, subst, sym, ◌∙◌}
+use Rattle.lt_modes.specs.Script.{ScriptData}
+use Rattle.lt_node.specs.Forgetting.{LongScriptData}
 use Rattle.lt_node.specs.NodeData.{KnowsNothing}
 use Rattle.lt_node.proofs.ReadyLemmas.{none_known}
 use Rattle.lt_node.proofs.MarkLemmas.{within_none, waiting_first}
@@ -9,7 +11,7 @@ pub invariant_of-result : goal.invariant_of-result
 invariant_of-result c =
     let clients = c.args.clients.items in
     let cores = c.in_ok-cores.cores.items in
-    rw c.in_ok-script.ensures (
+    rw (c.of-script.ensures ∙ ap (λ (s : ScriptData). let l : LongScriptData = record { whole = s; gone = 0 } in l) c.in_ok-copy.ensures) (
       node_at_start c.args.script.now c.args.node clients cores c.requires.script c.requires.node c.requires.count c.in_ok-cores.ensures.count c.in_ok-cores.ensures.places,
       clients_known c.args.script.now c.args.node c.args.homes.items clients c.requires.homes c.requires.each,
       waiting_first c.args.script.now c.args.node cores c.in_ok-waiting.waiting.items c.in_ok-waiting.ensures.count c.in_ok-waiting.ensures.none c.in_ok-cores.ensures.states,
@@ -20,5 +22,5 @@ invariant_of-result c =
     )
 
 pub returns-clause-state : goal.returns-clause-state
-returns-clause-state c = rw c.in_ok-script.ensures
+returns-clause-state c = rw (c.of-script.ensures ∙ ap (λ (s : ScriptData). let l : LongScriptData = record { whole = s; gone = 0 } in l) c.in_ok-copy.ensures)
     (state_at_start c.args.script.now c.args.node c.args.clients.items c.in_ok-cores.cores.items c.requires.each c.in_ok-cores.ensures.states)

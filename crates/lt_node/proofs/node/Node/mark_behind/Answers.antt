@@ -1,8 +1,7 @@
-use Rattle.std.proofs.Common.{◌≡◌, ◌∙◌, ◌||◌, ℕ, Bool, List, false, ap, subst, sym}
+use Rattle.std.proofs.Common.{◌≡◌, ◌∙◌, ◌||◌, ℕ, Bool, false, ap, subst, sym}
 use Rattle.std.proofs.Math.Bool.{or-false}
 use Rattle.lt_modes.specs.Waiting.{stands_before, parked_behind}
 use Rattle.lt_core.specs.CoreData.{CoreData}
-use Rattle.lt_node.specs.NodeData.{state_of}
 use Rattle.lt_node.specs.Marks.{AreAdded}
 use Rattle.lt_node.proofs.AddedLemmas.{added_same, parked_none}
 use Rattle.lt_node.proofs.node.Node.mark_behind.Goals as goal

@@ -1,6 +1,7 @@
 use Rattle.std.proofs.Common.{◌≡◌, ◌∙◌, ℕ, suc, Option, Some, length, sym, ap, ap₂, arith, option_map}
 use Rattle.std.specs.Option.{option_or}
 use Rattle.lt_modes.specs.declared.ask.Ask.{Ask}
+use Rattle.lt_modes.specs.Script.{ScriptData}
 use Rattle.lt_modes.specs.Waiting.{pending_ask}
 use Rattle.lt_node.specs.NodeData.{NodeData, state_of, ask_below}
 use Rattle.lt_node.proofs.MarkLemmas.{ask_stays}
@@ -15,4 +16,4 @@ returns-in-Some c =
     let here : pending_ask (n.set k) c.args.client ≡ Some ask = sym c.ask_in.ensures ∙ c.in-Some.is in
     let found : ask_below n c.args.client (suc k) ≡ Some (k, ask) =
     ap₂ (λ (a b : Option (ℕ × Ask)). option_or a b) c.loop-set.invariant (ap (option_map (λ (a : Ask). (k, a))) here) in
-    sym (ask_stays n c.args.client (suc k) (length c.args.self.now.script.sets) (k, ask) (omega (arith, c.loop-set-test.true, c.sets-set-end.ensures, count)) found)
+    sym (ask_stays n c.args.client (suc k) (length c.args.self.now.script.sets) (k, ask) (omega (arith, c.loop-set-test.true, c.sets-set-end.ensures, ap (λ (s : ScriptData). length s.sets) c.kept.ensures, count)) found)

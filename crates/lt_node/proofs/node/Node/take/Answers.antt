@@ -31,7 +31,7 @@ invariant_of-self c =
       node_kept _ c.stamp_of_take-stamp.result.clock c.from.result c.take.new.self c.self.invariant.0
           (place_stays _ c.args.self.now c.from.result c.args.letter c.index_mut-core.result.now c.take.new.self _ c.args.out.now c.take.new.out c.self.view_is c.from.ensures taken_here c.take.ensures.does),
       c.self.invariant.1,
-      waiting_noted c.self.inside.script c.self.inside.me c.args.letter.set c.from.result c.self.inside.cores.items c.index_mut-core.result.now c.take.new.self
+      waiting_noted c.self.inside.script.whole c.self.inside.me c.args.letter.set c.from.result c.self.inside.cores.items c.index_mut-core.result.now c.take.new.self
           c.self.inside.waiting.items c.mark-2.new.masks.items c.self.invariant.2
           (omega (arith, taken_here.inside, ap (λ (n : NodeData). length n.cores) c.self.view_is)) c.from.ensures c.index_mut-core.ensures.value
           (remarked c.args.letter.set c.index_mut-core.result.now.state c.take.new.self.state c.asks.result.now c.asks-2.result.now c.self.inside.waiting.items

@@ -38,7 +38,7 @@ invariant_of-self c =
     } in (
       node_kept _ c.self.inside.clock c.from.result c.act-answer.new.self c.self.invariant.0 place,
       c.self.invariant.1,
-      waiting_noted c.self.inside.script c.self.inside.me c.args.set c.from.result c.self.inside.cores.items c.index_mut-core.result.now c.act-answer.new.self
+      waiting_noted c.self.inside.script.whole c.self.inside.me c.args.set c.from.result c.self.inside.cores.items c.index_mut-core.result.now c.act-answer.new.self
           c.self.inside.waiting.items c.mark-2.new.masks.items c.self.invariant.2 (omega (arith, touch.inside, inside)) c.from.ensures c.index_mut-core.ensures.value
           (remarked c.args.set c.index_mut-core.result.now.state c.act-answer.new.self.state c.asks.result.now c.asks-2.result.now c.self.inside.waiting.items
           c.mark.new.masks.items c.mark-2.new.masks.items c.asks.ensures c.asks-2.ensures c.mark.ensures c.mark-2.ensures),

@@ -14,5 +14,5 @@ returns-then-place-len c =
     c.index.ensures ∙ ap (λ (k : ℕ). slice_index_or masks k c.index.result.now) c.from-place.ensures
     ∙ get_or_default masks c.args.client c.index.result.now 0 inside in
     ap (λ (k : ℕ). not (k == 0)) mask
-    ∙ (mask_tells n.script n.me n.cores.items masks c.args.client c.self.invariant.2 c.self.invariant.0.sets inside
+    ∙ (mask_tells n.script.whole n.me n.cores.items masks c.args.client c.self.invariant.2 c.self.invariant.0.sets inside
     ∙ ap (λ (m : NodeData). node_waits m.script (state_of m) c.args.client) c.self.view_is)
