@@ -43,7 +43,7 @@ abbrev pub no_script : ScriptData
 no_script = record { version = 1; nodes = 0; sets = []; clients = []; commands = [] }
 
 abbrev pub node_of_none : NodeData
-node_of_none = record { script = no_script; me = 0; clock = 0; made = []; cores = [] }
+node_of_none = record { script = no_script; gone = 0; me = 0; clock = 0; made = []; cores = [] }
 
 abbrev pub node_at : List NodeData → ℕ → NodeData
 node_at nodes q = slice_index_or nodes q node_of_none
