@@ -149,10 +149,7 @@ fn one_node(alloc: Global) -> Result<Script, AllocError> {
 // The client of the node is then to unlock what it locks.
 fn append_unlock(node: &mut Node, client: u16) -> Result<bool, AllocError> {
     let (set, mode) = (0, Mode::Write);
-    if node.script().sets() == 0
-        || node.script().commands() >= MAX_COMMANDS
-        || !is_own(node, client)
-    {
+    if node.script().sets() == 0 || node.commands() >= MAX_COMMANDS || !is_own(node, client) {
         return Ok(false);
     }
     node.append(client, Command::Unlock { set, mode })?;
@@ -190,5 +187,29 @@ fn a_node_tells_who_waits(rt: HostRuntime) -> Result<(), Fail> {
     same(&rt, (set, ask.client, ask.mode), (0, 1, Mode::Write));
     same(&rt, node.ask_in(0, 1), Some(ask));
     same(&rt, node.count(0, 0, Mode::Write), 1);
+    Ok(())
+}
+
+// How many commands the client made, where it is one of the node's.
+fn made(node: &Node, client: u16) -> Option<u32> {
+    if !is_own(node, client) {
+        return None;
+    }
+    Some(node.made(client))
+}
+
+#[test]
+fn a_command_is_made_after_others_were_forgotten(rt: HostRuntime) -> Result<(), Fail> {
+    let script = one_node(rt.alloc())?;
+    let mut out = Out::new(rt.alloc());
+    holds(&rt, script.nodes() == 1 && script.sets() == 1);
+    let mut node = Node::new(rt.alloc(), &script, 0)?;
+    same(&rt, append_unlock(&mut node, 0), Ok(true));
+    same(&rt, act(&mut node, 0, &mut out), Ok(Some(Answer::Granted)));
+    same(&rt, node.forget_commands(rt.alloc()), Ok(()));
+    same(&rt, (node.commands(), node.script().commands()), (3, 0));
+    same(&rt, made(&node, 0), Some(1));
+    same(&rt, act(&mut node, 0, &mut out), Ok(Some(Answer::Unlocked)));
+    same(&rt, (made(&node, 0), node.commands()), (Some(2), 3));
     Ok(())
 }
