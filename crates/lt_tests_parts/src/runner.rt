@@ -154,7 +154,7 @@ fn append_unlock(runner: &mut Runner, client: u16) -> Result<bool, AllocError> {
     let (set, mode) = (0, Mode::Write);
     let script = runner.script();
     if script.sets() == 0
-        || script.commands() >= MAX_COMMANDS
+        || runner.commands() >= MAX_COMMANDS
         || client >= script.clients()
         || script.home(client) != runner.me()
     {
@@ -171,9 +171,12 @@ fn an_appended_command_is_made(rt: HostRuntime) -> Result<(), Fail> {
     let gate = Counter::new();
     same(&rt, runner.work(1, &gate), Worked::Idle);
     same(&rt, runner.log().len(), 2);
+    holds(&rt, runner.has_all());
     runner.forget_moves(rt.alloc());
+    runner.forget_commands(rt.alloc())?;
+    holds(&rt, !runner.has_all());
     same(&rt, append_unlock(&mut runner, 0), Ok(true));
-    same(&rt, runner.script().commands(), 3);
+    same(&rt, (runner.commands(), runner.script().commands()), (3, 1));
     same(&rt, runner.work(1, &gate), Worked::Idle);
     same(&rt, runner.log().len(), 3);
     same(&rt, runner.log().forgotten(), 2);
