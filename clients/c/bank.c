@@ -10,13 +10,18 @@
 
 enum { ACCOUNTS = 4, FIRST = 1000, AMOUNT = 5, MOST_CALLERS = 16, SECONDS = 60 };
 
+/* How many transfers all callers make together before it is asked what they were served. */
+enum { BETWEEN = 100 };
+
 /* The set that stands for the whole bank. An account's set has the number after the account's. */
 enum { BANK = 0 };
 
 /* Plain words: nothing but the locks keeps callers apart. */
 static long money[ACCOUNTS];
 static lockrun_nodes nodes;
-static int transfers;
+
+/* Which transfers each caller makes in this round, and how many replies it was told so far. */
+static struct { int first, last; size_t told; } work[MOST_CALLERS];
 
 static void want(const char *what, uint32_t code, uint32_t wanted) {
     if (code == wanted) return;
@@ -32,10 +37,12 @@ static void lock(lockrun_caller *caller, uint8_t set, enum lockrun_mode mode) {
         code = lockrun_wait(caller, 1000);
     }
     want("lock", code, LOCKRUN_GRANTED);
+    work[lockrun_client(&caller->session)].told++;
 }
 
 static void unlock(lockrun_caller *caller, uint8_t set, enum lockrun_mode mode) {
     want("unlock", lockrun_unlock(caller, set, mode, LOCKRUN_FOREVER), LOCKRUN_UNLOCKED);
+    work[lockrun_client(&caller->session)].told++;
 }
 
 /* Locks the accounts in order, so that no callers wait for each other in a ring. */
@@ -56,11 +63,33 @@ static void transfer(lockrun_caller *caller, int from, int to) {
 static void *call(void *argument) {
     lockrun_caller *caller = (lockrun_caller *)argument;
     uint32_t number = lockrun_client(&caller->session);
-    for (int k = 0; k < transfers; k++) {
+    for (int k = work[number].first; k < work[number].last; k++) {
         int from = (number + k) % ACCOUNTS;
         transfer(caller, from, (from + 1 + k % (ACCOUNTS - 1)) % ACCOUNTS);
     }
     return 0;
+}
+
+/* Each caller was told a reply to each of its commands, and the service says as many. */
+static void compare(int callers) {
+    size_t told = 0, submitted = 0, polled = 0;
+    for (int k = 0; k < callers; k++) told += work[k].told;
+    want("served", lockrun_nodes_served(&nodes, &submitted, &polled), LOCKRUN_OK);
+    if (submitted == told && polled == told) return;
+    fprintf(stderr, "bank: %zu commands, %zu replies, and callers were told %zu\n", submitted, polled, told);
+    exit(1);
+}
+
+/* All callers make their transfers up to this one. */
+static void make_round(int callers, int first, int last) {
+    pthread_t threads[MOST_CALLERS];
+    for (int k = 0; k < callers; k++) {
+        work[k].first = first;
+        work[k].last = last;
+        pthread_create(&threads[k], 0, call, &nodes.caller[k]);
+    }
+    for (int k = 0; k < callers; k++) pthread_join(threads[k], 0);
+    compare(callers);
 }
 
 /* No intention to write goes with a read of the whole bank. */
@@ -90,8 +119,7 @@ static void write_text(const char *name, lockrun_journal *journal,
 
 int main(int count, char **words) {
     if (count != 6) { fputs("usage: bank CALLERS NODES TRANSFERS SCRIPT JOURNAL\n", stderr); return 1; }
-    int callers = atoi(words[1]), nodes_wanted = atoi(words[2]);
-    transfers = atoi(words[3]);
+    int callers = atoi(words[1]), nodes_wanted = atoi(words[2]), transfers = atoi(words[3]);
     if (callers < 1 || callers > MOST_CALLERS) { fputs("bank: 1 to 16 callers\n", stderr); return 1; }
     char text[4096];
     int length = sprintf(text, "nodes %d\nset bank\n", nodes_wanted);
@@ -99,10 +127,11 @@ int main(int count, char **words) {
     for (int k = 0; k < callers; k++) length += sprintf(text + length, "client caller%d at %d\n", k, k % nodes_wanted);
     for (int k = 0; k < ACCOUNTS; k++) money[k] = FIRST;
     want("open", lockrun_nodes_open(&nodes, text, length, 1 << 20), LOCKRUN_OK);
-    pthread_t threads[MOST_CALLERS];
-    for (int k = 0; k < callers; k++) pthread_create(&threads[k], 0, call, &nodes.caller[k]);
-    for (int k = 0; k < callers; k++) pthread_join(threads[k], 0);
+    compare(callers);
+    for (int first = 0, each = (BETWEEN + callers - 1) / callers; first < transfers; first += each)
+        make_round(callers, first, first + each < transfers ? first + each : transfers);
     long sum = audit(&nodes.caller[0]);
+    compare(callers);
     lockrun_journal journal = {0};
     size_t held = 1, waiting = 1;
     want("finish", lockrun_nodes_finish(&nodes, &journal), LOCKRUN_OK);

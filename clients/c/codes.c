@@ -12,6 +12,7 @@ static lockrun_session ann, ben;
 static lockrun_handle none;
 static lockrun_journal journal;
 static uint32_t count = 7;
+static size_t submitted, polled;
 
 #define IS(call, wanted) is(#call, __LINE__, call, wanted)
 
@@ -50,19 +51,57 @@ static void opening(void) {
     IS(open_text(text, 14, 2), LOCKRUN_OK);
 }
 
+/* A service is told so many commands and replies. */
+static void served(size_t commands, size_t replies) {
+    submitted = polled = 99;
+    IS(lockrun_served(&service, &submitted, &polled), LOCKRUN_OK);
+    IS(submitted, commands);
+    IS(polled, replies);
+}
+
+/* While one is out nothing is told, and both numbers stay. */
+static void not_served(void) {
+    submitted = 11, polled = 13;
+    IS(lockrun_served(&service, &submitted, &polled), LOCKRUN_NOTHING);
+    IS(submitted, 11);
+    IS(polled, 13);
+}
+
+/* The stations of so many nodes and both sessions go back in order, are served, and are taken again. */
+static void served_meanwhile(int nodes, size_t commands, size_t replies) {
+    for (int k = 0; k < nodes; k++) {
+        not_served();
+        IS(lockrun_give(&service, &station[k]), LOCKRUN_OK);
+    }
+    IS(lockrun_give(&service, &ann), LOCKRUN_OK);
+    not_served();
+    IS(lockrun_give(&service, &ben), LOCKRUN_OK);
+    served(commands, replies);
+    for (int k = 0; k < nodes; k++) {
+        IS(lockrun_take_station(&service, &station[k]), LOCKRUN_OK);
+        not_served();
+    }
+    IS(lockrun_take_session(&service, &ann), LOCKRUN_OK);
+    IS(lockrun_take_session(&service, &ben), LOCKRUN_OK);
+}
+
 static void taking(void) {
+    served(0, 0);
     IS(lockrun_take_station(&service, &station[0]), LOCKRUN_OK);
+    not_served();
     IS(lockrun_take_station(&service, &station[1]), LOCKRUN_OK);
     IS(lockrun_take_station(&service, &none), LOCKRUN_NOTHING);
     IS(lockrun_take_session(&service, &ann), LOCKRUN_OK);
     IS(lockrun_take_session(&service, &ben), LOCKRUN_OK);
     IS(lockrun_take_session(&service, &none), LOCKRUN_NOTHING);
     IS(none.at != 0, 0);
+    served_meanwhile(2, 0, 0);
 }
 
 static void wrong_handles(void) {
     size_t held = 3, waiting = 5;
     uint8_t byte = 9;
+    submitted = 11, polled = 13;
     IS(lockrun_take_station(&ann, &none), LOCKRUN_WRONG_HANDLE);
     IS(lockrun_take_session(&ann, &none), LOCKRUN_WRONG_HANDLE);
     IS(lockrun_turn(&ann), LOCKRUN_WRONG_HANDLE);
@@ -72,6 +111,9 @@ static void wrong_handles(void) {
     IS(lockrun_client(&station[1]), 0);
     IS(lockrun_home(&station[1]), 0);
     IS(lockrun_give(&ann, &station[0]), LOCKRUN_WRONG_HANDLE);
+    IS(lockrun_served(&ann, &submitted, &polled), LOCKRUN_WRONG_HANDLE);
+    IS(lockrun_served(&station[0], &submitted, &polled), LOCKRUN_WRONG_HANDLE);
+    IS(submitted + polled, 11 + 13);
     IS(lockrun_finish(&ann, &journal), LOCKRUN_WRONG_HANDLE);
     IS(lockrun_end(&ann, &held, &waiting), LOCKRUN_WRONG_HANDLE);
     IS(lockrun_copy(&ann, 0, &byte, 1), 0);
@@ -94,6 +136,7 @@ static void submitting(void) {
     IS(lockrun_submit(&ann, LOCKRUN_TRY, 1, LOCKRUN_WRITE, 0), LOCKRUN_OK);
     IS(lockrun_submit(&ann, LOCKRUN_UNLOCK, 0, LOCKRUN_READ, 0), LOCKRUN_FULL);
     IS(lockrun_poll(&ann, &count), LOCKRUN_NOTHING);
+    served_meanwhile(2, 2, 0);
 }
 
 static void replies(void) {
@@ -107,6 +150,7 @@ static void replies(void) {
     IS(reply(&ben), LOCKRUN_FALSE);
     IS(lockrun_submit(&ben, LOCKRUN_LOCK, 1, LOCKRUN_WRITE, 0), LOCKRUN_OK);
     IS(reply(&ben), LOCKRUN_NOTHING);
+    served_meanwhile(2, 6, 5);
     IS(lockrun_submit(&ben, LOCKRUN_DROP, 1, 1, 0), LOCKRUN_OK);
     IS(lockrun_submit(&ann, LOCKRUN_DROP, 0, 0, 0), LOCKRUN_OK);
     IS(count, 7);
@@ -117,15 +161,18 @@ static void replies(void) {
     IS(count, 1);
     IS(lockrun_submit(&ann, LOCKRUN_UNLOCK, 0, LOCKRUN_READ, 0), LOCKRUN_OK);
     IS(reply(&ann), LOCKRUN_NOT_HELD);
+    served_meanwhile(2, 9, 9);
 }
 
 static void ends(void) {
+    size_t commands = 9, replies = 9;
     while (lockrun_left(&ann) > 0) {
         uint32_t code = lockrun_submit(&ann, LOCKRUN_TRY, 0, LOCKRUN_READ, 0);
         if (code == LOCKRUN_FULL) break;
         IS(code, LOCKRUN_OK);
+        commands++;
         rest();
-        lockrun_poll(&ann, &count);
+        replies += lockrun_poll(&ann, &count) != LOCKRUN_NOTHING;
     }
     IS(lockrun_turn(&station[0]), LOCKRUN_LOG_FULL);
     IS(lockrun_give(&service, &ann), LOCKRUN_OK);
@@ -133,12 +180,13 @@ static void ends(void) {
     IS(lockrun_give(&service, &station[0]), LOCKRUN_OK);
     IS(lockrun_give(&service, &station[1]), LOCKRUN_OK);
     IS(lockrun_give(&service, &ben), LOCKRUN_OK);
+    served(commands, replies);
 }
 
 /* One client alone, whose share is used up; and what is held and waits at the end. */
 static void whole_life(void) {
     uint8_t bytes[64];
-    size_t held, waiting;
+    size_t held, waiting, commands = 2, replies = 1;
     IS(open_text("nodes 1\nset a\nclient c at 0\nclient d at 0\n", 1 << 20, 4), LOCKRUN_OK);
     IS(lockrun_take_station(&service, &station[0]), LOCKRUN_OK);
     IS(lockrun_take_session(&service, &ann), LOCKRUN_OK);
@@ -150,12 +198,15 @@ static void whole_life(void) {
         IS(lockrun_submit(&ann, LOCKRUN_TRY, 0, LOCKRUN_WRITE, 0), LOCKRUN_OK);
         do lockrun_turn(&station[0]);
         while (lockrun_poll(&ann, &count) == LOCKRUN_NOTHING);
+        commands++, replies++;
+        if (commands % 20 == 0) served_meanwhile(1, commands, replies);
     }
     IS(lockrun_submit(&ann, LOCKRUN_TRY, 0, LOCKRUN_WRITE, 0), LOCKRUN_SPENT);
     while (lockrun_turn(&station[0]) == LOCKRUN_OK) {}
     IS(lockrun_give(&service, &station[0]), LOCKRUN_OK);
     IS(lockrun_give(&service, &ann), LOCKRUN_OK);
     IS(lockrun_give(&service, &ben), LOCKRUN_OK);
+    served(commands, replies);
     IS(lockrun_finish(&service, &journal), LOCKRUN_OK);
     IS(service.at != 0, 0);
     IS(lockrun_end(&journal, &held, &waiting), LOCKRUN_OK);
@@ -176,17 +227,25 @@ static void patience(void) {
     lockrun_nodes nodes;
     IS(lockrun_nodes_open(&nodes, script, sizeof script - 1, 1 << 20), LOCKRUN_OK);
     lockrun_caller *first = &nodes.caller[0], *second = &nodes.caller[1];
+    IS(lockrun_nodes_served(&nodes, &submitted, &polled), LOCKRUN_OK);
+    IS(submitted + polled, 0);
     IS(lockrun_lock(first, 0, LOCKRUN_READ, LOCKRUN_FOREVER), LOCKRUN_GRANTED);
     IS(lockrun_try(second, 0, LOCKRUN_WRITE, LOCKRUN_FOREVER), LOCKRUN_FALSE);
     IS(lockrun_lock(second, 0, LOCKRUN_WRITE, 5), LOCKRUN_WAITS);
     IS(lockrun_unlock(second, 0, LOCKRUN_WRITE, 5), LOCKRUN_WAITS);
     IS(lockrun_wait(second, 0), LOCKRUN_WAITS);
+    IS(lockrun_nodes_served(&nodes, &submitted, &polled), LOCKRUN_OK);
+    IS(submitted, 3);
+    IS(polled, 2);
     IS(lockrun_unlock(first, 0, LOCKRUN_READ, LOCKRUN_FOREVER), LOCKRUN_UNLOCKED);
     IS(lockrun_wait(second, LOCKRUN_FOREVER), LOCKRUN_GRANTED);
     IS(lockrun_wait(second, LOCKRUN_FOREVER), LOCKRUN_NOTHING);
     IS(lockrun_change(second, 0, LOCKRUN_WRITE, LOCKRUN_READ, LOCKRUN_FOREVER), LOCKRUN_CHANGED);
     IS(lockrun_drop(second, 0, 1, LOCKRUN_FOREVER), LOCKRUN_DROPPED);
     IS(second->dropped, 1);
+    IS(lockrun_nodes_served(&nodes, &submitted, &polled), LOCKRUN_OK);
+    IS(submitted, 6);
+    IS(polled, 6);
     IS(lockrun_nodes_finish(&nodes, &journal), LOCKRUN_OK);
     lockrun_free(&journal);
 }

@@ -9,7 +9,7 @@
  *   time. It may go from thread to thread if the calls are ordered: by a mutex, pthread_create or pthread_join, or a
  *   sequentially consistent atomic. Two sessions, or a session and its station, may be in calls at the same time.
  * - lockrun_finish wants a service that has all stations in the order of nodes, and all sessions in the order of clients,
- *   which one lockrun_open made.
+ *   which one lockrun_open made. lockrun_served wants them so if there are as many as all.
  * - No call comes from a signal handler, nor from the forked child of a process with threads.
  * - malloc, realloc and free are those of one allocator.
  */
@@ -40,7 +40,7 @@ enum lockrun_kind { LOCKRUN_LOCK, LOCKRUN_TRY, LOCKRUN_UNLOCK, LOCKRUN_CHANGE, L
 
 enum lockrun_code {
     LOCKRUN_OK,
-    LOCKRUN_NOTHING,      /* no station or session is left; no move was made; no reply is known */
+    LOCKRUN_NOTHING,      /* no station or session is left; no move was made; no reply is known; one is still out */
     LOCKRUN_WRONG_HANDLE, /* it stands for something else; nothing happened */
     LOCKRUN_NO_MEMORY,
     LOCKRUN_BAD_ARGUMENT, /* a number out of range, or a command that names what the script doesn't have */
@@ -89,6 +89,10 @@ uint32_t lockrun_home(lockrun_session *session);
 
 /* Gives a station or a session back to its service: behind all others that it has. `given` is {0} then. */
 uint32_t lockrun_give(lockrun_service *service, lockrun_handle *given);
+
+/* How many commands were submitted at all sessions so far, and how many replies were polled. There is a run in which they
+ * were served so, and the service goes on: take the stations and sessions again. LOCKRUN_NOTHING if one of them is out. */
+uint32_t lockrun_served(lockrun_service *service, size_t *submitted, size_t *polled);
 
 /* Ends the service. `service` is {0} then, also without memory: then all is lost. */
 uint32_t lockrun_finish(lockrun_service *service, lockrun_journal *journal);

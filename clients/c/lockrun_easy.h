@@ -197,14 +197,40 @@ static inline void lockrun_nodes_rest(lockrun_nodes *nodes) {
             if (lockrun_turn_node(nodes, k) == LOCKRUN_OK) quiet = -1;
 }
 
-/* Ends the nodes, while no other thread is in a call: the journal of their run. */
-static inline uint32_t lockrun_nodes_finish(lockrun_nodes *nodes, lockrun_journal *journal) {
+/* Gives all stations and sessions back, in order. */
+static inline uint32_t lockrun_nodes_give(lockrun_nodes *nodes) {
     uint32_t code = LOCKRUN_OK;
-    lockrun_nodes_rest(nodes);
     for (size_t k = 0; k < nodes->count && code == LOCKRUN_OK; k++)
         code = lockrun_give(&nodes->service, &nodes->node[k].station);
     for (size_t k = 0; k < nodes->callers && code == LOCKRUN_OK; k++)
         code = lockrun_give(&nodes->service, &nodes->caller[k].session);
+    return code;
+}
+
+/* Takes those again that were given back. */
+static inline uint32_t lockrun_nodes_take(lockrun_nodes *nodes) {
+    uint32_t code = LOCKRUN_OK;
+    for (size_t k = 0; k < nodes->count && code == LOCKRUN_OK; k++)
+        if (!nodes->node[k].station.at) code = lockrun_take_station(&nodes->service, &nodes->node[k].station);
+    for (size_t k = 0; k < nodes->callers && code == LOCKRUN_OK; k++)
+        if (!nodes->caller[k].session.at) code = lockrun_take_session(&nodes->service, &nodes->caller[k].session);
+    return code;
+}
+
+/* How many commands all callers submitted so far, and how many replies they polled, while no other thread is in a call.
+ * After LOCKRUN_NO_MEMORY no other call is made until this one, made again, answers LOCKRUN_OK; or the nodes are freed. */
+static inline uint32_t lockrun_nodes_served(lockrun_nodes *nodes, size_t *submitted, size_t *polled) {
+    uint32_t code = lockrun_nodes_take(nodes);
+    if (code == LOCKRUN_OK) code = lockrun_nodes_give(nodes);
+    if (code == LOCKRUN_OK) code = lockrun_served(&nodes->service, submitted, polled);
+    uint32_t taken = lockrun_nodes_take(nodes);
+    return code == LOCKRUN_OK ? taken : code;
+}
+
+/* Ends the nodes, while no other thread is in a call: the journal of their run. */
+static inline uint32_t lockrun_nodes_finish(lockrun_nodes *nodes, lockrun_journal *journal) {
+    lockrun_nodes_rest(nodes);
+    uint32_t code = lockrun_nodes_give(nodes);
     if (code == LOCKRUN_OK) code = lockrun_finish(&nodes->service, journal);
     lockrun_nodes_free(nodes);
     return code;

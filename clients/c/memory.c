@@ -149,6 +149,15 @@ static void compare(lockrun_journal *journal) {
     }
 }
 
+/* It wants no memory, and makes no move. */
+static void serve(void) {
+    size_t submitted = 0, polled = 0, count = sizeof replies / sizeof *replies;
+    unsigned long before = asked;
+    want(lockrun_served(&service, &submitted, &polled) == LOCKRUN_OK, "served");
+    want(submitted == count && polled == count, "other commands or replies");
+    want(asked == before, "memory is wanted to be served");
+}
+
 static void live(void) {
     lockrun_journal journal = {0};
     asked = told = 0;
@@ -158,6 +167,7 @@ static void live(void) {
     lend();
     ask_all();
     give_all(&service);
+    serve();
     if (wants_memory(FINISH, lockrun_finish(&service, &journal))) {
         want(!service.at && !journal.at, "a service or a journal of no memory");
     } else {

@@ -10,6 +10,8 @@ import time
 from lockrun import Nodes, StillWaits
 
 ACCOUNTS, FIRST, AMOUNT = 4, 1000, 5
+# How many transfers all callers make together before it is asked what they were served; and the commands of a transfer.
+BETWEEN, COMMANDS = 100, 6
 # Plain numbers: nothing but the locks keeps callers apart.
 MONEY = [FIRST] * ACCOUNTS
 
@@ -34,13 +36,32 @@ def transfer(session, from_account, to_account):
 
 
 def call(session, transfers, faults):
-    """All transfers of a caller."""
+    """These transfers of a caller."""
     try:
-        for k in range(transfers):
+        for k in transfers:
             from_account = (session.client + k) % ACCOUNTS
             transfer(session, from_account, (from_account + 1 + k % (ACCOUNTS - 1)) % ACCOUNTS)
     except Exception as fault:
         faults.append(fault)
+
+
+def make_round(nodes, transfers):
+    """All callers make these transfers, each on a thread."""
+    faults = []
+    threads = [threading.Thread(target=call, args=(session, transfers, faults)) for session in nodes.sessions]
+    for thread in threads:
+        thread.start()
+    for thread in threads:
+        thread.join()
+    if faults:
+        sys.exit(f'bank.py: {faults[0]}')
+
+
+def compare(nodes, commands):
+    """Each command was answered, and the reply was polled."""
+    submitted, polled = nodes.served()
+    if submitted != commands or polled != commands:
+        sys.exit(f'bank.py: {submitted} commands, {polled} replies, and callers were told {commands}')
 
 
 def audit(session):
@@ -60,15 +81,15 @@ def main():
     if len(sys.argv) != 6:
         sys.exit('usage: bank.py CALLERS NODES TRANSFERS SCRIPT JOURNAL')
     callers, count, transfers = map(int, sys.argv[1:4])
-    nodes, faults = Nodes(script(callers, count)), []
-    threads = [threading.Thread(target=call, args=(session, transfers, faults)) for session in nodes.sessions]
-    for thread in threads:
-        thread.start()
-    for thread in threads:
-        thread.join()
-    if faults:
-        sys.exit(f'bank.py: {faults[0]}')
+    nodes = Nodes(script(callers, count))
+    compare(nodes, 0)
+    each = -(-BETWEEN // callers)
+    for first in range(0, transfers, each):
+        last = min(transfers, first + each)
+        make_round(nodes, range(first, last))
+        compare(nodes, last * callers * COMMANDS)
     total = audit(nodes.session('caller0'))
+    compare(nodes, transfers * callers * COMMANDS + 2)
     journal = nodes.finish()
     for name, text in ((sys.argv[4], journal.script), (sys.argv[5], journal.text)):
         with open(name, 'w', encoding='ascii') as file:

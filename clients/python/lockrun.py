@@ -51,6 +51,7 @@ EXPORTS = {
     'lockrun_client': (c_uint32, AT),
     'lockrun_home': (c_uint32, AT),
     'lockrun_give': (c_uint32, AT, AT),
+    'lockrun_served': (c_uint32, AT, SIZE, SIZE),
     'lockrun_finish': (c_uint32, AT, AT),
     'lockrun_copy': (c_size_t, AT, c_size_t, BYTES, c_size_t),
     'lockrun_script': (c_size_t, AT, c_size_t, BYTES, c_size_t),
@@ -134,12 +135,36 @@ class Nodes:
         """A turn of each node: whether one made a move."""
         return any([self.turn(node) for node in range(len(self.stations))])
 
+    def served(self):
+        """How many commands all sessions submitted so far, and how many replies they polled, while no other thread is in a
+        call. There is a run in which they were served so, and the nodes go on."""
+        submitted, polled = c_size_t(), c_size_t()
+        try:
+            self._give_all()
+            said(self.library.lockrun_served(self.service, submitted, polled))
+        finally:
+            self._take_again()
+        return submitted.value, polled.value
+
+    def _give_all(self):
+        for handle in [station for station, _ in self.stations] + [session.handle for session in self.sessions]:
+            said(self.library.lockrun_give(self.service, handle))
+
+    def _take_again(self):
+        """Takes what was given back. Want of memory loses nothing, so it is tried again."""
+        for take, handles in ((self.library.lockrun_take_station, [station for station, _ in self.stations]),
+                              (self.library.lockrun_take_session, [session.handle for session in self.sessions])):
+            for handle in handles:
+                while not handle.at and (code := take(self.service, handle)) != OK:
+                    if code != NO_MEMORY:
+                        raise LockError(code)
+                    time.sleep(LONGEST_NAP)
+
     def finish(self):
         """Ends the nodes, while no other thread is in a call: what they did."""
         while any([self.turn_all(), self.turn_all()]):
             pass
-        for handle in [station for station, _ in self.stations] + [session.handle for session in self.sessions]:
-            said(self.library.lockrun_give(self.service, handle))
+        self._give_all()
         journal = Handle()
         said(self.library.lockrun_finish(self.service, journal))
         return Journal(self.library, journal)

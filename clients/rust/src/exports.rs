@@ -23,6 +23,7 @@ extern "C" {
     pub fn lockrun_client(session: *mut Handle) -> u32;
     pub fn lockrun_home(session: *mut Handle) -> u32;
     pub fn lockrun_give(service: *mut Handle, given: *mut Handle) -> u32;
+    pub fn lockrun_served(service: *mut Handle, submitted: *mut usize, polled: *mut usize) -> u32;
     pub fn lockrun_finish(service: *mut Handle, journal: *mut Handle) -> u32;
     pub fn lockrun_copy(journal: *mut Handle, from: usize, out: *mut u8, room: usize) -> usize;
     pub fn lockrun_script(journal: *mut Handle, from: usize, out: *mut u8, room: usize) -> usize;
@@ -32,6 +33,10 @@ extern "C" {
 
 impl Handle {
     pub const NONE: Handle = Handle { at: null_mut() };
+
+    pub fn is_none(&self) -> bool {
+        self.at.is_null()
+    }
 }
 
 impl Drop for Handle {

@@ -1,5 +1,6 @@
 //! Sessions of the lock service for Rust. Each duty of a caller of lockrun.h is met here by a type: a handle is never
-//! copied, `&mut` gives it to one call at a time, and `Nodes::finish` tests that it has all sessions of its own.
+//! copied, `&mut` gives it to one call at a time, and `Nodes::served` and `Nodes::finish` test that they have all sessions of
+//! their own.
 //!
 //! No thread runs the nodes: whoever waits turns them, one thread at a time for each node.
 #![deny(unsafe_op_in_unsafe_fn)]
@@ -10,5 +11,5 @@ mod nodes;
 mod session;
 
 pub use error::Error;
-pub use nodes::{open, Journal, Nodes};
+pub use nodes::{open, Journal, Nodes, Served};
 pub use session::{Guard, Mode, Session};

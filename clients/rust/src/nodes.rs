@@ -1,8 +1,9 @@
 //! Nodes: opened, turned by whoever waits, and finished.
 use crate::error::{check, Error};
 use crate::exports::{self, Handle};
-use crate::session::Session;
-use std::sync::{Arc, Mutex, TryLockError};
+use crate::session::{Session, LONGEST_NAP};
+use std::sync::{Arc, Mutex, MutexGuard, TryLockError};
+use std::thread::sleep;
 
 /// The stations, each behind a lock that no thread waits for.
 pub(crate) struct Stations(Vec<Mutex<Handle>>);
@@ -23,6 +24,18 @@ pub struct Journal {
     pub waiting: usize,
 }
 
+/// What all sessions were served so far.
+#[derive(Clone, Copy, Debug, PartialEq, Eq)]
+pub struct Served {
+    /// How many commands they submitted.
+    pub submitted: usize,
+    /// How many replies they polled.
+    pub polled: usize,
+}
+
+/// `lockrun_take_station` or `lockrun_take_session`.
+type Take = unsafe extern "C" fn(*mut Handle, *mut Handle) -> u32;
+
 /// Opens the script's nodes, sets and clients: its nodes, and a session for each client, in order. Each node makes at most
 /// `limit` moves.
 pub fn open(script: &str, limit: u32) -> Result<(Nodes, Vec<Session>), Error> {
@@ -36,10 +49,7 @@ pub fn open(script: &str, limit: u32) -> Result<(Nodes, Vec<Session>), Error> {
     Ok((nodes, sessions.into_iter().map(|raw| Session::new(raw, stations.clone())).collect()))
 }
 
-fn take_all(
-    service: &mut Handle,
-    take: unsafe extern "C" fn(*mut Handle, *mut Handle) -> u32,
-) -> Result<Vec<Handle>, Error> {
+fn take_all(service: &mut Handle, take: Take) -> Result<Vec<Handle>, Error> {
     let mut found = Vec::new();
     loop {
         let mut next = Handle::NONE;
@@ -79,31 +89,81 @@ impl Stations {
 }
 
 impl Nodes {
+    /// What all sessions were served so far: there is a run in which they were served so, and the nodes go on. It borrows all
+    /// sessions that were opened with them, in any order.
+    pub fn served(&mut self, sessions: &mut [Session]) -> Result<Served, Error> {
+        let mut sessions: Vec<&mut Session> = sessions.iter_mut().collect();
+        sessions.sort_by_key(|session| session.client());
+        if !self.are_all(sessions.iter().map(|session| &**session)) {
+            return Err(Error::OtherSessions);
+        }
+        let mut stations: Vec<MutexGuard<Handle>> = self.stations.0.iter().map(lock).collect();
+        let mut stations: Vec<&mut Handle> = stations.iter_mut().map(|station| &mut **station).collect();
+        let mut sessions: Vec<&mut Handle> = sessions.into_iter().map(Session::handle).collect();
+        let mut all = stations.iter_mut().chain(&mut sessions);
+        let given = all.try_for_each(|handle| give(&mut self.service, handle));
+        let served = given.and_then(|()| served(&mut self.service));
+        for station in stations {
+            take_again(&mut self.service, exports::lockrun_take_station, station);
+        }
+        for session in sessions {
+            take_again(&mut self.service, exports::lockrun_take_session, session);
+        }
+        served
+    }
+
+    // Whether these, which are in the order of clients, are all sessions that were opened with the nodes.
+    fn are_all<'s>(&self, sessions: impl ExactSizeIterator<Item = &'s Session>) -> bool {
+        let is_own = |(client, session): (usize, &Session)| {
+            session.is_of(&self.stations) && session.client() as usize == client
+        };
+        sessions.len() == self.clients && sessions.enumerate().all(is_own)
+    }
+
     /// Lets all nodes make turns until none makes a move, and ends them. It takes all sessions that were opened with them,
     /// in any order. If these aren't they, or an error comes, all is dropped.
     pub fn finish(mut self, mut sessions: Vec<Session>) -> Result<Journal, Error> {
         sessions.sort_by_key(Session::client);
-        let own = sessions.iter().all(|session| session.is_of(&self.stations));
-        let each = sessions.iter().enumerate().all(|(client, session)| session.client() as usize == client);
-        if !own || !each || sessions.len() != self.clients {
+        if !self.are_all(sessions.iter()) {
             return Err(Error::OtherSessions);
         }
         while self.stations.turn_all()? | self.stations.turn_all()? {}
         let sessions: Vec<Handle> = sessions.into_iter().map(Session::into_handle).collect();
         let stations = Arc::into_inner(self.stations).ok_or(Error::OtherSessions)?;
         for station in stations.0 {
-            give(&mut self.service, station.into_inner().unwrap_or_else(|poisoned| poisoned.into_inner()))?;
+            let mut station = station.into_inner().unwrap_or_else(|poisoned| poisoned.into_inner());
+            give(&mut self.service, &mut station)?;
         }
-        for session in sessions {
-            give(&mut self.service, session)?;
+        for mut session in sessions {
+            give(&mut self.service, &mut session)?;
         }
         finish(self.service)
     }
 }
 
-fn give(service: &mut Handle, mut given: Handle) -> Result<(), Error> {
+// No other thread has it: each that turns nodes has a session.
+fn lock(station: &Mutex<Handle>) -> MutexGuard<'_, Handle> {
+    station.lock().unwrap_or_else(|poisoned| poisoned.into_inner())
+}
+
+fn give(service: &mut Handle, given: &mut Handle) -> Result<(), Error> {
     // SAFETY: two handles, each of which stands for something.
-    check(unsafe { exports::lockrun_give(service, &mut given) })
+    check(unsafe { exports::lockrun_give(service, given) })
+}
+
+// Takes what was given back, if it was. Want of memory loses nothing, so it is tried again.
+fn take_again(service: &mut Handle, take: Take, given: &mut Handle) {
+    // SAFETY: the service stands for something, and has what was given; the other handle stands for nothing.
+    while given.is_none() && unsafe { take(service, given) } != exports::OK {
+        sleep(LONGEST_NAP);
+    }
+}
+
+fn served(service: &mut Handle) -> Result<Served, Error> {
+    let (mut submitted, mut polled) = (0, 0);
+    // SAFETY: all stations and all sessions of one `open` were given back in order.
+    check(unsafe { exports::lockrun_served(service, &mut submitted, &mut polled) })?;
+    Ok(Served { submitted, polled })
 }
 
 fn finish(mut service: Handle) -> Result<Journal, Error> {

@@ -10,7 +10,7 @@ use std::time::{Duration, Instant};
 const OWN: u32 = 2;
 const SPINS: u32 = 20;
 const YIELDS: u32 = 200;
-const LONGEST_NAP: Duration = Duration::from_millis(1);
+pub(crate) const LONGEST_NAP: Duration = Duration::from_millis(1);
 
 #[derive(Clone, Copy, Debug, PartialEq, Eq)]
 pub enum Mode {
@@ -50,6 +50,10 @@ impl Session {
 
     pub(crate) fn is_of(&self, stations: &Arc<Stations>) -> bool {
         Arc::ptr_eq(&self.stations, stations)
+    }
+
+    pub(crate) fn handle(&mut self) -> &mut Handle {
+        &mut self.raw
     }
 
     pub(crate) fn into_handle(self) -> Handle {

@@ -2,5 +2,6 @@ pub mod Handles
 pub mod Calls
 pub mod Taking
 pub mod Journals
+pub mod Serving
 pub mod Told
 pub mod ServicesTold

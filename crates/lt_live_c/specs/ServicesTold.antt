@@ -1,5 +1,6 @@
--- What C is told of services and journals, in literals: what was taken, given, opened and finished, or why nothing was.
-use Rattle.std.specs.Prelude.{◌≡◌, ◌≢◌, ◌<◌, ◌≤◌, ◌⊎◌, ◌∷◌, [], ℕ, List, Ok, Option, Some, None, codes, length}
+-- What C is told of services and journals, in literals: what was taken, given, opened, finished and served, or why nothing
+-- was.
+use Rattle.std.specs.Prelude.{◌≡◌, ◌≢◌, ◌<◌, ◌≤◌, ◌⊎◌, ◌+◌, ◌∷◌, [], ℕ, List, Ok, Option, Some, None, codes, length}
 use Rattle.lt_modes.specs.declared.command.Command.TheVariants.{Lock}
 use Rattle.lt_modes.specs.declared.event.Event.TheVariants.{Grant, Wait}
 use Rattle.lt_modes.specs.declared.mode.Mode.TheVariants.{Write}
@@ -11,14 +12,17 @@ use Rattle.lt_script.specs.Printing.{print_of}
 use Rattle.lt_script.specs.Reading.{read_of}
 use Rattle.lt_journal.specs.RunLines.{text_of}
 use Rattle.lt_live.specs.declared.ends.Session.{Session}
-use Rattle.lt_live.specs.Live.{AreLive, IsServedRun, LiveScript}
+use Rattle.lt_live.specs.Live.{AreLive, IsServedRun, IsServedNow, LiveScript, EachStation, EachSession, SaysSame}
+use Rattle.lt_live.specs.Served.{MakesNoMove}
 use Rattle.lt_live.specs.Stations.{StationData, IsOpen}
+use Rattle.lt_live.specs.Words.{submitted, polled}
 use Rattle.lt_live_c.specs.declared.content.Content.{Content}
 use Rattle.lt_live_c.specs.declared.content.Content.TheVariants as contents
 use Rattle.lt_live_c.specs.declared.journal.Journal.{Journal}
 use Rattle.lt_live_c.specs.declared.service.Service.{Service}
 use Rattle.lt_live_c.specs.Taking.{IsWholeHandle, IsOfOther, HandleTakesStation, HandleTakesSession, HandleHasNoStation, HandleHasNoSession, HandleGives, HandleKeeps, HandleGiveRefused}
 use Rattle.lt_live_c.specs.Journals.{HandleOpened, OpenRefused, HandleFinishes, FinishRefused, TellsOf, HandleTellsEnd, CopiesFrom, text_of_content, script_at}
+use Rattle.lt_live_c.specs.Serving.{HandleTellsServed, HandleNotTold, IsWholeHandleIfAll}
 use Rattle.lt_live_c.specs.Told.{kind_of}
 
 -- the handle stands for a service of which this is so
@@ -199,3 +203,44 @@ pub record CopiesTold : Type 0 where
   pub script : (journal : Journal) → script_at (Some (contents.Journal journal)) ≡ journal.script.items
   pub no_text : (content : Content) → kind_of content ≢ 3 → text_of_content (Some content) ≡ []
   pub no_script : (content : Content) → kind_of content ≢ 3 → script_at (Some content) ≡ []
+
+-- this is so of a service of the script that has all, and of what it is once it was told what it served
+abbrev pub AfterServed : ScriptData → (Service → Service → Type 0) → Type 0
+AfterServed first Told =
+    (s : Service) (submits polls : ℕ) (new : Option Content) → AreLive first s.stations.items s.sessions.items
+    → HandleTellsServed submits polls (Some (contents.Service s)) new → OfService new (λ t. Told s t)
+
+-- this is so of what is counted at two sessions
+abbrev pub CountedAtTwo : (Session → Session → ℕ → ℕ → Type 0) → Type 0
+CountedAtTwo Told =
+    (x y : Session) (stations : List StationData) (s : Service) (submits polls : ℕ) (new : Option Content)
+    → HandleTellsServed submits polls (Some (contents.Service s)) new → HasAll stations (x ∷ y ∷ []) new → Told x y submits polls
+
+-- nothing is told of a service that has these stations and sessions
+abbrev pub NeverTold : List StationData → List Session → Type 0
+NeverTold stations sessions =
+    (submits polls : ℕ) (old new : Option Content) → HasAll stations sessions old → HandleTellsServed submits polls old new → ⊥
+
+-- what is told of a service that goes on; and why nothing is
+pub record ServedTold : Type 0 where
+  pub served : (first : ScriptData) → AfterServed first (λ s t. IsServedNow first t.sessions.items)
+  pub live : (first : ScriptData) → AfterServed first (λ s t. AreLive first t.stations.items t.sessions.items)
+  pub stations : (first : ScriptData)
+      → AfterServed first (λ s t. EachStation MakesNoMove s.stations.items t.stations.items)
+  pub sessions : (first : ScriptData) → AfterServed first (λ s t. EachSession SaysSame s.sessions.items t.sessions.items)
+  pub submitted_are : CountedAtTwo (λ x y submits polls. submits ≡ length (submitted x) + length (submitted y))
+  pub polled_are : CountedAtTwo (λ x y submits polls. polls ≡ length (polled x) + length (polled y))
+  pub no_station : (sessions : List Session) → NeverTold [] sessions
+  pub a_station_out : (x : StationData) (sessions : List Session) → x.runner.node.script.nodes ≡ 2
+      → NeverTold (x ∷ []) sessions
+  pub a_session_out : (x : StationData) → x.runner.node.script ≡ client_script → NeverTold (x ∷ []) []
+  pub never_of_others : (content : Content) (submits polls : ℕ) (new : Option Content) → kind_of content ≢ 0
+      → HandleTellsServed submits polls (Some content) new → ⊥
+  pub all_back : (first : ScriptData) (s : Service) (code : ℕ) → AreLive first s.stations.items s.sessions.items
+      → HandleNotTold code (Some (contents.Service s)) → ⊥
+  pub nothing_of_others : (content : Content) → kind_of content ≢ 0 → HandleNotTold 1 (Some content) → ⊥
+  pub wrong : (s : Service) → HandleNotTold 2 (Some (contents.Service s)) → ⊥
+  pub served_codes : (code : ℕ) (content : Content) → HandleNotTold code (Some content) → (code ≡ 1) ⊎ (code ≡ 2)
+  pub whole : (first : ScriptData) (s : Service) → AreLive first s.stations.items s.sessions.items
+      → IsWholeHandleIfAll (Some (contents.Service s))
+  pub may_lack : (s : Service) → s.stations.items ≡ [] → IsWholeHandleIfAll (Some (contents.Service s))

@@ -1,6 +1,6 @@
 // What the calls' contracts say, in literals.
 ghost use Rattle.lt_live_c.specs.Told.{CallCodesAre, ReplyNumbersAre, ModeNumbersAre, CommandNumbersAre, TurnsTold, SubmitsTold, PollsTold, KindsTold, AsksTold};
-ghost use Rattle.lt_live_c.specs.ServicesTold.{TakesTold, GivesTold, OpensTold, FinishesTold, CopiesTold};
+ghost use Rattle.lt_live_c.specs.ServicesTold.{TakesTold, GivesTold, OpensTold, FinishesTold, CopiesTold, ServedTold};
 
 /// What C is told, by the numbers of `clients/c/lockrun.h`: what follows from each code of a call, field by field.
 ///
@@ -20,4 +20,5 @@ pub fn law_c_told()
     ensures opens { OpensTold }
     ensures finishes { FinishesTold }
     ensures copies { CopiesTold }
+    ensures served { ServedTold }
 {}

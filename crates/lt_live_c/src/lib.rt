@@ -16,6 +16,7 @@ mod limits;
 mod parts;
 mod service;
 mod services;
+mod serving;
 mod sessions;
 mod taking;
 mod texts;

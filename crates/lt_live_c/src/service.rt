@@ -5,6 +5,7 @@ ghost use Rattle.lt_spec.specs.declared.limits.TheConstants.{MAX_COMMANDS};
 ghost use Rattle.lt_live.specs.Stations.{IsOpen};
 ghost use Rattle.lt_live.specs.Live.{LiveScript};
 ghost use Rattle.lt_live_c.specs.Journals.{IsOpenedFrom, OpenRefused, fits_for_c, IsJournalOfService};
+ghost use Rattle.lt_live_c.specs.Serving.{has_all};
 ghost use Rattle.lt_live_c.specs.Taking.{TakesFirstStation, TakesFirstSession};
 
 use crate::code::{BAD_ARGUMENT, BAD_SCRIPT, NO_MEMORY};
@@ -67,6 +68,18 @@ impl Service {
         let (script, run) = finish(alloc, self.stations, self.sessions)?;
         let journal = Journal::of(alloc, &script, &run)?;
         Ok(journal)
+    }
+
+    /// Whether all stations and sessions that it gave out are back.
+    pub fn has_all(&self) -> bool
+        ensures { result ≡ has_all self.now }
+    {
+        let Some(first) = self.stations.first() else {
+            return false;
+        };
+        let script = first.script();
+        self.stations.len() == usize::from(script.nodes())
+            && self.sessions.len() == usize::from(script.clients())
     }
 
     pub fn next_station(&mut self) -> Option<Station>

@@ -1,6 +1,7 @@
 // The calls on services.
 ghost use Rattle.std.specs.Prelude.{◌≡◌, ◌≢◌, None, IsSome};
 ghost use Rattle.lt_live_c.specs.Taking.{IsWholeHandle, IsOfOther, HandleTakesStation, HandleTakesSession, HandleHasNoStation, HandleHasNoSession, HandleGives, HandleKeeps, HandleGiveRefused};
+ghost use Rattle.lt_live_c.specs.Serving.{IsWholeHandleIfAll, HandleTellsServed, HandleNotTold};
 ghost use Rattle.lt_live_c.specs.Journals.{HandleOpened, OpenRefused, HandleFinishes, FinishRefused};
 
 use crate::boxes::{put, room, take};
@@ -9,6 +10,7 @@ use crate::content::Content;
 use crate::handle::Handle;
 use crate::journal::Journal;
 use crate::service::Service;
+use crate::serving::tell_served;
 use crate::taking::{give_back, journal_of, next_session, next_station, stands_for_service};
 use std::alloc::Global;
 use std::mem::replace;
@@ -108,6 +110,36 @@ pub extern "C" fn lockrun_give(alloc: Global, service: &mut Handle, given: &mut 
             put(room, back, given);
             code
         }
+    }
+}
+
+/// Tells how many commands were submitted to a service so far, and how many replies were polled, once all its stations
+/// and sessions were given back in order. There is a run in which they were served so, and the service goes on.
+#[unsafe(no_mangle)]
+pub extern "C" fn lockrun_served(
+    alloc: Global,
+    service: &mut Handle,
+    submitted: &mut usize,
+    polled: &mut usize,
+) -> u32
+    requires some { IsSome service.old.value }
+    requires whole { IsWholeHandleIfAll service.old.value }
+    ensures some { IsSome service.new.value }
+    ensures tells { result ≡ OK → HandleTellsServed submitted.new polled.new service.old.value service.new.value }
+    ensures keeps { result ≢ OK → service.new.value ≡ service.old.value }
+    ensures untold { result ≢ OK → (submitted.new ≡ submitted.old) × (polled.new ≡ polled.old) }
+    ensures refused { result ≢ OK → HandleNotTold result service.old.value }
+{
+    let mut inside = take(alloc, service);
+    let told = tell_served(&mut inside);
+    *service = Handle::of(inside);
+    match told {
+        Ok(totals) => {
+            *submitted = totals.submitted;
+            *polled = totals.polled;
+            OK
+        }
+        Err(code) => code,
     }
 }
 

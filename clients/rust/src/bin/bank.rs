@@ -2,9 +2,10 @@
 //!
 //! usage: bank CALLERS NODES TRANSFERS SCRIPT JOURNAL: it writes the script of what was asked, and the journal, into these
 //! files.
-use lockrun::{open, Error, Mode, Session};
+use lockrun::{open, Error, Mode, Nodes, Served, Session};
 use std::cell::UnsafeCell;
 use std::fs::write;
+use std::ops::Range;
 use std::thread::{scope, yield_now};
 use std::time::Duration;
 
@@ -12,6 +13,10 @@ const ACCOUNTS: usize = 4;
 const FIRST: i64 = 1000;
 const AMOUNT: i64 = 5;
 const LIMIT: u32 = 1 << 20;
+
+/// How many transfers all callers make together before it is asked what they were served; and the commands of a transfer.
+const BETWEEN: usize = 100;
+const COMMANDS: usize = 6;
 
 /// The set that stands for the whole bank. An account's set has the number after the account's.
 const BANK: u8 = 0;
@@ -53,11 +58,29 @@ fn transfer(session: &mut Session, money: &Money, from: usize, to: usize) -> Res
     Ok(())
 }
 
-fn call(session: &mut Session, money: &Money, transfers: usize) -> Result<(), Error> {
+fn call(session: &mut Session, money: &Money, transfers: Range<usize>) -> Result<(), Error> {
     let number = session.client() as usize;
-    for k in 0..transfers {
+    for k in transfers {
         let from = (number + k) % ACCOUNTS;
         transfer(session, money, from, (from + 1 + k % (ACCOUNTS - 1)) % ACCOUNTS)?;
+    }
+    Ok(())
+}
+
+// All callers make these transfers, each on a thread.
+fn make_round(sessions: &mut [Session], money: &Money, transfers: &Range<usize>) -> Result<(), Error> {
+    scope(|scope| {
+        let threads: Vec<_> =
+            sessions.iter_mut().map(|session| scope.spawn(|| call(session, money, transfers.clone()))).collect();
+        threads.into_iter().try_for_each(|thread| thread.join().expect("no caller panics"))
+    })
+}
+
+// Each command was answered, and the reply was polled.
+fn compare(nodes: &mut Nodes, sessions: &mut [Session], commands: usize) -> Result<(), Box<dyn std::error::Error>> {
+    let served = nodes.served(sessions)?;
+    if served != (Served { submitted: commands, polled: commands }) {
+        return Err(format!("{served:?}, and callers were told {commands}").into());
     }
     Ok(())
 }
@@ -85,15 +108,18 @@ fn main() -> Result<(), Box<dyn std::error::Error>> {
     let [_, callers, nodes, transfers, script_file, journal_file] = words.as_slice() else {
         return Err("usage: bank CALLERS NODES TRANSFERS SCRIPT JOURNAL".into());
     };
-    let (callers, nodes, transfers) = (callers.parse()?, nodes.parse()?, transfers.parse()?);
+    let (callers, nodes, transfers): (usize, usize, usize) = (callers.parse()?, nodes.parse()?, transfers.parse()?);
     let money = Money(std::array::from_fn(|_| UnsafeCell::new(FIRST)));
-    let (nodes, mut sessions) = open(&script(callers, nodes), LIMIT)?;
-    scope(|scope| {
-        let threads: Vec<_> =
-            sessions.iter_mut().map(|session| scope.spawn(|| call(session, &money, transfers))).collect();
-        threads.into_iter().try_for_each(|thread| thread.join().expect("no caller panics"))
-    })?;
+    let (mut nodes, mut sessions) = open(&script(callers, nodes), LIMIT)?;
+    compare(&mut nodes, &mut sessions, 0)?;
+    let each = BETWEEN.div_ceil(callers);
+    for first in (0..transfers).step_by(each) {
+        let last = transfers.min(first + each);
+        make_round(&mut sessions, &money, &(first..last))?;
+        compare(&mut nodes, &mut sessions, last * callers * COMMANDS)?;
+    }
     let sum = audit(&mut sessions[0], &money)?;
+    compare(&mut nodes, &mut sessions, transfers * callers * COMMANDS + 2)?;
     let journal = nodes.finish(sessions)?;
     write(script_file, &journal.script)?;
     write(journal_file, &journal.text)?;

@@ -2,6 +2,7 @@ use Rattle.lt_live_c.proofs.ToldOpened.{call_codes_are, reply_numbers_are, mode_
 use Rattle.lt_live_c.proofs.KindsOpened.{kinds_told, asks_told}
 use Rattle.lt_live_c.proofs.TakingOpened.{takes_told, gives_told}
 use Rattle.lt_live_c.proofs.ServicesOpened.{opens_told, finishes_told, copies_told}
+use Rattle.lt_live_c.proofs.ServingOpened.{served_told}
 use Rattle.lt_live_c.proofs.laws.law_c_told.Goals as goal
 
 pub returns : goal.returns
@@ -20,4 +21,5 @@ returns c = record {
   opens = opens_told;
   finishes = finishes_told;
   copies = copies_told;
+  served = served_told;
 }
