@@ -57,6 +57,13 @@ impl LongScript {
         self.gone + self.kept.commands()
     }
 
+    /// How many commands were forgotten.
+    pub(crate) fn forgotten(&self) -> u32
+        ensures { result ≡ self.now.gone }
+    {
+        self.gone
+    }
+
     /// Adds a command behind the others.
     pub(crate) fn add_command(&mut self, client: u16, command: Command) -> Result<(), AllocError>
         requires room { length self.old.whole.commands < MAX_COMMANDS }

@@ -163,6 +163,13 @@ impl Node {
         self.script.commands()
     }
 
+    /// How many commands of the script were forgotten.
+    pub fn forgotten(&self) -> u32
+        ensures { result ≡ self.now.gone }
+    {
+        self.script.forgotten()
+    }
+
     pub fn clock(&self) -> u64
         ensures { result ≡ self.now.clock }
     {
