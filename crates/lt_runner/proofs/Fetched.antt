@@ -34,7 +34,7 @@ knows_nothing nodes me m hand e h = subst (λ (o : Option Hand). Knows nodes me 
 pub fetched : (a b : Parts) (m : Mail) (hand : Option Hand) → a.hand ≡ None → KnowsOf a m hand → b ≡ record a { mail = m; hand = hand } → Fetches a b
 fetched a b m hand empty k e = subst (λ (p : Parts). Fetches a p) (sym e) (record {
   seen = record {
-    same = record { script = refl; me = refl; limit = refl; gone = refl; ends = k.ends };
+    same = record { script = refl; me = refl; limit = refl; gone = refl; commands_gone = refl; ends = k.ends };
     state = refl;
     log = refl;
     sent = λ node. ap (on_out sent_by) (k.outs node);

@@ -143,6 +143,7 @@ same_join a b c h k = record {
   me = k.me ∙ h.me;
   limit = k.limit ∙ h.limit;
   gone = k.gone ∙ h.gone;
+  commands_gone = k.commands_gone ∙ h.commands_gone;
   ends = ends_join a.mail b.mail c.mail h.ends k.ends;
 }
 
@@ -210,7 +211,7 @@ holds_same (Some x) = (refl, refl)
 
 pub seen_asked : (p : Parts) → AsSeen p (asked p)
 seen_asked p = record {
-  same = record { script = refl; me = refl; limit = refl; gone = refl; ends = ends_same p.mail };
+  same = record { script = refl; me = refl; limit = refl; gone = refl; commands_gone = refl; ends = ends_same p.mail };
   state = refl;
   log = refl;
   sent = λ node. refl;
@@ -220,7 +221,7 @@ seen_asked p = record {
 
 pub seen_aimed : (senders : ℕ) (p : Parts) → AsSeen p (aimed senders p)
 seen_aimed senders p = record {
-  same = record { script = refl; me = refl; limit = refl; gone = refl; ends = ends_same p.mail };
+  same = record { script = refl; me = refl; limit = refl; gone = refl; commands_gone = refl; ends = ends_same p.mail };
   state = refl;
   log = refl;
   sent = λ node. refl;
@@ -251,7 +252,7 @@ kept_resting p h e = record {
 
 pub seen_resting : (a p : Parts) → AsSeen a p → AsSeen a (resting p)
 seen_resting a p h = record {
-  same = record { script = h.same.script; me = h.same.me; limit = h.same.limit; gone = h.same.gone; ends = h.same.ends };
+  same = record { script = h.same.script; me = h.same.me; limit = h.same.limit; gone = h.same.gone; commands_gone = h.same.commands_gone; ends = h.same.ends };
   state = h.state;
   log = h.log;
   sent = h.sent;

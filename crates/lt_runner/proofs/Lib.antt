@@ -3,4 +3,4 @@ pub mod MoveLemmas
 pub mod Fetched
 pub mod ChoiceLemmas
 pub mod TurnLemmas
-pub mod Forgetting
+pub mod Forgotten

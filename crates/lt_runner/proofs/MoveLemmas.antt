@@ -50,6 +50,7 @@ finished a f node out hand cause h can reaches d e hands peer place idle = recor
     me = ap (λ (n : NodeData). n.me) e.node ∙ d.me;
     limit = e.limit;
     gone = e.gone;
+    commands_gone = ap (λ (n : NodeData). n.gone) e.node ∙ d.gone;
     ends = e.mail.ends;
   };
   can = can;

@@ -138,14 +138,14 @@ pub could_act_now : (a : Parts) (client : ℕ) → length a.log.entries < a.limi
 could_act_now a client place e = record { place = place; choice = λ none. absurd (cc) }
 
 pub same_self : (a : Parts) → SameRunner a a
-same_self a = record { script = refl; me = refl; limit = refl; gone = refl; ends = ends_same a.mail }
+same_self a = record { script = refl; me = refl; limit = refl; gone = refl; commands_gone = refl; ends = ends_same a.mail }
 
 pub grew_self : (a : Parts) → Grew a a
 grew_self a = record { same = same_self a; log = ([], append-nil a.log.entries) }
 
 -- no client was found that can act
 pub grew_resting : (a : Parts) → Grew a (resting a)
-grew_resting a = record { same = record { script = refl; me = refl; limit = refl; gone = refl; ends = ends_same a.mail }; log = ([], append-nil a.log.entries) }
+grew_resting a = record { same = record { script = refl; me = refl; limit = refl; gone = refl; commands_gone = refl; ends = ends_same a.mail }; log = ([], append-nil a.log.entries) }
 
 -- a turn adds no more than one move
 pub turn_left : (r : Turned) (a b : Parts) → SameRunner a b → TurnEnds r a b

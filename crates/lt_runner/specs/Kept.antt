@@ -67,12 +67,17 @@ pub record RunnerInvariant (p : Parts) : Type 0 where
   pub events : p.out.events ≡ []
   pub idle : IsTrue p.idle → act_choice p.node.script p.node.me (state_of p.node) ≡ choices.Nothing
 
--- the runner of the same node, with the same ends of rings and the same limit; it forgot no further moves
+-- it has forgotten none of its moves, and none of the commands
+abbrev pub HasAll : Parts → Type 0
+HasAll p = (p.log.gone ≡ 0) × (p.node.gone ≡ 0)
+
+-- the runner of the same node, with the same ends of rings and the same limit; it forgot no further moves or commands
 pub record SameRunner (a b : Parts) : Type 0 where
   pub script : b.node.script ≡ a.node.script
   pub me : b.node.me ≡ a.node.me
   pub limit : b.limit ≡ a.limit
   pub gone : b.log.gone ≡ a.log.gone
+  pub commands_gone : b.node.gone ≡ a.node.gone
   pub ends : SameEnds a.mail b.mail
 
 -- nothing happened but that letters may have gone from an outbox to its ring, and one from a ring to the hand
@@ -195,6 +200,6 @@ NoneKnown first me m = (node : ℕ) → node < first → node ≢ me → known_f
 
 pub grew_itself : (p : Parts) → Grew p p
 grew_itself p = record {
-  same = record { script = refl; me = refl; limit = refl; gone = refl; ends = ends_same p.mail };
+  same = record { script = refl; me = refl; limit = refl; gone = refl; commands_gone = refl; ends = ends_same p.mail };
   log = ([], append-nil p.log.entries);
 }

@@ -1,8 +1,9 @@
-// Commands that come while the runner is at work, and what it shows of its moves or forgets.
+// Commands that come while the runner is at work, and what it shows of these and of its moves.
 ghost use Rattle.std.specs.Prelude.{◌≡◌, ◌<◌, length, OnOk, OnErr};
-ghost use Rattle.lt_spec.specs.Script.{HasTargets, HasModesOf};
+ghost use Rattle.lt_spec.specs.Script.{IsScript, HasTargets, HasModesOf};
 ghost use Rattle.lt_spec.specs.declared.limits.TheConstants.{MAX_COMMANDS};
 ghost use Rattle.lt_spec.specs.NodeMove.{home};
+ghost use Rattle.lt_node.specs.NodeData.{kept_script};
 ghost use Rattle.lt_runner.specs.Kept.{with_appended};
 
 use crate::runner::Runner;
@@ -29,21 +30,21 @@ impl Runner {
         Ok(())
     }
 
-    /// The script, with the commands that were appended here.
+    /// The script, with the commands that were appended here, without those that were forgotten.
     pub fn script(&self) -> &Script
-        ensures { result.now ≡ self.now.node.script }
+        ensures kept { result.now ≡ kept_script self.now.node }
+        ensures whole { self.now.node.gone ≡ 0 → result.now ≡ self.now.node.script }
     {
         self.parts.node.script()
     }
 
-    /// Forgets the moves that were made, and frees their memory.
-    #[tactic(auto, using(crate::proofs::Forgetting::kept_forgotten))]
-    pub fn forget_moves(&mut self, alloc: Global)
-        ensures rest { self.new ≡ record self.old { log = self.new.log } }
-        ensures entries { self.new.log.entries ≡ self.old.log.entries }
-        ensures gone { self.new.log.gone ≡ length self.old.log.entries }
+    /// How many commands the script has, forgotten or not.
+    pub fn commands(&self) -> u32
+        ensures commands { result ≡ length self.now.node.script.commands }
+        ensures script { IsScript self.now.node.script }
     {
-        self.parts.as_mut().log.forget(alloc);
+        self.parts.node.me();
+        self.parts.node.commands()
     }
 
     /// The moves that were made, in order.

@@ -4,6 +4,7 @@
 mod appending;
 mod at_once;
 mod choice;
+mod forgetting;
 mod gate;
 mod making;
 mod meeting;

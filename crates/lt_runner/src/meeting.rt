@@ -7,7 +7,7 @@ ghost use Rattle.lt_spec.specs.NodeMove.{node_waits};
 ghost use Rattle.lt_node.specs.NodeData.{state_of};
 
 use crate::choice::{Choice, choose};
-use crate::parts::Hand;
+use crate::parts::{Hand, Parts};
 use crate::readying::hold_next;
 use crate::runner::Runner;
 use lt_mail::{Mail, beside};
@@ -37,7 +37,7 @@ impl Runner {
         let parts = self.parts.as_mut();
         if parts.hand.is_none() {
             let me = parts.mail.node();
-            let nodes = parts.node.script().nodes();
+            let nodes = parts.nodes();
             hold_known(&mut parts.mail, &mut parts.hand, me, nodes);
         }
     }
@@ -63,6 +63,15 @@ impl Runner {
         ensures forgotten { IfNone result (0 < self.log.gone) }
     {
         Box::into_inner(self.parts).log.into_run()
+    }
+}
+
+impl Parts {
+    // The number of nodes of the script.
+    fn nodes(&self) -> u8
+        ensures { result ≡ self.now.node.script.nodes }
+    {
+        self.node.script().nodes()
     }
 }
 

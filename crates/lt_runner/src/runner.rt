@@ -7,7 +7,7 @@ ghost use Rattle.lt_runner.specs.declared.choice.Choice.TheVariants as choices;
 ghost use Rattle.lt_runner.specs.declared.turning.Turned.TheVariants as turns;
 ghost use Rattle.lt_runner.specs.declared.turning.Worked.TheVariants as answers;
 ghost use Rattle.lt_runner.specs.Choices.{act_choice, next_choice};
-ghost use Rattle.lt_runner.specs.Kept.{RunnerInvariant, AsSeen, IsFlushed, Grew, TurnEnds, WorkEnds};
+ghost use Rattle.lt_runner.specs.Kept.{RunnerInvariant, HasAll, AsSeen, IsFlushed, Grew, TurnEnds, WorkEnds};
 ghost use Rattle.lt_runner.specs.Ready.{StartsWith};
 
 use crate::gate::Gate;
@@ -53,7 +53,8 @@ impl Runner {
         requires node { node < script.now.nodes }
         requires mail { IsFresh script.now.nodes node mail }
         requires limit { (0 < limit) × (limit ≤ MAX_MOVES) }
-        ensures { IfOk result (StartsWith script.now node mail limit) }
+        ensures starts { IfOk result (StartsWith script.now node mail limit) }
+        ensures all { IfOk result HasAll }
     {
         let node = Node::new(alloc, script, node)?;
         Runner::of_node(alloc, script, node, mail, limit)
@@ -74,7 +75,8 @@ impl Runner {
         requires state { state_of node ≡ (start script.now).node node.me }
         requires mail { IsFresh script.now.nodes node.me mail }
         requires limit { (0 < limit) × (limit ≤ MAX_MOVES) }
-        ensures { IfOk result (StartsWith script.now node.me mail limit) }
+        ensures starts { IfOk result (StartsWith script.now node.me mail limit) }
+        ensures commands_gone { IfOk result (λ runner. runner.node.gone ≡ node.gone) }
     {
         let parts = begin(alloc, script, node, mail, limit)?;
         Ok(Runner {
@@ -186,6 +188,7 @@ fn begin(
     requires mail { IsFresh script.now.nodes node.me mail }
     ensures kept { IfOk result RunnerInvariant }
     ensures starts { IfOk result (StartsWith script.now node.me mail limit) }
+    ensures commands_gone { IfOk result (λ parts. parts.node.gone ≡ node.gone) }
 {
     Ok(Parts {
         node,

@@ -1,5 +1,5 @@
--- A runner that forgot its moves is the same.
-use Rattle.std.proofs.Common.{◌≡◌, List, length, sym, ap, subst, arith}
+-- A runner that forgot its moves, or the commands, is one still.
+use Rattle.std.proofs.Common.{◌≡◌, ℕ, List, length, sym, ap, subst, arith}
 use Rattle.lt_spec.specs.World.{Logged, start}
 use Rattle.lt_spec.specs.FixedOrder.{Plays}
 use Rattle.lt_log.specs.LogData.{LogData}
@@ -21,6 +21,23 @@ kept_forgotten p log h same = record {
   hand = h.hand;
   names = h.names;
   bounded = omega (arith, h.bounded, ap (λ (entries : List Logged). length entries) same);
+  posts = h.posts;
+  events = h.events;
+  idle = h.idle;
+}
+
+pub kept_without : (p : Parts) (gone : ℕ) → RunnerInvariant p → RunnerInvariant (record p { node = record p.node { gone = gone } })
+kept_without p gone h = record {
+  used = h.used;
+  me = h.me;
+  below = h.below;
+  outs = h.outs;
+  ins = h.ins;
+  plays = h.plays;
+  taken = h.taken;
+  hand = h.hand;
+  names = h.names;
+  bounded = h.bounded;
   posts = h.posts;
   events = h.events;
   idle = h.idle;
