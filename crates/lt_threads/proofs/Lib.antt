@@ -1,4 +1,5 @@
 pub mod Each
+pub mod Whole
 pub mod Pairs
 pub mod Shown
 pub mod Joined

@@ -85,7 +85,7 @@ one_more script capacity limit k left rs d p h below starts = record {
         let at : j ≡ k = new.0 ∙ h.count in
         subst (λ (x : Parts). IsFirstRunner script limit j h.all x) new.1
         (subst (λ (i : ℕ). IsFirstRunner script limit i h.all p) (sym at)
-        (record { script_is = starts.script_is; me = starts.me; limit_is = starts.limit_is; log = starts.log; mail = mail }))
+        (record { script_is = starts.script_is; me = starts.me; limit_is = starts.limit_is; log = starts.log; has_all = starts.gone; mail = mail }))
 
 -- a ring to each node, with these places
 places_at : (capacity : ℕ) (letters : List Letter) (ends : List OutEnd) (other : ℕ) → other < length ends
@@ -117,6 +117,7 @@ first_crew script capacity limit left rs is_script few h = record {
   };
   scripts = λ k p e. (h.each k p e).script_is;
   logs = λ k p e. (h.each k p e).log;
+  have_all = λ k p e. (h.each k p e).has_all;
   limits = λ k p e. (h.each k p e).limit_is;
   places = λ k other p e below.
       let mail = (h.each k p e).mail in

@@ -177,6 +177,14 @@ run_entries log = log.entries
 abbrev pub log_of : Parts → List Logged
 log_of p = p.log.entries
 
+-- it has forgotten none of its moves
+abbrev pub HasAll : Parts → Type 0
+HasAll p = p.log.gone ≡ 0
+
+-- none of them has forgotten any
+abbrev pub HaveAll : List Parts → Type 0
+HaveAll rs = (k : ℕ) (p : Parts) → slice_get rs k ≡ Some p → HasAll p
+
 -- they can be merged, and what is merged of them is a run of the script: the one that the runners have made
 pub record AreCrewLogs (script : ScriptData) (rs : List Parts) (logs : List RunData) : Type 0 where
   pub are_logs : AreLogs logs

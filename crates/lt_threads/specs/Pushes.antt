@@ -13,7 +13,7 @@ use Rattle.lt_runner.specs.declared.choice.Choice.TheVariants as choices
 use Rattle.lt_runner.specs.Choices.{next_choice}
 use Rattle.lt_runner.specs.declared.turning.Turned.{Turned}
 use Rattle.lt_runner.specs.declared.turning.Turned.TheVariants.{Moved, Quiet, Full, NoMemory}
-use Rattle.lt_threads.specs.Meeting.{EachIs, IsCrew, crew_world, IsCrewCut, IsLeastEnabled, EachShows, RoundsEnd, room_of}
+use Rattle.lt_threads.specs.Meeting.{EachIs, HasAll, HaveAll, IsCrew, crew_world, IsCrewCut, IsLeastEnabled, EachShows, RoundsEnd, room_of}
 use Rattle.lt_threads.specs.declared.rounds.Ended.{Ended}
 
 -- the crew's world is at rest with nobody waiting, at rest with somebody waiting, or this node is cut
@@ -82,6 +82,7 @@ pub record IsFirstRunner (script : ScriptData) (limit k : ℕ) (all : List Mail)
   pub me : p.node.me ≡ k
   pub limit_is : p.limit ≡ limit
   pub log : p.log.entries ≡ []
+  pub has_all : HasAll p
   pub mail : slice_get all k ≡ Some p.mail
 
 -- the first k runners stand, and these mails are left
@@ -97,5 +98,6 @@ pub record IsFirstCrew (script : ScriptData) (capacity limit : ℕ) (rs : List P
   pub crew : IsCrew script rs
   pub scripts : (k : ℕ) (p : Parts) → slice_get rs k ≡ Some p → p.node.script ≡ script
   pub logs : (k : ℕ) (p : Parts) → slice_get rs k ≡ Some p → p.log.entries ≡ []
+  pub have_all : HaveAll rs
   pub limits : (k : ℕ) (p : Parts) → slice_get rs k ≡ Some p → p.limit ≡ limit
   pub places : (k other : ℕ) (p : Parts) → slice_get rs k ≡ Some p → other < script.nodes → places_to p.mail other ≡ capacity

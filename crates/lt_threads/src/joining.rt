@@ -1,21 +1,23 @@
 // Runners that each appended commands: the script with the commands of all, and the run of it that they made.
-ghost use Rattle.std.specs.Prelude.{◌≡◌, ◌<◌, ◌≤◌, ◌+◌, ◌++◌, true, false, length, take, drop, Err, IfOk, IfErr, OnOk};
+ghost use Rattle.std.specs.Prelude.{◌≡◌, ◌↔◌, ◌<◌, ◌≤◌, ◌+◌, ◌++◌, true, false, length, take, drop, Err, IfOk, IfErr, OnOk};
 ghost use Rattle.lt_modes.specs.Script.{ScriptData};
 ghost use Rattle.lt_spec.specs.Script.{IsScript};
 ghost use Rattle.lt_spec.specs.declared.limits.TheConstants.{MAX_COMMANDS};
 ghost use Rattle.lt_spec.specs.NodeMove.{with_commands};
 ghost use Rattle.lt_threads.specs.declared.joining.JoinError.TheVariants as errors;
-ghost use Rattle.lt_threads.specs.Meeting.{AreShares, ShareScript, AreScripts, IsJoined, IsSharedRun, AreTooMany, commands_in};
+ghost use Rattle.lt_threads.specs.Meeting.{AreShares, ShareScript, AreScripts, IsJoined, IsSharedRun, AreTooMany, HaveAll, commands_in};
 
-use crate::finishing::finish;
+use crate::finishing::{all_logs, have_all};
 use lt_merge::{Run, merge};
 use lt_runner::Runner;
 use lt_script::{MAX_COMMANDS, Script};
 use std::alloc::{AllocError, Global};
 
-/// Why scripts aren't joined.
+/// Why scripts or logs aren't joined.
 #[derive(Clone, Copy, Debug, PartialEq, Eq)]
 pub enum JoinError {
+    /// Some runner has forgotten moves.
+    Forgotten,
     /// They have more commands together than a script may have.
     TooMany,
     NoMemory,
@@ -32,15 +34,16 @@ impl From<AllocError> for JoinError {
 /// The script with the commands that each runner appended, and the run of it that they have made.
 ///
 /// A client's commands stand in it in the order in which its node appended them. After an error all is dropped.
-#[tactic(auto, using(crate::proofs::Shares::shared_run))]
+#[tactic(auto, using(crate::proofs::Shares::shared_run, crate::proofs::Whole::all_or_not))]
 pub fn finish_joined(alloc: Global, runners: Vec<Runner>) -> Result<(Script, Run), JoinError>
     requires { ShareScript runners.items }
     ensures run { IfOk result (λ made. IsSharedRun runners.items made.0 made.1.entries) }
+    ensures forgotten { (result ≡ Err errors.Forgotten) ↔ (¬ HaveAll runners.items) }
     ensures many { IfErr result (λ error. error ≡ errors.TooMany → AreTooMany runners.items) }
-    ensures told { AreTooMany runners.items → result ≡ Err errors.TooMany }
+    ensures told { HaveAll runners.items → AreTooMany runners.items → result ≡ Err errors.TooMany }
 {
     let script = join_scripts(alloc, &runners)?;
-    let logs = finish(alloc, &script, runners)?;
+    let logs = all_logs(alloc, &script, runners)?;
     let run = merge(alloc, logs)?;
     Ok((script, run))
 }
@@ -50,9 +53,13 @@ pub fn finish_joined(alloc: Global, runners: Vec<Runner>) -> Result<(Script, Run
 pub fn join_scripts(alloc: Global, runners: &[Runner]) -> Result<Script, JoinError>
     requires { ShareScript runners.now }
     ensures joined { IfOk result (IsJoined runners.now) }
+    ensures forgotten { (result ≡ Err errors.Forgotten) ↔ (¬ HaveAll runners.now) }
     ensures many { IfErr result (λ error. error ≡ errors.TooMany → AreTooMany runners.now) }
-    ensures told { AreTooMany runners.now → result ≡ Err errors.TooMany }
+    ensures told { HaveAll runners.now → AreTooMany runners.now → result ≡ Err errors.TooMany }
 {
+    if !have_all(runners) {
+        return Err(JoinError::Forgotten);
+    }
     are_scripts(runners);
     if !have_room(runners) {
         return Err(JoinError::TooMany);

@@ -10,7 +10,7 @@ const FEW_WORKERS: u8 = 3;
 const NODES_PER_WORKER: u8 = 32;
 
 // A visit for a command is short if it made fewer moves than this and a letter was sent.
-const SHORT: u32 = 16;
+const SHORT: u64 = 16;
 
 // After so many short visits a worker that may leave gives its nodes up to the others.
 const MOST_SHORT: u32 = 4;
@@ -134,8 +134,9 @@ impl Outlook {
         self.senders[usize::from(node % 64)] = 0;
     }
 
-    /// The node made so many moves, may have more, and sent letters to the nodes that were reached.
-    pub(crate) fn note_moves(&mut self, node: u8, moves: u32, reached: u64, more: bool)
+    /// The node made so many moves and sent letters to the nodes that were reached; by `more` a client there may be able
+    /// to act.
+    pub(crate) fn note_moves(&mut self, node: u8, moves: u64, reached: u64, more: bool)
         requires { HaveRoom self.old.visits }
         ensures { self.new.visits ≡ after_move self.old.visits }
     {

@@ -9,7 +9,7 @@ ghost use Rattle.lt_threads.specs.Taking.{TakeEnds};
 
 use lt_runner::{Choice, Found, Gate, Runner, Turned, Worked};
 
-/// Lets the runner take letters until it finds none.
+/// Lets the runner take letters until it finds none, or the log is full, or memory for the next one is wanting.
 ///
 /// It ends, since each letter that is taken is a move for which the log has a place left.
 #[tactic(auto, using(crate::proofs::Pushing::grew_join, crate::proofs::Taken::less_room))]

@@ -6,7 +6,7 @@ ghost use Rattle.lt_threads.specs.Threads.{IsThreadRun};
 ghost use Rattle.lt_threads.specs.Pushes.{CrewEnds, MovedOn};
 ghost use Rattle.lt_threads.specs.declared.sharing.TheConstants.{MAX_WORKERS};
 
-use crate::finishing::finish;
+use crate::finishing::all_logs;
 use crate::rounds::{Ended, run_rounds};
 use crate::starting::start_crew;
 use crate::waiting::anyone_waits;
@@ -39,7 +39,7 @@ pub fn run_on_threads<R: Threads + Sync, G: Gate>(
     law_can_move();
     let runners = start_crew(alloc, script, capacity, limit)?;
     let (runners, ending) = run_crew(rt, alloc, script, runners, workers, patience, gate)?;
-    let logs = finish(alloc, script, runners)?;
+    let logs = all_logs(alloc, script, runners)?;
     let run = merge(alloc, logs)?;
     Ok((ending, run))
 }

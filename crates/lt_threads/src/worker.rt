@@ -23,10 +23,10 @@ pub(crate) struct Worker {
 // What came of a visit.
 #[derive(Clone, Copy)]
 struct Visit {
-    moves: u32,
+    moves: u64,
     // The nodes that letters went to, a bit each.
     reached: u64,
-    // Whether the runner may have a further move.
+    // Whether a client of the node may be able to act; there may be letters to take either way.
     more: bool,
     worked: Worked,
 }

@@ -1,5 +1,10 @@
 use Rattle.lt_threads.proofs.Ends.{thread_run}
+use Rattle.lt_threads.proofs.Whole.{all_grew}
 use Rattle.lt_threads.proofs.threads.run_on_threads.Goals as goal
+
+pub all_logs-requires-clause-all : goal.all_logs-requires-clause-all
+all_logs-requires-clause-all g c =
+    all_grew c.in_ok-runners.runners.items c.in_ok-runners-2.runners.items c.in_ok-runners-2.ensures.grew c.in_ok-runners.ensures.have_all
 
 pub returns : goal.returns
 returns g c =
