@@ -28,7 +28,7 @@ ends_same m = record {
     in_same (Some lane) = ((refl, refl, refl, refl), refl)
 
 pub same_self : (a : Parts) → SameRunner a a
-same_self a = record { script = refl; me = refl; limit = refl; gone = refl; ends = ends_same a.mail }
+same_self a = record { script = refl; me = refl; limit = refl; gone = refl; commands_gone = refl; ends = ends_same a.mail }
 
 pub seen_self : (a : Parts) → AsSeen a a
 seen_self a = record {

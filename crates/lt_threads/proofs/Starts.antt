@@ -10,6 +10,7 @@ use Rattle.lt_mail.specs.declared.lane.OutEnd.{OutEnd}
 use Rattle.lt_mail.specs.Words.{OutLane, lane_of, letters_to, out_at, in_at, places_of, IsOpenLink, Both}
 use Rattle.lt_mail.specs.Opening.{Opened, IsFresh}
 use Rattle.lt_runner.specs.declared.parts.Parts.{Parts}
+use Rattle.lt_runner.specs.Kept.{HasAll}
 use Rattle.lt_runner.specs.Ready.{StartsWith}
 use Rattle.lt_threads.specs.Pushes.{IsFirstRunner, Starting, IsFirstCrew}
 use Rattle.lt_threads.proofs.Shown.{same_itself, same_before}
@@ -62,8 +63,8 @@ get_push (x ∷ rs) p (suc j) q e = later (get_push rs p j q e)
     later (inr new) = inr (ap suc new.0, new.1)
 
 pub one_more : (script : ScriptData) (capacity limit k : ℕ) (left : List Mail) (rs : List Parts) (d : Mail) (p : Parts) → Starting script capacity limit k left rs → k < script.nodes
-    → StartsWith script k (slice_index_or left 0 d) limit p → Starting script capacity limit (k + 1) (remove left 0) (rs ++ p ∷ [])
-one_more script capacity limit k left rs d p h below starts = record {
+    → StartsWith script k (slice_index_or left 0 d) limit p → HasAll p → Starting script capacity limit (k + 1) (remove left 0) (rs ++ p ∷ [])
+one_more script capacity limit k left rs d p h below starts all = record {
   all = h.all;
   opened = h.opened;
   left_is = ap (λ (ms : List Mail). remove ms 0) h.left_is ∙ rest_left k h.all within;
@@ -85,7 +86,7 @@ one_more script capacity limit k left rs d p h below starts = record {
         let at : j ≡ k = new.0 ∙ h.count in
         subst (λ (x : Parts). IsFirstRunner script limit j h.all x) new.1
         (subst (λ (i : ℕ). IsFirstRunner script limit i h.all p) (sym at)
-        (record { script_is = starts.script_is; me = starts.me; limit_is = starts.limit_is; log = starts.log; has_all = starts.gone; mail = mail }))
+        (record { script_is = starts.script_is; me = starts.me; limit_is = starts.limit_is; log = starts.log; has_all = all; mail = mail }))
 
 -- a ring to each node, with these places
 places_at : (capacity : ℕ) (letters : List Letter) (ends : List OutEnd) (other : ℕ) → other < length ends

@@ -1,11 +1,11 @@
--- Runners that have forgotten no moves.
+-- Runners that have forgotten nothing.
 use Rattle.std.proofs.Common.{◌≡◌, ℕ, ◌+◌, ◌<◌, ◌≤◌, inl, inr, List, [], ◌∷◌, Some, length, sym, ap, subst, arith, ◌∙◌, get_or, slice_get, remove, suc}
 use Rattle.std.proofs.lemmas.Bool.{cases_eq}
 use Rattle.std.proofs.lemmas.Option.{slice_get-get_or, slice_get_within}
 use Rattle.lt_lists.proofs.Members.{some_equal}
 use Rattle.lt_runner.specs.declared.parts.Parts.{Parts}
-use Rattle.lt_runner.specs.Kept.{SameRunner, AsSeen, Grew}
-use Rattle.lt_threads.specs.Meeting.{EachIs, HasAll, HaveAll}
+use Rattle.lt_runner.specs.Kept.{SameRunner, AsSeen, Grew, HasAll}
+use Rattle.lt_threads.specs.Meeting.{EachIs, HaveAll}
 use Rattle.lt_threads.proofs.Each.{each_before, each_weaker}
 
 -- the same runners have all
@@ -13,7 +13,8 @@ pub all_last : (old new : List Parts) → EachIs SameRunner old new → HaveAll 
 all_last old new same all k p e =
     let was = each_before SameRunner old new same k p e in
     let is : SameRunner was.0 p = was.2 in
-    is.gone ∙ all k was.0 was.1
+    let had = all k was.0 was.1 in
+    (is.gone ∙ had.0, is.commands_gone ∙ had.1)
 
 pub all_seen : (old new : List Parts) → EachIs AsSeen old new → HaveAll old → HaveAll new
 all_seen old new seen = all_last old new (each_weaker AsSeen SameRunner (λ a b h. h.same) old new seen)
@@ -48,6 +49,9 @@ all_have n rs long has k p e = let inside = slice_get_within rs k p e in has k p
 -- where not all lack it, each has all
 pub all_or_not : (rs : List Parts) → ¬ (¬ HaveAll rs) → HaveAll rs
 all_or_not rs some k p e = elim (cases_eq p.log.gone 0) [
-  | inl is ↦ is
-  | inr not ↦ absurd (some (λ all. not (all k p e)))
+  | inl moves ↦ elim (cases_eq p.node.gone 0) [
+    | inl commands ↦ (moves, commands)
+    | inr not ↦ absurd (some (λ all. not (all k p e).1))
+  ]
+  | inr not ↦ absurd (some (λ all. not (all k p e).0))
 ]

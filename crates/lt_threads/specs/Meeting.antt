@@ -14,7 +14,7 @@ use Rattle.lt_law_plays.specs.Merged.{merged, Part, logs_of}
 use Rattle.lt_node.specs.NodeData.{state_of}
 use Rattle.lt_mail.specs.Words.{out_at, in_at, sent_to, taken_from, IsOpenLink, Both, Alike}
 use Rattle.lt_runner.specs.declared.parts.Parts.{Parts}
-use Rattle.lt_runner.specs.Kept.{in_hand, RunnerInvariant, CouldMove, is_move, AsSeen, HasMet, HasFetched}
+use Rattle.lt_runner.specs.Kept.{in_hand, RunnerInvariant, CouldMove, is_move, AsSeen, HasMet, HasFetched, HasAll}
 use Rattle.lt_runner.specs.Choices.{next_choice}
 use Rattle.lt_threads.specs.declared.rounds.Ended.{Ended}
 use Rattle.lt_threads.specs.declared.rounds.Ended.TheVariants.{Rest, Cut, NoMemory}
@@ -177,11 +177,7 @@ run_entries log = log.entries
 abbrev pub log_of : Parts → List Logged
 log_of p = p.log.entries
 
--- it has forgotten none of its moves
-abbrev pub HasAll : Parts → Type 0
-HasAll p = p.log.gone ≡ 0
-
--- none of them has forgotten any
+-- none of them has forgotten moves or commands
 abbrev pub HaveAll : List Parts → Type 0
 HaveAll rs = (k : ℕ) (p : Parts) → slice_get rs k ≡ Some p → HasAll p
 

@@ -8,12 +8,12 @@ use Rattle.lt_mail.specs.declared.mail.Mail.{Mail}
 use Rattle.lt_mail.specs.Opening.{Opened}
 use Rattle.lt_mail.specs.Words.{places_to}
 use Rattle.lt_runner.specs.declared.parts.Parts.{Parts}
-use Rattle.lt_runner.specs.Kept.{Grew, AsSeen, CouldMove}
+use Rattle.lt_runner.specs.Kept.{Grew, AsSeen, CouldMove, HasAll}
 use Rattle.lt_runner.specs.declared.choice.Choice.TheVariants as choices
 use Rattle.lt_runner.specs.Choices.{next_choice}
 use Rattle.lt_runner.specs.declared.turning.Turned.{Turned}
 use Rattle.lt_runner.specs.declared.turning.Turned.TheVariants.{Moved, Quiet, Full, NoMemory}
-use Rattle.lt_threads.specs.Meeting.{EachIs, HasAll, HaveAll, IsCrew, crew_world, IsCrewCut, IsLeastEnabled, EachShows, RoundsEnd, room_of}
+use Rattle.lt_threads.specs.Meeting.{EachIs, HaveAll, IsCrew, crew_world, IsCrewCut, IsLeastEnabled, EachShows, RoundsEnd, room_of}
 use Rattle.lt_threads.specs.declared.rounds.Ended.{Ended}
 
 -- the crew's world is at rest with nobody waiting, at rest with somebody waiting, or this node is cut

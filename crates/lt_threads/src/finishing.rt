@@ -1,7 +1,7 @@
 // The logs of all runners.
 ghost use Rattle.std.specs.Prelude.{◌≡◌, ◌≢◌, ◌≤◌, ◌↔◌, [], Err, IfOk, IsTrue, length, map, vec_capacity};
 ghost use Rattle.lt_threads.specs.declared.joining.JoinError.TheVariants as errors;
-ghost use Rattle.lt_threads.specs.Meeting.{IsCrew, AreCrewLogs, HasAll, HaveAll, run_entries, log_of};
+ghost use Rattle.lt_threads.specs.Meeting.{IsCrew, AreCrewLogs, HaveAll, run_entries, log_of};
 
 use crate::fetching::all_kept;
 use crate::joining::JoinError;
@@ -27,7 +27,7 @@ pub fn finish(alloc: Global, script: &Script, runners: Vec<Runner>) -> Result<Ve
     Ok(logs)
 }
 
-/// The logs of runners that have forgotten no moves.
+/// The logs of runners that have forgotten nothing.
 pub(crate) fn all_logs(
     alloc: Global,
     script: &Script,
@@ -61,21 +61,15 @@ fn take_logs(mut runners: Vec<Runner>, mut logs: Vec<Log>) -> Vec<Log>
     logs
 }
 
-/// Whether no runner has forgotten moves.
+/// Whether no runner has forgotten moves or commands.
 #[tactic(auto, using(crate::proofs::Whole::next_has, crate::proofs::Whole::one_has, crate::proofs::Whole::all_have))]
 pub(crate) fn have_all(runners: &[Runner]) -> bool
     ensures { IsTrue result ↔ HaveAll runners.now }
 {
     for place in 0..runners.len() {
-        if !has_all(&runners[place]) {
+        if !runners[place].has_all() {
             return false;
         }
     }
     true
-}
-
-fn has_all(runner: &Runner) -> bool
-    ensures { IsTrue result ↔ HasAll runner.now }
-{
-    runner.log().forgotten() == 0
 }

@@ -16,7 +16,7 @@ use std::alloc::{AllocError, Global};
 /// Why scripts or logs aren't joined.
 #[derive(Clone, Copy, Debug, PartialEq, Eq)]
 pub enum JoinError {
-    /// Some runner has forgotten moves.
+    /// Some runner has forgotten moves or commands.
     Forgotten,
     /// They have more commands together than a script may have.
     TooMany,
@@ -77,7 +77,7 @@ fn have_room(runners: &[Runner]) -> bool
 {
     let mut count = 0;
     for place in 0..runners.len() {
-        let own = runners[place].script().commands();
+        let own = runners[place].commands();
         if own > MAX_COMMANDS - count {
             return false;
         }
@@ -98,12 +98,13 @@ fn are_scripts(runners: &[Runner])
 fn is_script(runner: &Runner)
     ensures { IsScript runner.now.node.script }
 {
-    runner.script().nodes();
+    runner.commands();
 }
 
-#[tactic(auto, using(crate::proofs::Shares::gather_room))]
+#[tactic(auto, using(crate::proofs::Shares::gather_room, crate::proofs::Whole::one_has))]
 fn gather_commands(alloc: Global, runners: &[Runner]) -> Result<Script, AllocError>
     requires shares { ShareScript runners.now }
+    requires all { HaveAll runners.now }
     requires room { length (commands_in runners.now) ≤ MAX_COMMANDS }
     ensures { IfOk result (λ made. (script : ScriptData) → AreShares script runners.now → made ≡ with_commands script (commands_in runners.now)) }
 {

@@ -2,6 +2,7 @@ ghost use Rattle.std.specs.Prelude.{◌<◌, ◌≤◌, ◌+◌, IfOk, OnOk};
 ghost use Rattle.lt_spec.specs.declared.moves.TheConstants.{MAX_MOVES};
 ghost use Rattle.lt_mail.specs.Opening.{IsFresh};
 ghost use Rattle.lt_node.specs.Clients.{HaveFrom};
+ghost use Rattle.lt_runner.specs.Kept.{HasAll};
 ghost use Rattle.lt_runner.specs.Ready.{StartsWith};
 ghost use Rattle.lt_threads.specs.Pushes.{Starting, IsFirstCrew};
 
@@ -81,6 +82,7 @@ fn first_runner(
     requires limit { (0 < limit) × (limit ≤ MAX_MOVES) }
     requires commands { HaveFrom script.now node commands.old }
     ensures starts { IfOk result (StartsWith script.now node mail limit) }
+    ensures all { IfOk result HasAll }
     ensures left { OnOk result (HaveFrom script.now (node + 1) commands.new) }
 {
     let state = Node::with_commands(alloc, script, node, commands)?;
