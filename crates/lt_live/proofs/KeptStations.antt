@@ -17,7 +17,8 @@ use Rattle.lt_live.specs.declared.ends.Seat.{Seat}
 use Rattle.lt_live.specs.Stations.{IsSeatOf, IsStation, AreOthers, EachSeat, MayHandOver, HandMayGo}
 use Rattle.lt_live.proofs.SeatLists.{pushed, none_here, set_here, set_other, each_before}
 use Rattle.lt_live.specs.Seats.{replies_in, lines_at, lines_up_to, IsCursor, TakesIn, TellsSeat, IsSeat}
-use Rattle.lt_live.specs.Words.{command_held}
+use Rattle.lt_live.specs.Words.{told_to, waiting, command_held}
+use Rattle.lt_live.specs.declared.reply.Reply.{Reply}
 
 -- before the first seat
 pub station_first : (p : Parts) → AreAt p.node.script p.node.me p.node.script.commands → IsStation p []
@@ -69,7 +70,7 @@ pub seat_grew : (list : List Command) (log later : List Logged) (client : ℕ) (
 seat_grew list log later client seat goes h =
     let (same, cursor) = more_lines log goes.0 seat.moves seat.lines h.cursor in
     subst (λ (entries : List Logged). IsSeat list entries client seat) goes.1
-    (record { client_is = h.client_is; taken = h.taken; told = h.told ∙ ap (replies_in client) (sym same); cursor = cursor })
+    (record { client_is = h.client_is; taken = h.taken; due = h.due ∙ ap (replies_in client) (sym same); cursor = cursor })
 
 pub seat_of_grew : (a b : Parts) (seat : Seat) → b.node.script ≡ a.node.script → b.node.me ≡ a.node.me → IsPrefix a.log.entries b.log.entries
     → IsSeatOf a seat → IsSeatOf b seat
@@ -97,7 +98,9 @@ seat_of_taken p s t h takes =
     (record {
       client_is = takes.same.client;
       taken = takes.taken (commands_of p.node.script s.client) h.kept.taken;
-      told = takes.told ∙ h.kept.told
+      due = ap (λ (replies : List Reply). replies ++ waiting t) takes.told.0
+          ∙ ap (λ (replies : List Reply). told_to s ++ replies) takes.told.1
+          ∙ h.kept.due
           ∙ sym (ap (λ (k : ℕ). replies_in s.client (lines_up_to p.log.entries k t.lines)) takes.cursor.0
           ∙ ap (λ (k : ℕ). replies_in s.client (lines_up_to p.log.entries s.moves k)) takes.cursor.1);
       cursor = subst (λ (k : ℕ). IsCursor p.log.entries k t.lines) (sym takes.cursor.0)
@@ -111,7 +114,7 @@ seat_of_told p s t h tells =
     (record {
       client_is = rest.same.client;
       taken = rest.taken ∙ (h.kept.taken ∙ ap (λ hand. commands_of p.node.script s.client ++ command_held hand) (sym rest.hand));
-      told = tells.on.told h.kept.told;
+      due = tells.on.due h.kept.due;
       cursor = tells.on.cursor;
     })
 
@@ -179,7 +182,7 @@ own_handed a x command h hand = record {
         ∙ ap (λ held. commands_of a.node.script x.client ++ command_held held) hand
         ∙ sym (own_list a.node.script x.client command)
         ∙ sym (append-nil (commands_of (appended a.node.script x.client command) x.client));
-    told = h.kept.told;
+    due = h.kept.due;
     cursor = h.kept.cursor;
   };
   places = h.places;
@@ -193,7 +196,7 @@ other_handed a client z command apart h = record {
   kept = record {
     client_is = h.kept.client_is;
     taken = h.kept.taken ∙ ap (λ (list : List Command). list ++ command_held z.hand) (sym (other_list a.node.script client z.client command apart));
-    told = h.kept.told;
+    due = h.kept.due;
     cursor = h.kept.cursor;
   };
   places = h.places;

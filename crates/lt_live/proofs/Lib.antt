@@ -1,4 +1,5 @@
 pub mod Telling
+pub mod ReadLemmas
 pub mod Finished
 pub mod TurnParts
 pub mod SeatLists

@@ -12,11 +12,11 @@ use Rattle.lt_spec.specs.World.{Logged}
 use Rattle.lt_runner.specs.declared.parts.Parts.{Parts}
 use Rattle.lt_threads.specs.Pushes.{IsFirstCrew}
 use Rattle.lt_live.specs.declared.ends.Seat.{Seat}
-use Rattle.lt_live.specs.Seats.{IsSeat, KnowAll, LooksBeside}
+use Rattle.lt_live.specs.Seats.{IsSeat, KnowAll, LooksBeside, HasToldAll}
 use Rattle.lt_live.specs.Stations.{IsSeatOf, StationData, AreOthers, IsNewSession, HasSeat, runner_of, SeatsBefore, Opens, AreSeatless, HaveNoCommands, IsStation, IsSeated, SeatLooks}
 use Rattle.lt_live.specs.declared.ends.Session.{Session}
 use Rattle.lt_live.specs.declared.limits.TheConstants.{LETTER_PLACES}
-use Rattle.lt_live.specs.Words.{known_commands, IsLink, command_held, known_replies}
+use Rattle.lt_live.specs.Words.{known_commands, waiting, IsLink, command_held, known_replies}
 use Rattle.lt_live.proofs.SeatLists.{set_here, set_other, pushed, last_here, stays_here, none_here}
 use Rattle.lt_live.proofs.KeptStations.{seat_of, Stays, station_from}
 
@@ -60,6 +60,7 @@ pub record Adds (script : ScriptData) (capacity n place : ℕ) (x y : StationDat
   pub link : IsLink s seat
   pub places : producer_capacity seat.replies ≡ capacity
   pub commands : known_commands seat ≡ []
+  pub waits : waiting seat ≡ []
 
 module _ (script : ScriptData) (limit capacity n place : ℕ) (stations : List StationData) (sessions : List Session) (d y : StationData) (s : Session) (seat : Seat)
     (h : Opens script limit capacity n stations sessions) (inside : place < length stations)
@@ -85,6 +86,7 @@ module _ (script : ScriptData) (limit capacity n place : ℕ) (stations : List S
           };
           places = old.places;
           commands = old.commands;
+          waits = old.waits;
         }
     | inr apart ↦
         record {
@@ -93,6 +95,7 @@ module _ (script : ScriptData) (limit capacity n place : ℕ) (stations : List S
           seated = old.seated;
           places = old.places;
           commands = old.commands;
+          waits = old.waits;
         }
   ]
 
@@ -109,6 +112,7 @@ module _ (script : ScriptData) (limit capacity n place : ℕ) (stations : List S
     };
     places = adds.places;
     commands = adds.commands;
+    waits = adds.waits;
   }
 
   each_session : (client : ℕ) (t : Session) → (slice_get sessions client ≡ Some t) ⊎ ((client ≡ length sessions) × (s ≡ t))
@@ -209,7 +213,7 @@ seat_of_looked p s t a b h looks =
     (record {
       client_is = looks.seat.client;
       taken = looks.taken.0 ∙ (h.kept.taken ∙ ap (λ hand. commands_of p.node.script a.client ++ command_held hand) (sym looks.taken.1));
-      told = looks.told h.kept.told;
+      due = looks.due h.kept.due;
       cursor = looks.cursor;
     })
 
@@ -252,7 +256,7 @@ station_looked p seats place s t d y h at here looks =
     station_set p seats place d y h there looks.seat.client (seat_of_looked p s t d y (h.each place d there) looks)
 
 pub seat_looked : (log : List Logged) (seats : List Seat) (place : ℕ) (s t : Session) (d y : Seat) → place ≡ s.place → slice_get seats s.place ≡ Some d
-    → IsLink t y → KnowAll t y → LooksBeside log s t d y → (y.moves ≡ length log) ⊎ (0 < length (known_replies t))
+    → IsLink t y → KnowAll t y → LooksBeside log s t d y → HasToldAll log y ⊎ (0 < length (known_replies t))
     → SeatLooks log s t seats (slice_set seats place y)
 seat_looked log seats place s t d y at here link beside looks moves = record {
   x = d;

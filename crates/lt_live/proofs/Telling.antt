@@ -1,5 +1,5 @@
 -- What a session polled answers what was submitted there.
-use Rattle.std.proofs.Common.{◌≡◌, ◌<◌, ◌≤◌, ℕ, suc, List, [], ◌∷◌, length, Option, Some, None, refl, sym, ap, subst, ◌∙◌, arith, zero, ◌++◌, take, drop, ◌+◌, rules, slice_index_or, inl, inr, slice_get, option_and_then, option_map, append_assoc, take-append-drop, append-nil, take_all}
+use Rattle.std.proofs.Common.{◌≡◌, ◌<◌, ◌≤◌, ℕ, suc, List, [], ◌∷◌, length, Option, Some, None, refl, sym, ap, subst, true, ◌∙◌, arith, zero, ◌++◌, take, drop, ◌+◌, rules, slice_index_or, inl, inr, slice_get, option_and_then, option_map, append_assoc, take-append-drop, append-nil, take_all}
 use Rattle.std.proofs.Math.Seq.{take-length}
 use Rattle.std.proofs.lemmas.Option.{slice_get_within}
 use Rattle.std.proofs.lemmas.List.{take_more}
@@ -18,8 +18,8 @@ use Rattle.lt_law_replies.proofs.ReplyRuns.{replies_in_turn}
 use Rattle.lt_runner.specs.declared.parts.Parts.{Parts}
 use Rattle.lt_runner.specs.declared.turning.Turned.{Turned}
 use Rattle.lt_live.specs.declared.reply.Reply.{Reply}
-use Rattle.lt_live.specs.Seats.{reply_to, replies_in, lines_at, lines_up_to, IsSeat, KnowAll, LooksBeside, IsSettledSeat, lines_if, OnlyTells, TellsMove, TellsOn}
-use Rattle.lt_live.specs.Words.{submitted, polled, known_commands, known_replies, command_held, SameSeat, IsLink, SameSession}
+use Rattle.lt_live.specs.Seats.{reply_to, replies_in, lines_at, lines_up_to, IsSeat, KnowAll, LooksBeside, IsSettledSeat, lines_if, OnlyTells, TellsMove, TellsOn, TellsOutbox, TellsSeat, IsCursor}
+use Rattle.lt_live.specs.Words.{submitted, polled, known_commands, known_replies, command_held, told_to, waiting, due_to, SameSeat, IsLink, SameSession}
 use Rattle.lt_live.specs.Live.{IsReplyTo, PolledInTurn, NoMoreThanSubmitted}
 use Rattle.lt_live.proofs.Finished.{replies_of_lines}
 use Rattle.lt_live.specs.declared.ends.Session.{Session}
@@ -102,9 +102,11 @@ is_settled list log s t a b kept looks beside =
       served = record {
         commands = (command_held b.hand ++ known_commands b, sym (append_assoc list (command_held b.hand) (known_commands b)) ∙ sym all);
         replies = (
-          known_replies t ++ told.0,
-          sym (append_assoc (polled t) (known_replies t) told.0)
-              ∙ (ap (λ (replies : List Reply). replies ++ told.0) (beside.replies ∙ looks.told kept.told) ∙ told.1),
+          known_replies t ++ (waiting b ++ told.0),
+          sym (append_assoc (polled t) (known_replies t) (waiting b ++ told.0))
+              ∙ ap (λ (replies : List Reply). replies ++ (waiting b ++ told.0)) beside.replies
+              ∙ sym (append_assoc (told_to b) (waiting b) told.0)
+              ∙ (ap (λ (replies : List Reply). replies ++ told.0) (looks.due kept.due) ∙ told.1),
         );
       };
       all = all;
@@ -121,7 +123,7 @@ same_seats a b d first second = record {
 }
 
 pub only_tells_itself : (a : Seat) → SameSeat a a → OnlyTells a a
-only_tells_itself a same = record { same = same; taken = refl; hand = refl; known = refl; places = omega arith }
+only_tells_itself a same = record { same = same; taken = refl; hand = refl; known = refl; places = omega arith; fewer = omega arith }
 
 pub only_tells_join : (a b d : Seat) → OnlyTells a b → OnlyTells b d → OnlyTells a d
 only_tells_join a b d h k = record {
@@ -130,7 +132,12 @@ only_tells_join a b d h k = record {
   hand = k.hand ∙ h.hand;
   known = k.known ∙ h.known;
   places = omega (arith, h.places, k.places);
+  fewer = omega (arith, h.fewer, k.fewer);
 }
+
+-- where nothing waits, what is told is all
+none_waits : (seat : Seat) → waiting seat ≡ [] → due_to seat ≡ told_to seat
+none_waits seat none = ap (λ (replies : List Reply). told_to seat ++ replies) none ∙ append-nil (told_to seat)
 
 -- the first lines and the next one say what the first ones say, and then what the next says
 pub told_next : (client mine : ℕ) (lines : List Event) (k j : ℕ) (line : Event) (before now then : List Reply) → k < length lines → line ≡ slice_index_or lines k line → j ≡ k + 1 → mine ≡ client
@@ -160,20 +167,22 @@ lines_more (entry ∷ rest) (suc k) lines e =
     ap (λ (list : List Event). entry.events ++ list) (lines_more rest k lines e) ∙ sym (append_assoc entry.events (lines_of (take k rest)) lines)
 
 -- what the lines so far say is what the first moves say, and then what so many lines of the next one say
-split : (client : ℕ) (log : List Logged) (k : ℕ) (lines : List Event) (n : ℕ) → events_at log k ≡ Some lines
+pub split : (client : ℕ) (log : List Logged) (k : ℕ) (lines : List Event) (n : ℕ) → events_at log k ≡ Some lines
     → replies_in client (lines_up_to log k n) ≡ replies_in client (lines_of (take k log)) ++ replies_in client (take n lines)
 split client log k lines n e =
     filter_map-append (reply_to client) (lines_of (take k log)) (take n (lines_at log k))
     ∙ ap (λ (list : List Event). replies_in client (lines_of (take k log)) ++ replies_in client (take n list)) (lines_are log k lines e)
 
 -- replies of a move went into the ring
-pub tells_move : (log : List Logged) (lines : List Event) (all : _) (a b d : Seat) → TellsOn log a b → b.moves < length log → events_at log b.moves ≡ Some lines → TellsMove all lines b d
-    → TellsOn log a d
-tells_move log lines all a b d on inside e moved = record {
+pub tells_move : (log : List Logged) (lines : List Event) (all : _) (a b d : Seat) → TellsOn log a b → waiting b ≡ [] → b.moves < length log → events_at log b.moves ≡ Some lines
+    → TellsMove all lines b d → TellsOn log a d
+tells_move log lines all a b d on empty inside e moved = record {
   rest = only_tells_join a b d on.rest moved.rest;
-  told = λ before. rw moved.moves
-      (moved.told (replies_in b.client (lines_of (take b.moves log)))
-      (on.told before ∙ ap (λ (c : ℕ). replies_in c (lines_up_to log b.moves b.lines)) (sym on.rest.same.client) ∙ split b.client log b.moves lines b.lines e)
+  moves = omega (arith, on.moves, moved.moves);
+  due = λ before. rw moved.moves
+      (none_waits d (moved.waits ∙ empty)
+      ∙ moved.told (replies_in b.client (lines_of (take b.moves log)))
+      (sym (none_waits b empty) ∙ on.due before ∙ ap (λ (c : ℕ). replies_in c (lines_up_to log b.moves b.lines)) (sym on.rest.same.client) ∙ split b.client log b.moves lines b.lines e)
       ∙ sym (split b.client log b.moves lines d.lines e)
       ∙ ap (λ (c : ℕ). replies_in c (lines_up_to log b.moves d.lines)) on.rest.same.client);
   cursor = record {
@@ -182,23 +191,52 @@ tells_move log lines all a b d on inside e moved = record {
   };
 }
 
+-- the lines of all a move's lines are those before the next move
+pub next_lines : (log : List Logged) (lines : List Event) (moves n : ℕ) → events_at log moves ≡ Some lines → n ≡ length lines → lines_up_to log moves n ≡ lines_up_to log (moves + 1) 0
+next_lines log lines moves n e done =
+    let next : suc moves ≡ moves + 1 = omega arith in
+    ap (λ (list : List Event). lines_of (take moves log) ++ take n list) (lines_are log moves lines e)
+    ∙ ap (λ (list : List Event). lines_of (take moves log) ++ list) (take_all n lines (omega (arith, done)))
+    ∙ sym (lines_more log moves lines e)
+    ∙ sym (append-nil (lines_of (take (suc moves) log)))
+    ∙ ap (λ (k : ℕ). lines_of (take k log) ++ []) next
+
 -- and of all its lines, so that the next move is the next to be told of
 pub tells_next : (log : List Logged) (lines : List Event) (a d : Seat) → TellsOn log a d → d.moves < length log → events_at log d.moves ≡ Some lines → d.lines ≡ length lines
     → TellsOn log a (record d { moves = d.moves + 1; lines = 0 })
 tells_next log lines a d on inside e done = record {
-  rest = record { same = record { client = on.rest.same.client; commands = on.rest.same.commands; replies = on.rest.same.replies }; taken = on.rest.taken; hand = on.rest.hand; known = on.rest.known; places = on.rest.places };
-  told = λ before. on.told before ∙ ap (λ (list : List Event). replies_in a.client list) whole;
+  rest = record { same = record { client = on.rest.same.client; commands = on.rest.same.commands; replies = on.rest.same.replies }; taken = on.rest.taken; hand = on.rest.hand; known = on.rest.known; places = on.rest.places; fewer = on.rest.fewer };
+  moves = omega (arith, on.moves);
+  due = λ before. on.due before ∙ ap (λ (list : List Event). replies_in a.client list) (next_lines log lines d.moves d.lines e done);
   cursor = record { inside = omega (arith, inside); within = omega arith };
 }
-  where
-    whole : lines_up_to log d.moves d.lines ≡ lines_up_to log (d.moves + 1) 0
-    whole =
-        let next : suc d.moves ≡ d.moves + 1 = omega arith in
-        ap (λ (list : List Event). lines_of (take d.moves log) ++ take d.lines list) (lines_are log d.moves lines e)
-        ∙ ap (λ (list : List Event). lines_of (take d.moves log) ++ list) (take_all d.lines lines (omega (arith, done)))
-        ∙ sym (lines_more log d.moves lines e)
-        ∙ sym (append-nil (lines_of (take (suc d.moves) log)))
-        ∙ ap (λ (k : ℕ). lines_of (take k log) ++ []) next
+
+-- what waits went into the ring
+pub tells_waiting : (log : List Logged) (all : _) (a b : Seat) → IsCursor log a.moves a.lines → TellsOutbox all a b → TellsOn log a b
+tells_waiting log all a b cursor told = record {
+  rest = told.rest;
+  moves = omega (arith, told.moves);
+  due = λ before. told.due ∙ before
+      ∙ sym (ap (λ (k : ℕ). replies_in a.client (lines_up_to log k b.lines)) told.moves
+      ∙ ap (λ (k : ℕ). replies_in a.client (lines_up_to log a.moves k)) told.lines);
+  cursor = subst (λ (k : ℕ). IsCursor log k b.lines) (sym told.moves) (subst (λ (k : ℕ). IsCursor log a.moves k) (sym told.lines) cursor);
+}
+
+-- and then further replies
+pub tells_further : (log : List Logged) (a b d : Seat) → IsCursor log a.moves a.lines → TellsOutbox true a b → TellsSeat log b d → TellsSeat log a d
+tells_further log a b d cursor told further =
+    let on = tells_waiting log true a b cursor told in
+    record {
+      on = record {
+        rest = only_tells_join a b d on.rest further.on.rest;
+        moves = omega (arith, on.moves, further.on.moves);
+        due = λ before.
+            further.on.due (on.due before ∙ ap (λ (c : ℕ). replies_in c (lines_up_to log b.moves b.lines)) (sym on.rest.same.client))
+            ∙ ap (λ (c : ℕ). replies_in c (lines_up_to log d.moves d.lines)) on.rest.same.client;
+        cursor = further.on.cursor;
+      };
+      stops = further.stops;
+    }
 
 -- The two ends of a session stay the ends of one.
 

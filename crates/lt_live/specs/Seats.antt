@@ -1,5 +1,5 @@
 -- How far a client was told of a log.
-use Rattle.std.specs.Prelude.{◌≤◌, ℕ, List, [], ◌++◌, Option, Some, None, length, take, slice_get, ◌==◌, if◌then◌else◌, ◌≡◌, ◌+◌, ◌⊎◌, Bool, true, false, ◌∷◌, filter_map}
+use Rattle.std.specs.Prelude.{◌≤◌, ℕ, List, [], ◌++◌, Option, Some, None, length, take, slice_get, ◌==◌, if◌then◌else◌, ◌≡◌, ◌+◌, ◌⊎◌, ◌<◌, Bool, true, false, ◌∷◌, filter_map}
 use mathlib.Core.List.{IsPrefix}
 use Rattle.rtrb.specs.Ring.{known_free}
 use Rattle.lt_modes.specs.declared.event.Event.{Event}
@@ -11,7 +11,7 @@ use Rattle.lt_live.specs.declared.reply.Reply.{Reply}
 use Rattle.lt_live.specs.declared.reply.Reply.TheVariants.{Granted, True, False, Unlocked, NotHeld, Changed, Dropped, Busy}
 use Rattle.lt_live.specs.declared.ends.Session.{Session}
 use Rattle.lt_live.specs.declared.ends.Seat.{Seat}
-use Rattle.lt_live.specs.Words.{submitted, polled, known_replies, taken, known_commands, told_to, command_held, SameSession, SameSeat}
+use Rattle.lt_live.specs.Words.{submitted, polled, known_replies, taken, known_commands, told_to, waiting, due_to, command_held, SameSession, SameSeat}
 
 abbrev pub lines_if : Option Logged → List Event
 lines_if None = []
@@ -63,20 +63,23 @@ pub record OnlyTells (a b : Seat) : Type 0 where
   pub hand : b.hand ≡ a.hand
   pub known : known_commands b ≡ known_commands a
   pub places : known_free a.replies + length (told_to a) ≤ known_free b.replies + length (told_to b)
+  pub fewer : length (waiting b) ≤ length (waiting a)
 
--- nothing happened but that a command may have been taken into the hand
+-- nothing happened but that a command may have been taken into the hand; none was, where replies wait in the outbox
 pub record TakesIn (a b : Seat) : Type 0 where
   pub same : SameSeat a b
-  pub told : told_to b ≡ told_to a
+  pub told : (told_to b ≡ told_to a) × (waiting b ≡ waiting a)
   pub cursor : (b.moves ≡ a.moves) × (b.lines ≡ a.lines)
   pub taken : (list : List Command) → taken a ≡ list ++ command_held a.hand → taken b ≡ list ++ command_held b.hand
-  pub none : a.hand ≡ None → b.hand ≡ None → known_commands a ≡ []
+  pub none : a.hand ≡ None → b.hand ≡ None → (known_commands a ≡ []) ⊎ (0 < length (waiting a))
   pub stays : (command : Command) → a.hand ≡ Some command → b ≡ a
+  pub owing : 0 < length (waiting a) → b ≡ a
 
 -- the reply that the line says to the client went into the ring
 pub record HasTold (line : Event) (a b : Seat) : Type 0 where
   pub rest : OnlyTells a b
   pub told : told_to b ≡ told_to a ++ replies_in a.client (line ∷ [])
+  pub waits : waiting b ≡ waiting a
   pub moves : b.moves ≡ a.moves
   pub lines : b.lines ≡ a.lines + 1
 
@@ -84,6 +87,7 @@ pub record HasTold (line : Event) (a b : Seat) : Type 0 where
 pub record HasNoPlace (a b : Seat) : Type 0 where
   pub rest : OnlyTells a b
   pub told : told_to b ≡ told_to a
+  pub waits : waiting b ≡ waiting a
   pub moves : b.moves ≡ a.moves
   pub lines : b.lines ≡ a.lines
   pub full : known_free b.replies ≡ 0
@@ -102,26 +106,75 @@ pub record TellsMove (all : Bool) (lines : List Event) (a b : Seat) : Type 0 whe
   pub moves : b.moves ≡ a.moves
   pub told : (before : List Reply) → told_to a ≡ before ++ replies_in a.client (take a.lines lines)
       → told_to b ≡ before ++ replies_in a.client (take b.lines lines)
+  pub waits : waiting b ≡ waiting a
   pub within : b.lines ≤ length lines
   pub ends : MoveEnds all lines b
 
--- replies of further lines of the log went into the ring, in order
+abbrev pub OutboxEnds : Bool → Seat → Type 0
+OutboxEnds true b = waiting b ≡ []
+OutboxEnds false b = known_free b.replies ≡ 0
+
+-- replies went from the outbox into the ring, in order: all of them, or until the ring had no place
+pub record TellsOutbox (all : Bool) (a b : Seat) : Type 0 where
+  pub rest : OnlyTells a b
+  pub due : due_to b ≡ due_to a
+  pub moves : b.moves ≡ a.moves
+  pub lines : b.lines ≡ a.lines
+  pub ends : OutboxEnds all b
+
+-- replies went into the ring, in order: those of the outbox, and then those of further lines of the log
 pub record TellsOn (log : List Logged) (a b : Seat) : Type 0 where
   pub rest : OnlyTells a b
-  pub told : told_to a ≡ replies_in a.client (lines_up_to log a.moves a.lines)
-      → told_to b ≡ replies_in a.client (lines_up_to log b.moves b.lines)
+  pub moves : a.moves ≤ b.moves
+  pub due : due_to a ≡ replies_in a.client (lines_up_to log a.moves a.lines)
+      → due_to b ≡ replies_in a.client (lines_up_to log b.moves b.lines)
   pub cursor : IsCursor log b.moves b.lines
+
+-- no reply waits in the outbox, and the client was told of all moves of the log
+abbrev pub HasToldAll : List Logged → Seat → Type 0
+HasToldAll log seat = (waiting seat ≡ []) × (seat.moves ≡ length log)
 
 -- of all lines, or until the ring had no place
 pub record TellsSeat (log : List Logged) (a b : Seat) : Type 0 where
   pub on : TellsOn log a b
-  pub stops : (b.moves ≡ length log) ⊎ (known_free b.replies ≡ 0)
+  pub stops : HasToldAll log b ⊎ (known_free b.replies ≡ 0)
 
--- what was taken is the client's list, and then the command in hand; what was told are its replies in the log so far
+-- the reply that the line says to the client was put behind the outbox
+pub record HasRead (line : Event) (a b : Seat) : Type 0 where
+  pub seat : b ≡ record a { waiting = b.waiting; lines = a.lines + 1 }
+  pub waits : waiting b ≡ waiting a ++ replies_in a.client (line ∷ [])
+
+-- there was no memory for it
+pub record HasNotRead (a b : Seat) : Type 0 where
+  pub seat : b ≡ record a { waiting = b.waiting }
+  pub waits : waiting b ≡ waiting a
+
+-- replies of further lines of a move were put behind the outbox, in order
+pub record ReadsMove (lines : List Event) (a b : Seat) : Type 0 where
+  pub seat : b ≡ record a { waiting = b.waiting; lines = b.lines }
+  pub due : (before : List Reply) → due_to a ≡ before ++ replies_in a.client (take a.lines lines)
+      → due_to b ≡ before ++ replies_in a.client (take b.lines lines)
+  pub within : b.lines ≤ length lines
+
+-- replies of further lines of the log were put behind the outbox, in order, and nothing else happened
+pub record ReadsOn (log : List Logged) (a b : Seat) : Type 0 where
+  pub seat : b ≡ record a { waiting = b.waiting; moves = b.moves; lines = b.lines }
+  pub moves : a.moves ≤ b.moves
+  pub due : due_to a ≡ replies_in a.client (lines_up_to log a.moves a.lines)
+      → due_to b ≡ replies_in a.client (lines_up_to log b.moves b.lines)
+  pub cursor : IsCursor log a.moves a.lines → IsCursor log b.moves b.lines
+
+-- of all lines
+pub record ReadsAll (log : List Logged) (a b : Seat) : Type 0 where
+  pub due : due_to a ≡ replies_in a.client (lines_up_to log a.moves a.lines) → due_to b ≡ replies_in a.client (lines_of log)
+  pub moves : b.moves ≡ length log
+
+-- what was taken is the client's list, and then the command in hand; what was told, and then what waits in the outbox, are
+-- its replies in the log so far
 pub record IsSeat (list : List Command) (log : List Logged) (client : ℕ) (seat : Seat) : Type 0 where
   pub client_is : seat.client ≡ client
   pub taken : taken seat ≡ list ++ command_held seat.hand
-  pub told : told_to seat ≡ replies_in client (lines_up_to log seat.moves seat.lines)
+  pub due : due_to seat ≡ replies_in client (lines_up_to log seat.moves seat.lines)
   pub cursor : IsCursor log seat.moves seat.lines
 
 -- all that is in the rings is known to both ends
@@ -138,8 +191,10 @@ pub record LooksBeside (log : List Logged) (s t : Session) (a b : Seat) : Type 0
   pub seat : SameSeat a b
   pub taken : (taken b ≡ taken a) × (b.hand ≡ a.hand)
   pub known_more : IsPrefix (known_commands a) (known_commands b)
-  pub told : told_to a ≡ replies_in a.client (lines_up_to log a.moves a.lines)
-      → told_to b ≡ replies_in a.client (lines_up_to log b.moves b.lines)
+  pub fewer : length (waiting b) ≤ length (waiting a)
+  pub moves : a.moves ≤ b.moves
+  pub due : due_to a ≡ replies_in a.client (lines_up_to log a.moves a.lines)
+      → due_to b ≡ replies_in a.client (lines_up_to log b.moves b.lines)
   pub cursor : IsCursor log b.moves b.lines
 
 -- the client's list is a first part of what was submitted, and what was polled a first part of its replies

@@ -19,8 +19,8 @@ use Rattle.lt_runner.specs.Kept.{AsSeen, CouldMove, Grew, TurnEnds, with_appende
 use Rattle.lt_threads.specs.Pushes.{IsFirstCrew}
 use Rattle.lt_live.specs.declared.ends.Session.{Session}
 use Rattle.lt_live.specs.declared.ends.Seat.{Seat}
-use Rattle.lt_live.specs.Seats.{IsCursor, TakesIn, TellsSeat, IsSeat, KnowAll, LooksBeside}
-use Rattle.lt_live.specs.Words.{known_replies, IsLink, submitted, polled, known_commands, places}
+use Rattle.lt_live.specs.Seats.{IsCursor, TakesIn, TellsSeat, IsSeat, KnowAll, LooksBeside, HasToldAll}
+use Rattle.lt_live.specs.Words.{known_replies, IsLink, submitted, polled, known_commands, waiting, places}
 use Rattle.lt_live.specs.declared.limits.TheConstants.{LETTER_PLACES}
 
 abbrev pub has_set : ScriptData → ℕ → Bool
@@ -50,8 +50,8 @@ pub record StationData : Type 0 where
   pub runner : Parts
   pub seats : List Seat
 
--- the seat of a client of the runner's node: what was taken is the client's list in the runner's script, and then the command
--- in hand; what was told are its replies in the runner's log so far
+-- the seat of a client of the runner's node: what was taken is the client's list in the runner's script, and then the
+-- command in hand; what was told, and then what waits in the outbox, are its replies in the runner's log so far
 pub record IsSeatOf (p : Parts) (seat : Seat) : Type 0 where
   pub client : seat.client < length p.node.script.clients
   pub home : home p.node.script seat.client ≡ p.node.me
@@ -135,8 +135,9 @@ MoveEnds Quiet a b seats = TurnEnds Quiet a b
 MoveEnds Full a b seats = TurnEnds Full a b
 MoveEnds NoMemory a b seats = AsSeen a b × (CouldMove b ⊎ SomeCanAppend b seats)
 
--- a command was taken into the hand where none was there and one was known; then the one in hand may be gone; and replies
--- may have gone into the ring, of all lines of the log or until the ring had no place
+-- a command was taken into the hand where none was there, one was known and no reply waited in the outbox; then the one in
+-- hand may be gone; and replies may have gone into the ring, those of the outbox first, of all lines of the log or until the
+-- ring had no place
 pub record SeatTurns (log : List Logged) (s t : Seat) : Type 0 where
   pub held : Seat
   pub left : Seat
@@ -175,7 +176,7 @@ pub record SeatLooks (log : List Logged) (s t : Session) (old new : List Seat) :
   pub link : IsLink t y
   pub beside : KnowAll t y
   pub looks : LooksBeside log s t x y
-  pub moves : (y.moves ≡ length log) ⊎ (0 < length (known_replies t))
+  pub moves : HasToldAll log y ⊎ (0 < length (known_replies t))
   pub others : (k : ℕ) → k ≢ s.place → slice_get new k ≡ slice_get old k
 
 -- Stations and sessions as they are opened.
@@ -200,6 +201,7 @@ pub record HasSeat (script : ScriptData) (capacity : ℕ) (stations : List Stati
   pub seated : IsSeated s station.seats
   pub places : producer_capacity seated.seat.replies ≡ capacity
   pub commands : known_commands seated.seat ≡ []
+  pub waits : waiting seated.seat ≡ []
 
 abbrev pub runner_of : StationData → Parts
 runner_of station = station.runner

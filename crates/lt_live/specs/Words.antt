@@ -1,5 +1,5 @@
 -- What went through the ends of a session.
-use Rattle.std.specs.Prelude.{◌≡◌, ℕ, List, [], ◌∷◌, Option, Some, None}
+use Rattle.std.specs.Prelude.{◌≡◌, ℕ, List, [], ◌∷◌, ◌++◌, Option, Some, None}
 use Rattle.rtrb.specs.Ring.{sent, received, known_items, producer_capacity, IsPair, SameProducer, SameConsumer}
 use Rattle.lt_modes.specs.declared.command.Command.{Command}
 use Rattle.lt_live.specs.declared.reply.Reply.{Reply}
@@ -31,6 +31,14 @@ known_commands seat = known_items seat.commands
 -- the replies that the ring was given
 abbrev pub told_to : Seat → List Reply
 told_to seat = sent seat.replies
+
+-- those that were read from the log and found no place in the ring yet
+abbrev pub waiting : Seat → List Reply
+waiting seat = seat.waiting.items
+
+-- all that the client was told, and is told next
+abbrev pub due_to : Seat → List Reply
+due_to seat = told_to seat ++ waiting seat
 
 -- the command in hand
 abbrev pub command_held : Option Command → List Command

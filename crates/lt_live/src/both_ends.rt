@@ -4,7 +4,7 @@ ghost use Rattle.lt_modes.specs.declared.command.Command.{Command};
 ghost use Rattle.lt_spec.specs.Holdings.{lines_of};
 ghost use Rattle.rtrb.specs.Ring.{producer_capacity};
 ghost use Rattle.lt_live.specs.Words.{known_replies, IsLink};
-ghost use Rattle.lt_live.specs.Seats.{IsCursor, KnowAll, LooksBeside, IsSeat, IsSettledSeat};
+ghost use Rattle.lt_live.specs.Seats.{IsCursor, KnowAll, LooksBeside, HasToldAll, IsSeat, IsSettledSeat};
 
 use crate::ends::{Seat, Session};
 use lt_merge::Log;
@@ -18,7 +18,7 @@ pub(crate) fn beside(session: &mut Session, seat: &mut Seat, log: &Log)
     ensures link { IsLink session.new seat.new }
     ensures beside { KnowAll session.new seat.new }
     ensures looks { LooksBeside log.now.entries session.old session.new seat.old seat.new }
-    ensures moves { (seat.new.moves ≡ length log.now.entries) ⊎ (0 < length (known_replies session.new)) }
+    ensures moves { HasToldAll log.now.entries seat.new ⊎ (0 < length (known_replies session.new)) }
 {
     seat.commands.slots_beside(&mut session.commands);
     seat.replies.slots_beside(&mut session.replies);

@@ -5,6 +5,7 @@ use crate::reply::Reply;
 use lt_modes::Command;
 use lt_script::Script;
 use rtrb::{Consumer, Producer};
+use std::collections::VecDeque;
 
 /// A caller's end: it submits the commands of one client, and polls for their replies.
 #[derive(Drop)]
@@ -35,7 +36,9 @@ pub struct Seat {
     // A command that was taken and isn't appended yet.
     pub(crate) hand: Option<Command>,
     pub(crate) replies: Producer<Reply>,
-    // The client was told of all lines of so many moves, and of so many lines of the next one.
+    // Replies that found no place in the ring yet.
+    pub(crate) waiting: VecDeque<Reply>,
+    // All lines of so many moves were read, and so many lines of the next one.
     pub(crate) moves: u32,
     pub(crate) lines: usize,
 }

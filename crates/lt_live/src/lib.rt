@@ -10,6 +10,7 @@ mod limits;
 mod looking;
 mod meeting;
 mod opening;
+mod outbox;
 mod parting;
 mod reply;
 mod same;

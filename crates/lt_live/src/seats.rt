@@ -1,6 +1,7 @@
 // What a station does with the end of one session.
-ghost use Rattle.std.specs.Prelude.{◌≡◌, ◌≤◌, ◌<◌, ◌+◌, ◌^◌, length, None, slice_get};
+ghost use Rattle.std.specs.Prelude.{◌≡◌, ◌≤◌, ◌<◌, ◌+◌, ◌^◌, [], length, None};
 ghost use Rattle.lt_live.specs.Seats.{IsCursor, TakesIn, TellsSeat, TellsMove, ToldNext};
+ghost use Rattle.lt_live.specs.Words.{waiting};
 
 use crate::ends::Seat;
 use crate::reply::reply_to;
@@ -8,25 +9,38 @@ use lt_merge::Log;
 use lt_modes::Event;
 
 impl Seat {
-    /// Takes a command into the hand, where none is there.
+    /// Takes a command into the hand, where none is there and no reply waits: so the outbox of a caller that doesn't poll stays
+    /// small.
     pub(crate) fn take_in(&mut self)
         ensures { TakesIn self.old self.new }
     {
-        if self.hand.is_none() {
+        if self.hand.is_none() && self.waiting.is_empty() {
             self.fill_hand();
         }
     }
 
     fn fill_hand(&mut self)
-        requires { self.old.hand ≡ None }
+        requires hand { self.old.hand ≡ None }
+        requires empty { waiting self.old ≡ [] }
         ensures { TakesIn self.old self.new }
     {
         self.hand = self.commands.pop().ok();
     }
 
-    /// Gives the ring the client's replies of the log, in order, while it has places.
+    /// Gives the ring what waits, and then the client's replies of the log, in order, while it has places.
     pub(crate) fn tell(&mut self, log: &Log)
         requires { IsCursor log.now.entries self.old.moves self.old.lines }
+        ensures { TellsSeat log.now.entries self.old self.new }
+    {
+        if self.tell_waiting() {
+            self.tell_further(log);
+        }
+    }
+
+    // Gives the ring the client's further replies of the log, where none waits.
+    fn tell_further(&mut self, log: &Log)
+        requires cursor { IsCursor log.now.entries self.old.moves self.old.lines }
+        requires empty { waiting self.old ≡ [] }
         ensures { TellsSeat log.now.entries self.old self.new }
     {
         while self.moves < log.len() {

@@ -60,7 +60,8 @@ impl Station {
         Ok(())
     }
 
-    /// Takes at most one command of each client, makes one move, and tells what replies there are.
+    /// Takes at most one command of each client whose replies have found places, makes one move, and tells what replies there
+    /// are.
     ///
     /// A command that finds no memory stays in hand, and is appended in a later turn. After `NoMemory` no move was made in
     /// this turn, and what was appended stays.

@@ -12,5 +12,6 @@ loop-self-preserved c =
       moves = told.moves ∙ before.moves;
       told = λ replies so. told_next c.args.self.now.client c.loop-self.self.client c.args.lines.now c.loop-self.self.lines c.tell_next.new.self.lines c.index-lines-self.result replies
           (told_to c.loop-self.self) (told_to c.tell_next.new.self) c.loop-self-test.true c.index-lines-self.is told.lines before.rest.same.client (before.told replies so) told.told;
+      waits = told.waits ∙ before.waits;
       within = omega (arith, told.lines, c.loop-self-test.true);
     }
