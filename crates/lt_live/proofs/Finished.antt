@@ -22,7 +22,7 @@ use Rattle.lt_law_merged.proofs.PartLogs.{joined_merges, part_is}
 use Rattle.lt_mail.specs.Words.{Alike}
 use Rattle.lt_runner.specs.declared.parts.Parts.{Parts}
 use Rattle.lt_runner.specs.Kept.{SameRunner, AsSeen}
-use Rattle.lt_threads.specs.Meeting.{AreShares, ShareScript, AreTooMany, IsSharedRun, commands_in, part_of, IsCrew, crew_run, IsJoined}
+use Rattle.lt_threads.specs.Meeting.{AreShares, ShareScript, AreTooMany, HaveAll, IsSharedRun, commands_in, part_of, IsCrew, crew_run, IsJoined}
 use Rattle.lt_threads.proofs.Shares.{same_in_joined, joined_crew}
 use Rattle.lt_threads.proofs.Each.{each_weaker}
 use Rattle.lt_threads.proofs.Logs.{crew_last, SameLog, same_run}
@@ -209,6 +209,12 @@ pub never_many : (stations later : List StationData) (sessions after : List Sess
     → AllSettled stations sessions later after → rs ≡ map runner_of later → ¬ AreTooMany rs
 never_many stations later sessions after rs live settled taken =
     not_many live.0 stations later sessions after rs (settled live.0 live.1) taken
+
+-- a station that has forgotten moves had before
+pub not_all : (stations later : List StationData) (sessions after : List Session) (rs : List Parts) → LiveScript stations sessions
+    → AllSettled stations sessions later after → rs ≡ map runner_of later → ¬ HaveAll rs → ¬ HaveAll (map runner_of stations)
+not_all stations later sessions after rs live settled taken none all =
+    none (subst HaveAll (sym (taken ∙ (settled live.0 live.1).runners)) all)
 
 pub finishes : (stations later : List StationData) (sessions after : List Session) (rs : List Parts) (made : ScriptData) (run : List Logged)
     → AllSettled stations sessions later after → rs ≡ map runner_of later → IsSharedRun rs made run

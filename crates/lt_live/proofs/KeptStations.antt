@@ -1,5 +1,5 @@
 -- A station gets its seats.
-use Rattle.std.proofs.Common.{◌≡◌, ℕ, List, [], ◌∷◌, ◌++◌, length, Some, sym, ap, subst, ◌∙◌, inl, inr, ◌<◌, zero, suc, take, refl, arith, ◌≢◌, None, Bool, if◌then◌else◌, ◌⊎◌, slice_get, slice_set, append_assoc, append-nil, eq-eqb, ne_eqb}
+use Rattle.std.proofs.Common.{◌≡◌, ℕ, List, [], ◌∷◌, ◌++◌, length, Some, sym, ap, subst, ◌∙◌, inl, inr, ◌<◌, ◌≤◌, ◌^◌, zero, suc, take, refl, arith, ◌≢◌, None, Bool, if◌then◌else◌, ◌⊎◌, slice_get, slice_set, append_assoc, append-nil, eq-eqb, ne_eqb}
 use Rattle.std.proofs.lemmas.Bool.{cases_eq}
 use Rattle.std.proofs.lemmas.Option.{same_Some, slice_get_within}
 use mathlib.Core.List.{IsPrefix}
@@ -17,15 +17,16 @@ use Rattle.lt_live.specs.declared.ends.Seat.{Seat}
 use Rattle.lt_live.specs.Stations.{IsSeatOf, IsStation, AreOthers, EachSeat, MayHandOver, HandMayGo}
 use Rattle.lt_live.proofs.SeatLists.{pushed, none_here, set_here, set_other, each_before}
 use Rattle.lt_live.specs.Seats.{replies_in, lines_at, lines_up_to, IsCursor, TakesIn, TellsSeat, IsSeat}
-use Rattle.lt_live.specs.Words.{told_to, waiting, command_held}
+use Rattle.lt_live.specs.Words.{told_to, outbox_replies, command_held}
 use Rattle.lt_live.specs.declared.reply.Reply.{Reply}
 
 -- before the first seat
-pub station_first : (p : Parts) → AreAt p.node.script p.node.me p.node.script.commands → IsStation p []
-station_first p own = record {
+pub station_first : (p : Parts) → AreAt p.node.script p.node.me p.node.script.commands → p.limit < 2 ^ 32 → IsStation p []
+station_first p own few = record {
   each = λ k seat e. none_here k seat e;
   apart = λ j k x y e f same. none_here j x e;
   own = own;
+  few = few;
 }
 
 -- one seat more
@@ -34,6 +35,7 @@ station_more p seats seat h here others = record {
   each = λ k x e. each k x (pushed seats seat k x e);
   apart = λ j k x y e f same. apart j k x y (pushed seats seat j x e) (pushed seats seat k y f) same;
   own = h.own;
+  few = h.few;
 }
   where
     each : (k : ℕ) (x : Seat) → (slice_get seats k ≡ Some x) ⊎ ((k ≡ length seats) × (seat ≡ x)) → IsSeatOf p x
@@ -72,33 +74,35 @@ seat_grew list log later client seat goes h =
     subst (λ (entries : List Logged). IsSeat list entries client seat) goes.1
     (record { client_is = h.client_is; taken = h.taken; due = h.due ∙ ap (replies_in client) (sym same); cursor = cursor })
 
-pub seat_of_grew : (a b : Parts) (seat : Seat) → b.node.script ≡ a.node.script → b.node.me ≡ a.node.me → IsPrefix a.log.entries b.log.entries
+pub seat_of_grew : (a b : Parts) (seat : Seat) → b.node.script ≡ a.node.script → b.node.me ≡ a.node.me → b.log.gone ≡ a.log.gone → IsPrefix a.log.entries b.log.entries
     → IsSeatOf a seat → IsSeatOf b seat
-seat_of_grew a b seat same me goes h = record {
+seat_of_grew a b seat same me gone goes h = record {
   client = subst (λ (s : ScriptData). seat.client < length s.clients) (sym same) h.client;
   home = ap (λ (s : ScriptData). home s seat.client) same ∙ h.home ∙ sym me;
   kept = subst (λ (s : ScriptData). IsSeat (commands_of s seat.client) b.log.entries seat.client seat) (sym same)
       (seat_grew (commands_of a.node.script seat.client) a.log.entries b.log.entries seat.client seat goes h.kept);
   places = h.places;
+  gone = subst (λ (n : ℕ). n ≤ seat.moves) (sym gone) h.gone;
 }
 
 -- the seat of the same client, with the same rings
-pub seat_of : (p : Parts) (s t : Seat) → IsSeatOf p s → t.client ≡ s.client → t.replies.capacity ≡ s.replies.capacity
+pub seat_of : (p : Parts) (s t : Seat) → IsSeatOf p s → t.client ≡ s.client → t.replies.capacity ≡ s.replies.capacity → s.moves ≤ t.moves
     → IsSeat (commands_of p.node.script s.client) p.log.entries s.client t → IsSeatOf p t
-seat_of p s t h client capacity kept = record {
+seat_of p s t h client capacity moves kept = record {
   client = subst (λ (c : ℕ). c < length p.node.script.clients) (sym client) h.client;
   home = ap (home p.node.script) client ∙ h.home;
   kept = subst (λ (c : ℕ). IsSeat (commands_of p.node.script c) p.log.entries c t) (sym client) kept;
   places = subst (λ (n : ℕ). 0 < n) (sym capacity) h.places;
+  gone = omega (arith, h.gone, moves);
 }
 
 pub seat_of_taken : (p : Parts) (s t : Seat) → IsSeatOf p s → TakesIn s t → IsSeatOf p t
 seat_of_taken p s t h takes =
-    seat_of p s t h takes.same.client takes.same.replies.1
+    seat_of p s t h takes.same.client takes.same.replies.1 (omega (arith, takes.cursor.0))
     (record {
       client_is = takes.same.client;
       taken = takes.taken (commands_of p.node.script s.client) h.kept.taken;
-      due = ap (λ (replies : List Reply). replies ++ waiting t) takes.told.0
+      due = ap (λ (replies : List Reply). replies ++ outbox_replies t) takes.told.0
           ∙ ap (λ (replies : List Reply). told_to s ++ replies) takes.told.1
           ∙ h.kept.due
           ∙ sym (ap (λ (k : ℕ). replies_in s.client (lines_up_to p.log.entries k t.lines)) takes.cursor.0
@@ -110,7 +114,7 @@ seat_of_taken p s t h takes =
 pub seat_of_told : (p : Parts) (s t : Seat) → IsSeatOf p s → TellsSeat p.log.entries s t → IsSeatOf p t
 seat_of_told p s t h tells =
     let rest = tells.on.rest in
-    seat_of p s t h rest.same.client rest.same.replies.1
+    seat_of p s t h rest.same.client rest.same.replies.1 tells.on.moves
     (record {
       client_is = rest.same.client;
       taken = rest.taken ∙ (h.kept.taken ∙ ap (λ hand. commands_of p.node.script s.client ++ command_held hand) (sym rest.hand));
@@ -128,29 +132,30 @@ pub record Stays (a b : Parts) (old : List Seat) (k : ℕ) (seat : Seat) : Type 
   pub now : IsSeatOf b seat
 
 pub station_from : (a b : Parts) (old new : List Seat) → IsStation a old → AreAt b.node.script b.node.me b.node.script.commands
-    → ((k : ℕ) (seat : Seat) → slice_get new k ≡ Some seat → Stays a b old k seat) → IsStation b new
-station_from a b old new h own each = record {
+    → b.limit ≡ a.limit → ((k : ℕ) (seat : Seat) → slice_get new k ≡ Some seat → Stays a b old k seat) → IsStation b new
+station_from a b old new h own limit each = record {
   each = λ k seat e. (each k seat e).now;
   apart = λ j k x y e f same.
       let one = each j x e in
       let two = each k y f in
       h.apart j k one.was two.was one.here two.here (sym one.client ∙ same ∙ two.client);
   own = own;
+  few = subst (λ (n : ℕ). n < 2 ^ 32) (sym limit) h.few;
 }
 
 pub station_taken : (p : Parts) (old new : List Seat) → IsStation p old → EachSeat TakesIn old new → IsStation p new
-station_taken p old new h each = station_from p p old new h h.own (λ k seat e.
+station_taken p old new h each = station_from p p old new h h.own refl (λ k seat e.
     let (was, here, takes) = each_before TakesIn old new each k seat e in
     record { was = was; here = here; client = takes.same.client; now = seat_of_taken p was seat (h.each k was here) takes })
 
 pub station_told : (p : Parts) (old new : List Seat) → IsStation p old → EachSeat (TellsSeat p.log.entries) old new → IsStation p new
-station_told p old new h each = station_from p p old new h h.own (λ k seat e.
+station_told p old new h each = station_from p p old new h h.own refl (λ k seat e.
     let (was, here, tells) = each_before (TellsSeat p.log.entries) old new each k seat e in
     record { was = was; here = here; client = tells.on.rest.same.client; now = seat_of_told p was seat (h.each k was here) tells })
 
 pub station_grew : (a b : Parts) (seats : List Seat) → IsStation a seats → Grew a b → IsStation b seats
-station_grew a b seats h grew = station_from a b seats seats h own (λ k seat e.
-    record { was = seat; here = e; client = refl; now = seat_of_grew a b seat grew.same.script grew.same.me grew.log (h.each k seat e) })
+station_grew a b seats h grew = station_from a b seats seats h own grew.same.limit (λ k seat e.
+    record { was = seat; here = e; client = refl; now = seat_of_grew a b seat grew.same.script grew.same.me grew.same.gone grew.log (h.each k seat e) })
   where
     own : AreAt b.node.script b.node.me b.node.script.commands
     own =
@@ -186,6 +191,7 @@ own_handed a x command h hand = record {
     cursor = h.kept.cursor;
   };
   places = h.places;
+  gone = h.gone;
 }
 
 -- and any other one
@@ -200,12 +206,13 @@ other_handed a client z command apart h = record {
     cursor = h.kept.cursor;
   };
   places = h.places;
+  gone = h.gone;
 }
 
 handed : (a : Parts) (seats : List Seat) (place : ℕ) (x : Seat) (command : Command) → IsStation a seats → slice_get seats place ≡ Some x → x.hand ≡ Some command
     → IsStation (with_appended a x.client command) (slice_set seats place (record x { hand = None }))
 handed a seats place x command h here hand =
-    station_from a (with_appended a x.client command) seats (slice_set seats place (record x { hand = None })) h own (λ k seat e. by_place k seat e)
+    station_from a (with_appended a x.client command) seats (slice_set seats place (record x { hand = None })) h own refl (λ k seat e. by_place k seat e)
   where
     inside : place < length seats
     inside = slice_get_within seats place x here
@@ -249,7 +256,7 @@ set_same seats place x here k = elim (cases_eq k place) [
 ]
 
 unhanded : (a : Parts) (seats : List Seat) (place : ℕ) (x : Seat) → IsStation a seats → slice_get seats place ≡ Some x → IsStation a (slice_set seats place x)
-unhanded a seats place x h here = station_from a a seats (slice_set seats place x) h h.own (λ k seat e.
+unhanded a seats place x h here = station_from a a seats (slice_set seats place x) h h.own refl (λ k seat e.
     let was : slice_get seats k ≡ Some seat = sym (set_same seats place x here k) ∙ e in
     record { was = seat; here = was; client = refl; now = h.each k seat was })
 

@@ -1,5 +1,6 @@
 pub mod Telling
 pub mod ReadLemmas
+pub mod Forgotten
 pub mod Finished
 pub mod TurnParts
 pub mod SeatLists

@@ -1,5 +1,5 @@
 -- What is known of the runners as stations are opened.
-use Rattle.std.proofs.Common.{◌≡◌, ◌<◌, ℕ, List, [], length, filter_map, Some, sym, ap, subst, ◌∙◌, ◌+◌, ◌∷◌, ◌++◌, map, arith, inl, inr, get_or, refl, slice_get, ◌⊎◌, slice_set, slice_index_or, option_map, length-append}
+use Rattle.std.proofs.Common.{◌≡◌, ◌<◌, ◌≤◌, ◌^◌, ℕ, List, [], length, filter_map, Some, sym, ap, subst, ◌∙◌, ◌+◌, ◌∷◌, ◌++◌, map, arith, inl, inr, get_or, refl, slice_get, ◌⊎◌, slice_set, slice_index_or, option_map, length-append}
 use Rattle.std.proofs.lemmas.Bool.{cases_eq}
 use Rattle.std.proofs.lemmas.List.{length-map, map-append}
 use Rattle.std.proofs.lemmas.Option.{same_Some, slice_get-get_or, slice_get-map, slice_get_within}
@@ -9,14 +9,15 @@ use Rattle.lt_modes.specs.declared.command.Command.{Command}
 use Rattle.lt_modes.specs.Script.{ScriptData}
 use Rattle.lt_spec.specs.NodeMove.{commands_of, command_if, home, AreAt}
 use Rattle.lt_spec.specs.World.{Logged}
+use Rattle.lt_spec.specs.declared.moves.TheConstants.{MAX_MOVES}
 use Rattle.lt_runner.specs.declared.parts.Parts.{Parts}
 use Rattle.lt_threads.specs.Pushes.{IsFirstCrew}
 use Rattle.lt_live.specs.declared.ends.Seat.{Seat}
 use Rattle.lt_live.specs.Seats.{IsSeat, KnowAll, LooksBeside, HasToldAll}
-use Rattle.lt_live.specs.Stations.{IsSeatOf, StationData, AreOthers, IsNewSession, HasSeat, runner_of, SeatsBefore, Opens, AreSeatless, HaveNoCommands, IsStation, IsSeated, SeatLooks}
+use Rattle.lt_live.specs.Stations.{IsSeatOf, StationData, AreOthers, IsNewSession, HasSeat, runner_of, SeatsBefore, Opens, AreSeatless, HaveNoCommands, MakeFew, IsStation, IsSeated, SeatLooks}
 use Rattle.lt_live.specs.declared.ends.Session.{Session}
 use Rattle.lt_live.specs.declared.limits.TheConstants.{LETTER_PLACES}
-use Rattle.lt_live.specs.Words.{known_commands, waiting, IsLink, command_held, known_replies}
+use Rattle.lt_live.specs.Words.{known_commands, outbox_replies, IsLink, command_held, known_replies}
 use Rattle.lt_live.proofs.SeatLists.{set_here, set_other, pushed, last_here, stays_here, none_here}
 use Rattle.lt_live.proofs.KeptStations.{seat_of, Stays, station_from}
 
@@ -35,6 +36,7 @@ first_seat script letters limit capacity place client rs p seat first empty here
       (subst (λ (log : List Logged). IsSeat [] log seat.client seat) (sym (first.logs place p here))
       (subst (λ (c : ℕ). IsSeat [] [] c seat) (sym kept.client_is) kept));
   places = subst (λ (n : ℕ). 0 < n) (sym is) some;
+  gone = omega (arith, first.have_all place p here);
 }
   where
     same : p.node.script ≡ script
@@ -48,6 +50,13 @@ pub first_commands : (script : ScriptData) (letters limit : ℕ) (rs : List Part
     → (k : ℕ) (p : Parts) → slice_get rs k ≡ Some p → p.node.script.commands ≡ []
 first_commands script letters limit rs first empty k p here = ap (λ (s : ScriptData). s.commands) (script_at script letters limit k rs p first here) ∙ empty
 
+-- and they make few moves
+pub few_moves : (script : ScriptData) (letters limit : ℕ) (rs : List Parts) → IsFirstCrew script letters limit rs → limit ≤ MAX_MOVES → MakeFew rs
+few_moves script letters limit rs first few k p here = omega (arith, first.limits k p here, few)
+
+pub few_made : (runners : List Parts) (k : ℕ) (p : Parts) → MakeFew runners → k < length runners → p ≡ get_or runners k p → p.limit < 2 ^ 32
+few_made runners k p few inside here = few k p (slice_get-get_or runners k p inside ∙ ap Some (sym here))
+
 -- One session more, with its seat.
 
 -- the new session, its seat, and the station that it is put to
@@ -60,7 +69,7 @@ pub record Adds (script : ScriptData) (capacity n place : ℕ) (x y : StationDat
   pub link : IsLink s seat
   pub places : producer_capacity seat.replies ≡ capacity
   pub commands : known_commands seat ≡ []
-  pub waits : waiting seat ≡ []
+  pub waits : outbox_replies seat ≡ []
 
 module _ (script : ScriptData) (limit capacity n place : ℕ) (stations : List StationData) (sessions : List Session) (d y : StationData) (s : Session) (seat : Seat)
     (h : Opens script limit capacity n stations sessions) (inside : place < length stations)
@@ -209,7 +218,7 @@ no_commands runners k p none inside here =
 
 seat_of_looked : (p : Parts) (s t : Session) (a b : Seat) → IsSeatOf p a → LooksBeside p.log.entries s t a b → IsSeatOf p b
 seat_of_looked p s t a b h looks =
-    seat_of p a b h looks.seat.client looks.seat.replies.1
+    seat_of p a b h looks.seat.client looks.seat.replies.1 looks.moves
     (record {
       client_is = looks.seat.client;
       taken = looks.taken.0 ∙ (h.kept.taken ∙ ap (λ hand. commands_of p.node.script a.client ++ command_held hand) (sym looks.taken.1));
@@ -220,7 +229,7 @@ seat_of_looked p s t a b h looks =
 -- the seat at this place is another one of the same client
 station_set : (p : Parts) (seats : List Seat) (place : ℕ) (x y : Seat) → IsStation p seats → slice_get seats place ≡ Some x → y.client ≡ x.client → IsSeatOf p y
     → IsStation p (slice_set seats place y)
-station_set p seats place x y h here client now = station_from p p seats (slice_set seats place y) h h.own (λ k seat e. by_place k seat e)
+station_set p seats place x y h here client now = station_from p p seats (slice_set seats place y) h h.own refl (λ k seat e. by_place k seat e)
   where
     by_place : (k : ℕ) (seat : Seat) → slice_get (slice_set seats place y) k ≡ Some seat → Stays p p seats k seat
     by_place k seat e = elim (cases_eq k place) [

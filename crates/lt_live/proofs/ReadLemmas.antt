@@ -6,12 +6,12 @@ use Rattle.lt_spec.specs.World.{Logged}
 use Rattle.lt_merge.specs.Merging.{events_at}
 use Rattle.lt_live.specs.declared.ends.Seat.{Seat}
 use Rattle.lt_live.specs.declared.reply.Reply.{Reply}
-use Rattle.lt_live.specs.Seats.{replies_in, lines_at, lines_up_to, IsCursor, HasRead, ReadsMove, ReadsOn, ReadsAll}
-use Rattle.lt_live.specs.Words.{told_to, waiting, due_to}
+use Rattle.lt_live.specs.Seats.{replies_in, lines_at, lines_up_to, IsCursor, HasReadLine, ReadsMove, HasReadOn, ReadsAll}
+use Rattle.lt_live.specs.Words.{told_to, outbox_replies, due_to}
 use Rattle.lt_live.proofs.Telling.{told_next, lines_are, split, next_lines}
 
 -- the reply of one line more
-pub reads_line : (lines : List Event) (line : Event) (a b d : Seat) → ReadsMove lines a b → b.lines < length lines → line ≡ slice_index_or lines b.lines line → HasRead line b d
+pub reads_line : (lines : List Event) (line : Event) (a b d : Seat) → ReadsMove lines a b → b.lines < length lines → line ≡ slice_index_or lines b.lines line → HasReadLine line b d
     → ReadsMove lines a d
 reads_line lines line a b d h inside at read = record {
   seat = read.seat
@@ -27,13 +27,13 @@ reads_line lines line a b d h inside at read = record {
 
     due : due_to d ≡ due_to b ++ replies_in b.client (line ∷ [])
     due =
-        ap (λ (s : Seat). told_to s ++ waiting d) read.seat
+        ap (λ (s : Seat). told_to s ++ outbox_replies d) read.seat
         ∙ ap (λ (replies : List Reply). told_to b ++ replies) read.waits
-        ∙ sym (append_assoc (told_to b) (waiting b) (replies_in b.client (line ∷ [])))
+        ∙ sym (append_assoc (told_to b) (outbox_replies b) (replies_in b.client (line ∷ [])))
 
 -- those of a move
-pub reads_move : (log : List Logged) (lines : List Event) (a b d : Seat) → ReadsOn log a b → b.moves < length log → events_at log b.moves ≡ Some lines → ReadsMove lines b d
-    → ReadsOn log a d
+pub reads_move : (log : List Logged) (lines : List Event) (a b d : Seat) → HasReadOn log a b → b.moves < length log → events_at log b.moves ≡ Some lines → ReadsMove lines b d
+    → HasReadOn log a d
 reads_move log lines a b d on inside e moved = record {
   seat = moved.seat
       ∙ ap (λ (s : Seat). record s { waiting = d.waiting; lines = d.lines }) on.seat
@@ -58,8 +58,8 @@ reads_move log lines a b d on inside e moved = record {
     moves = ap (λ (s : Seat). s.moves) moved.seat
 
 -- and of all its lines, so that the next move is the next to be read
-pub reads_next : (log : List Logged) (lines : List Event) (a d : Seat) → ReadsOn log a d → d.moves < length log → events_at log d.moves ≡ Some lines → d.lines ≡ length lines
-    → ReadsOn log a (record d { moves = d.moves + 1; lines = 0 })
+pub reads_next : (log : List Logged) (lines : List Event) (a d : Seat) → HasReadOn log a d → d.moves < length log → events_at log d.moves ≡ Some lines → d.lines ≡ length lines
+    → HasReadOn log a (record d { moves = d.moves + 1; lines = 0 })
 reads_next log lines a d on inside e done = record {
   seat = ap (λ (s : Seat). record s { moves = d.moves + 1; lines = 0 }) on.seat;
   moves = omega (arith, on.moves);
@@ -80,7 +80,7 @@ all_lines (entry ∷ rest) (suc moves) lines past =
     append_assoc entry.events (lines_of (take moves rest)) (take lines (lines_at rest moves))
     ∙ ap (λ (list : List Event). entry.events ++ list) (all_lines rest moves lines (omega (arith, past)))
 
-pub reads_all : (log : List Logged) (a b : Seat) → IsCursor log a.moves a.lines → ReadsOn log a b → length log ≤ b.moves → ReadsAll log a b
+pub reads_all : (log : List Logged) (a b : Seat) → IsCursor log a.moves a.lines → HasReadOn log a b → length log ≤ b.moves → ReadsAll log a b
 reads_all log a b cursor on past =
     let inside = (on.cursor cursor).inside in
     record {

@@ -10,6 +10,7 @@ use Rattle.lt_spec.specs.World.{Logged}
 use Rattle.lt_pool.specs.Rule.{ContinuesAt}
 use Rattle.lt_mail.specs.Words.{Alike, SameEnds}
 use Rattle.lt_runner.specs.declared.parts.Parts.{Parts}
+use Rattle.lt_runner.specs.Kept.{HasAll}
 use Rattle.lt_runner.specs.declared.turning.Turned.{Turned}
 use Rattle.lt_threads.specs.Meeting.{EachIs}
 use Rattle.lt_live.specs.declared.ends.Session.{Session}
@@ -108,6 +109,14 @@ turn_goes_on turned a seats b later h station =
       limit = same.limit ∙ ap (λ (p : Parts). p.limit) mid;
       ends = subst (λ (p : Parts). SameEnds p.mail b.mail) mid same.ends;
     }
+
+-- a turn forgets nothing
+pub turn_has_all : (turned : Turned) (a : Parts) (seats : List Seat) (b : Parts) (later : List Seat) → StationTurns turned a seats b later → HasAll a → HasAll b
+turn_has_all turned a seats b later turns had =
+    let same = turns.grew.same in (
+      same.gone ∙ (ap (λ (p : Parts). p.log.gone) turns.appends.runner ∙ had.0),
+      same.commands_gone ∙ (ap (λ (p : Parts). p.node.gone) turns.appends.runner ∙ had.1),
+    )
 
 -- a station in a pool, after a turn
 pub turns_on : (firsts : List StationData) (node : ℕ) (a b : StationData) → ContinuesAt StationGoesOn firsts node a → GoesOn a.runner b.runner → StaySeated a.seats b.seats

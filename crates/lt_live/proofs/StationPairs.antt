@@ -1,5 +1,5 @@
 -- Stations whose runners look at the rings between them.
-use Rattle.std.proofs.Common.{◌≡◌, ◌<◌, ◌≤◌, ◌+◌, ℕ, List, [], ◌∷◌, ◌++◌, get_or, take, drop, map, length, refl, sym, ap, subst, arith, ◌∙◌, slice_get, slice_set, inl, inr, take_at}
+use Rattle.std.proofs.Common.{◌≡◌, ◌<◌, ◌≤◌, ◌+◌, ◌^◌, ℕ, List, [], ◌∷◌, ◌++◌, get_or, take, drop, map, length, refl, sym, ap, subst, arith, ◌∙◌, slice_get, slice_set, inl, inr, take_at}
 use Rattle.std.proofs.lemmas.Bool.{cases_eq}
 use Rattle.std.proofs.lemmas.List.{map-append, length-map, map-set}
 use Rattle.std.proofs.Math.ListN.{get_or-map}
@@ -26,6 +26,7 @@ seat_seen p q seat seen h = record {
   kept = subst (λ (s : ScriptData). IsSeat (commands_of s seat.client) q.log.entries seat.client seat) (sym seen.same.script)
       (subst (λ (log : List Logged). IsSeat (commands_of p.node.script seat.client) log seat.client seat) (sym seen.log) h.kept);
   places = h.places;
+  gone = subst (λ (n : ℕ). n ≤ seat.moves) (sym seen.same.gone) h.gone;
 }
 
 pub station_seen : (p q : Parts) (seats : List Seat) → AsSeen p q → IsStation p seats → IsStation q seats
@@ -34,6 +35,7 @@ station_seen p q seats seen h = record {
   apart = h.apart;
   own = subst (λ (me : ℕ). AreAt q.node.script me q.node.script.commands) (sym seen.same.me)
       (subst (λ (s : ScriptData). AreAt s p.node.me s.commands) (sym seen.same.script) h.own);
+  few = subst (λ (n : ℕ). n < 2 ^ 32) (sym seen.same.limit) h.few;
 }
 
 -- The last station and those before it.

@@ -19,7 +19,7 @@ use Rattle.lt_runner.specs.declared.parts.Parts.{Parts}
 use Rattle.lt_runner.specs.declared.turning.Turned.{Turned}
 use Rattle.lt_live.specs.declared.reply.Reply.{Reply}
 use Rattle.lt_live.specs.Seats.{reply_to, replies_in, lines_at, lines_up_to, IsSeat, KnowAll, LooksBeside, IsSettledSeat, lines_if, OnlyTells, TellsMove, TellsOn, TellsOutbox, TellsSeat, IsCursor}
-use Rattle.lt_live.specs.Words.{submitted, polled, known_commands, known_replies, command_held, told_to, waiting, due_to, SameSeat, IsLink, SameSession}
+use Rattle.lt_live.specs.Words.{submitted, polled, known_commands, known_replies, command_held, told_to, outbox_replies, due_to, SameSeat, IsLink, SameSession}
 use Rattle.lt_live.specs.Live.{IsReplyTo, PolledInTurn, NoMoreThanSubmitted}
 use Rattle.lt_live.proofs.Finished.{replies_of_lines}
 use Rattle.lt_live.specs.declared.ends.Session.{Session}
@@ -102,10 +102,10 @@ is_settled list log s t a b kept looks beside =
       served = record {
         commands = (command_held b.hand ++ known_commands b, sym (append_assoc list (command_held b.hand) (known_commands b)) ∙ sym all);
         replies = (
-          known_replies t ++ (waiting b ++ told.0),
-          sym (append_assoc (polled t) (known_replies t) (waiting b ++ told.0))
-              ∙ ap (λ (replies : List Reply). replies ++ (waiting b ++ told.0)) beside.replies
-              ∙ sym (append_assoc (told_to b) (waiting b) told.0)
+          known_replies t ++ (outbox_replies b ++ told.0),
+          sym (append_assoc (polled t) (known_replies t) (outbox_replies b ++ told.0))
+              ∙ ap (λ (replies : List Reply). replies ++ (outbox_replies b ++ told.0)) beside.replies
+              ∙ sym (append_assoc (told_to b) (outbox_replies b) told.0)
               ∙ (ap (λ (replies : List Reply). replies ++ told.0) (looks.due kept.due) ∙ told.1),
         );
       };
@@ -136,7 +136,7 @@ only_tells_join a b d h k = record {
 }
 
 -- where nothing waits, what is told is all
-none_waits : (seat : Seat) → waiting seat ≡ [] → due_to seat ≡ told_to seat
+none_waits : (seat : Seat) → outbox_replies seat ≡ [] → due_to seat ≡ told_to seat
 none_waits seat none = ap (λ (replies : List Reply). told_to seat ++ replies) none ∙ append-nil (told_to seat)
 
 -- the first lines and the next one say what the first ones say, and then what the next says
@@ -174,7 +174,7 @@ split client log k lines n e =
     ∙ ap (λ (list : List Event). replies_in client (lines_of (take k log)) ++ replies_in client (take n list)) (lines_are log k lines e)
 
 -- replies of a move went into the ring
-pub tells_move : (log : List Logged) (lines : List Event) (all : _) (a b d : Seat) → TellsOn log a b → waiting b ≡ [] → b.moves < length log → events_at log b.moves ≡ Some lines
+pub tells_move : (log : List Logged) (lines : List Event) (all : _) (a b d : Seat) → TellsOn log a b → outbox_replies b ≡ [] → b.moves < length log → events_at log b.moves ≡ Some lines
     → TellsMove all lines b d → TellsOn log a d
 tells_move log lines all a b d on empty inside e moved = record {
   rest = only_tells_join a b d on.rest moved.rest;

@@ -10,17 +10,18 @@ use Rattle.lt_spec.specs.Script.{HasTargets, HasModesOf}
 use Rattle.lt_spec.specs.declared.limits.TheConstants.{MAX_COMMANDS}
 use Rattle.lt_spec.specs.World.{Logged}
 use Rattle.lt_spec.specs.NodeMove.{with_commands}
+use Rattle.lt_log.specs.LogData.{LogData}
 use Rattle.lt_runner.specs.declared.choice.Choice.TheVariants as choices
 use Rattle.lt_runner.specs.declared.parts.Parts.{Parts}
 use Rattle.lt_runner.specs.declared.turning.Turned.{Turned}
 use Rattle.lt_runner.specs.declared.turning.Turned.TheVariants.{Moved, Quiet, Full, NoMemory}
 use Rattle.lt_runner.specs.Choices.{next_choice}
 use Rattle.lt_runner.specs.declared.parts.Hand.{Hand}
-use Rattle.lt_runner.specs.Kept.{HandStays, AsSeen, Grew, TurnEnds, with_appended}
+use Rattle.lt_runner.specs.Kept.{RunnerInvariant, HandStays, AsSeen, Grew, TurnEnds, with_appended}
 use Rattle.lt_runner.proofs.TurnLemmas.{same_self}
 use Rattle.lt_live.specs.Stations.{may_ask, may_append, has_set, is_neighbour, IsStation, EachSeat, SeatAt, OnlyAppends, with_all, CanNotAppend, NoneCanAppend, SomeCanAppend, MayHandOver, HandMayGo, MoveEnds, SeatTurns, StationTurns, HaveCursors}
 use Rattle.lt_live.specs.declared.ends.Seat.{Seat}
-use Rattle.lt_live.specs.Seats.{TakesIn, TellsSeat}
+use Rattle.lt_live.specs.Seats.{KeepsFew, TakesIn, TellsSeat}
 use Rattle.lt_live.proofs.SeatLists.{each_before, each_after, each_join}
 
 -- all that the runner wants of a command that it appends
@@ -111,7 +112,7 @@ seen_self a = record {
     holds (Some x) = (refl, refl)
 
 -- which commands a client may ask for doesn't hang on those that there are
-ask_same : (script : ScriptData) (commands : List (ℕ × Command)) (client : ℕ) (command : Command)
+pub ask_same : (script : ScriptData) (commands : List (ℕ × Command)) (client : ℕ) (command : Command)
     → may_ask (with_commands script commands) client command ≡ may_ask script client command
 ask_same script commands client (Lock set mode) = refl
 ask_same script commands client (Try set mode) = refl
@@ -157,8 +158,12 @@ first_on n a b old new only at before here k seat below e = elim (cases_eq k n) 
 pub first_all : (n : ℕ) (p : Parts) (seats : List Seat) → length seats ≤ n → FirstCanNot n p seats → NoneCanAppend p seats
 first_all n p seats long h k seat e = let inside = slice_get_within seats k seat e in h k seat (omega (arith, inside, long)) e
 
-pub cursors : (p : Parts) (seats : List Seat) → IsStation p seats → HaveCursors p.log.entries seats
-cursors p seats h k seat e = (h.each k seat e).kept.cursor
+pub cursors : (p : Parts) (seats : List Seat) → IsStation p seats → HaveCursors p.log seats
+cursors p seats h k seat e = let is = h.each k seat e in (is.kept.cursor, is.gone)
+
+-- a log of so few moves keeps few
+pub keeps_few : (p : Parts) (seats : List Seat) (log : LogData) → IsStation p seats → RunnerInvariant p → log ≡ p.log → KeepsFew log
+keeps_few p seats log h kept is = subst KeepsFew (sym is) (omega (arith, kept.bounded, h.few))
 
 -- the seat took a command, and then the one in hand may have gone
 record TookAndGave (s t : Seat) : Type 0 where

@@ -1,5 +1,5 @@
 -- How far a client was told of a log.
-use Rattle.std.specs.Prelude.{◌≤◌, ℕ, List, [], ◌++◌, Option, Some, None, length, take, slice_get, ◌==◌, if◌then◌else◌, ◌≡◌, ◌+◌, ◌⊎◌, ◌<◌, Bool, true, false, ◌∷◌, filter_map}
+use Rattle.std.specs.Prelude.{◌≤◌, ℕ, List, [], ◌++◌, Option, Some, None, length, take, slice_get, ◌==◌, if◌then◌else◌, ◌≡◌, ◌+◌, ◌⊎◌, ◌<◌, ◌^◌, Bool, true, false, ◌∷◌, filter_map}
 use mathlib.Core.List.{IsPrefix}
 use Rattle.rtrb.specs.Ring.{known_free}
 use Rattle.lt_modes.specs.declared.event.Event.{Event}
@@ -7,11 +7,12 @@ use Rattle.lt_modes.specs.declared.event.Event.TheVariants.{Grant, Wait, Try, Un
 use Rattle.lt_modes.specs.declared.command.Command.{Command}
 use Rattle.lt_spec.specs.Holdings.{lines_of}
 use Rattle.lt_spec.specs.World.{Logged}
+use Rattle.lt_log.specs.LogData.{LogData}
 use Rattle.lt_live.specs.declared.reply.Reply.{Reply}
 use Rattle.lt_live.specs.declared.reply.Reply.TheVariants.{Granted, True, False, Unlocked, NotHeld, Changed, Dropped, Busy}
 use Rattle.lt_live.specs.declared.ends.Session.{Session}
 use Rattle.lt_live.specs.declared.ends.Seat.{Seat}
-use Rattle.lt_live.specs.Words.{submitted, polled, known_replies, taken, known_commands, told_to, waiting, due_to, command_held, SameSession, SameSeat}
+use Rattle.lt_live.specs.Words.{submitted, polled, known_replies, taken, known_commands, told_to, outbox_replies, due_to, command_held, SameSession, SameSeat}
 
 abbrev pub lines_if : Option Logged → List Event
 lines_if None = []
@@ -29,6 +30,14 @@ lines_up_to log moves lines = lines_of (take moves log) ++ take lines (lines_at 
 pub record IsCursor (log : List Logged) (moves lines : ℕ) : Type 0 where
   pub inside : moves ≤ length log
   pub within : lines ≤ length (lines_at log moves)
+
+-- the log has the lines that the seat has read, and keeps the moves that it hasn't
+abbrev pub IsCursorOf : LogData → Seat → Type 0
+IsCursorOf log seat = IsCursor log.entries seat.moves seat.lines × (log.gone ≤ seat.moves)
+
+-- so few moves are kept that their places are numbers of 32 bits
+abbrev pub KeepsFew : LogData → Type 0
+KeepsFew log = length log.entries < log.gone + 2 ^ 32
 
 -- What lines say to a client.
 
@@ -63,23 +72,23 @@ pub record OnlyTells (a b : Seat) : Type 0 where
   pub hand : b.hand ≡ a.hand
   pub known : known_commands b ≡ known_commands a
   pub places : known_free a.replies + length (told_to a) ≤ known_free b.replies + length (told_to b)
-  pub fewer : length (waiting b) ≤ length (waiting a)
+  pub fewer : length (outbox_replies b) ≤ length (outbox_replies a)
 
 -- nothing happened but that a command may have been taken into the hand; none was, where replies wait in the outbox
 pub record TakesIn (a b : Seat) : Type 0 where
   pub same : SameSeat a b
-  pub told : (told_to b ≡ told_to a) × (waiting b ≡ waiting a)
+  pub told : (told_to b ≡ told_to a) × (outbox_replies b ≡ outbox_replies a)
   pub cursor : (b.moves ≡ a.moves) × (b.lines ≡ a.lines)
   pub taken : (list : List Command) → taken a ≡ list ++ command_held a.hand → taken b ≡ list ++ command_held b.hand
-  pub none : a.hand ≡ None → b.hand ≡ None → (known_commands a ≡ []) ⊎ (0 < length (waiting a))
+  pub none : a.hand ≡ None → b.hand ≡ None → (known_commands a ≡ []) ⊎ (0 < length (outbox_replies a))
   pub stays : (command : Command) → a.hand ≡ Some command → b ≡ a
-  pub owing : 0 < length (waiting a) → b ≡ a
+  pub owing : 0 < length (outbox_replies a) → b ≡ a
 
 -- the reply that the line says to the client went into the ring
 pub record HasTold (line : Event) (a b : Seat) : Type 0 where
   pub rest : OnlyTells a b
   pub told : told_to b ≡ told_to a ++ replies_in a.client (line ∷ [])
-  pub waits : waiting b ≡ waiting a
+  pub waits : outbox_replies b ≡ outbox_replies a
   pub moves : b.moves ≡ a.moves
   pub lines : b.lines ≡ a.lines + 1
 
@@ -87,7 +96,7 @@ pub record HasTold (line : Event) (a b : Seat) : Type 0 where
 pub record HasNoPlace (a b : Seat) : Type 0 where
   pub rest : OnlyTells a b
   pub told : told_to b ≡ told_to a
-  pub waits : waiting b ≡ waiting a
+  pub waits : outbox_replies b ≡ outbox_replies a
   pub moves : b.moves ≡ a.moves
   pub lines : b.lines ≡ a.lines
   pub full : known_free b.replies ≡ 0
@@ -106,12 +115,12 @@ pub record TellsMove (all : Bool) (lines : List Event) (a b : Seat) : Type 0 whe
   pub moves : b.moves ≡ a.moves
   pub told : (before : List Reply) → told_to a ≡ before ++ replies_in a.client (take a.lines lines)
       → told_to b ≡ before ++ replies_in a.client (take b.lines lines)
-  pub waits : waiting b ≡ waiting a
+  pub waits : outbox_replies b ≡ outbox_replies a
   pub within : b.lines ≤ length lines
   pub ends : MoveEnds all lines b
 
 abbrev pub OutboxEnds : Bool → Seat → Type 0
-OutboxEnds true b = waiting b ≡ []
+OutboxEnds true b = outbox_replies b ≡ []
 OutboxEnds false b = known_free b.replies ≡ 0
 
 -- replies went from the outbox into the ring, in order: all of them, or until the ring had no place
@@ -132,7 +141,7 @@ pub record TellsOn (log : List Logged) (a b : Seat) : Type 0 where
 
 -- no reply waits in the outbox, and the client was told of all moves of the log
 abbrev pub HasToldAll : List Logged → Seat → Type 0
-HasToldAll log seat = (waiting seat ≡ []) × (seat.moves ≡ length log)
+HasToldAll log seat = (outbox_replies seat ≡ []) × (seat.moves ≡ length log)
 
 -- of all lines, or until the ring had no place
 pub record TellsSeat (log : List Logged) (a b : Seat) : Type 0 where
@@ -140,14 +149,14 @@ pub record TellsSeat (log : List Logged) (a b : Seat) : Type 0 where
   pub stops : HasToldAll log b ⊎ (known_free b.replies ≡ 0)
 
 -- the reply that the line says to the client was put behind the outbox
-pub record HasRead (line : Event) (a b : Seat) : Type 0 where
+pub record HasReadLine (line : Event) (a b : Seat) : Type 0 where
   pub seat : b ≡ record a { waiting = b.waiting; lines = a.lines + 1 }
-  pub waits : waiting b ≡ waiting a ++ replies_in a.client (line ∷ [])
+  pub waits : outbox_replies b ≡ outbox_replies a ++ replies_in a.client (line ∷ [])
 
 -- there was no memory for it
-pub record HasNotRead (a b : Seat) : Type 0 where
+pub record HasNotReadLine (a b : Seat) : Type 0 where
   pub seat : b ≡ record a { waiting = b.waiting }
-  pub waits : waiting b ≡ waiting a
+  pub waits : outbox_replies b ≡ outbox_replies a
 
 -- replies of further lines of a move were put behind the outbox, in order
 pub record ReadsMove (lines : List Event) (a b : Seat) : Type 0 where
@@ -157,7 +166,7 @@ pub record ReadsMove (lines : List Event) (a b : Seat) : Type 0 where
   pub within : b.lines ≤ length lines
 
 -- replies of further lines of the log were put behind the outbox, in order, and nothing else happened
-pub record ReadsOn (log : List Logged) (a b : Seat) : Type 0 where
+pub record HasReadOn (log : List Logged) (a b : Seat) : Type 0 where
   pub seat : b ≡ record a { waiting = b.waiting; moves = b.moves; lines = b.lines }
   pub moves : a.moves ≤ b.moves
   pub due : due_to a ≡ replies_in a.client (lines_up_to log a.moves a.lines)
@@ -191,7 +200,7 @@ pub record LooksBeside (log : List Logged) (s t : Session) (a b : Seat) : Type 0
   pub seat : SameSeat a b
   pub taken : (taken b ≡ taken a) × (b.hand ≡ a.hand)
   pub known_more : IsPrefix (known_commands a) (known_commands b)
-  pub fewer : length (waiting b) ≤ length (waiting a)
+  pub fewer : length (outbox_replies b) ≤ length (outbox_replies a)
   pub moves : a.moves ≤ b.moves
   pub due : due_to a ≡ replies_in a.client (lines_up_to log a.moves a.lines)
       → due_to b ≡ replies_in a.client (lines_up_to log b.moves b.lines)

@@ -1,5 +1,5 @@
 -- Which commands a client may submit.
-use Rattle.std.specs.Prelude.{◌==◌, ◌&&◌, Bool, ℕ, nat_lt, length, ◌≡◌, ◌≢◌, ◌<◌, ◌⊎◌, true, false, List, Some, None, slice_get, ◌/◌, [], map}
+use Rattle.std.specs.Prelude.{◌==◌, ◌&&◌, Bool, ℕ, nat_lt, length, ◌≡◌, ◌≢◌, ◌<◌, ◌≤◌, ◌^◌, ◌⊎◌, true, false, List, Some, None, slice_get, ◌/◌, [], map}
 use mathlib.Core.List.{IsPrefix}
 use Rattle.rtrb.specs.Ring.{producer_capacity}
 use Rattle.lt_modes.specs.FiveModes.{is_of_version}
@@ -9,6 +9,7 @@ use Rattle.lt_modes.specs.Script.{ScriptData, home_at}
 use Rattle.lt_spec.specs.declared.limits.TheConstants.{MAX_COMMANDS}
 use Rattle.lt_spec.specs.NodeMove.{commands_of, home, with_commands, AreAt}
 use Rattle.lt_spec.specs.World.{Logged}
+use Rattle.lt_log.specs.LogData.{LogData}
 use Rattle.lt_mail.specs.Words.{Alike}
 use Rattle.lt_runner.specs.declared.choice.Choice.TheVariants as choices
 use Rattle.lt_runner.specs.declared.parts.Parts.{Parts}
@@ -19,8 +20,8 @@ use Rattle.lt_runner.specs.Kept.{AsSeen, CouldMove, Grew, TurnEnds, with_appende
 use Rattle.lt_threads.specs.Pushes.{IsFirstCrew}
 use Rattle.lt_live.specs.declared.ends.Session.{Session}
 use Rattle.lt_live.specs.declared.ends.Seat.{Seat}
-use Rattle.lt_live.specs.Seats.{IsCursor, TakesIn, TellsSeat, IsSeat, KnowAll, LooksBeside, HasToldAll}
-use Rattle.lt_live.specs.Words.{known_replies, IsLink, submitted, polled, known_commands, waiting, places}
+use Rattle.lt_live.specs.Seats.{IsCursorOf, TakesIn, TellsSeat, HasReadOn, IsSeat, KnowAll, LooksBeside, HasToldAll}
+use Rattle.lt_live.specs.Words.{known_replies, IsLink, submitted, polled, known_commands, outbox_replies, places}
 use Rattle.lt_live.specs.declared.limits.TheConstants.{LETTER_PLACES}
 
 abbrev pub has_set : ScriptData → ℕ → Bool
@@ -57,12 +58,15 @@ pub record IsSeatOf (p : Parts) (seat : Seat) : Type 0 where
   pub home : home p.node.script seat.client ≡ p.node.me
   pub kept : IsSeat (commands_of p.node.script seat.client) p.log.entries seat.client seat
   pub places : 0 < producer_capacity seat.replies
+  pub gone : p.log.gone ≤ seat.moves
 
--- each seat is one of the runner's, no two are of one client, and the script has commands of the runner's clients alone
+-- each seat is one of the runner's, no two are of one client, the script has commands of the runner's clients alone, and the
+-- runner makes fewer than 2^32 moves
 pub record IsStation (p : Parts) (seats : List Seat) : Type 0 where
   pub each : (k : ℕ) (seat : Seat) → slice_get seats k ≡ Some seat → IsSeatOf p seat
   pub apart : (j k : ℕ) (x y : Seat) → slice_get seats j ≡ Some x → slice_get seats k ≡ Some y → x.client ≡ y.client → j ≡ k
   pub own : AreAt p.node.script p.node.me p.node.script.commands
+  pub few : p.limit < 2 ^ 32
 
 -- no seat is of this client
 abbrev pub AreOthers : ℕ → List Seat → Type 0
@@ -82,11 +86,11 @@ pub record SeatAt (R : Seat → Seat → Type 0) (place : ℕ) (old new : List S
   pub count : length new ≡ length old
   pub others : (k : ℕ) → k ≢ place → slice_get new k ≡ slice_get old k
 
--- the seat at this place was told of lines that the log has
-abbrev pub HasCursorAt : List Logged → List Seat → ℕ → Type 0
-HasCursorAt log seats k = (seat : Seat) → slice_get seats k ≡ Some seat → IsCursor log seat.moves seat.lines
+-- the seat at this place was told of lines that the log has, and of all that it has forgotten
+abbrev pub HasCursorAt : LogData → List Seat → ℕ → Type 0
+HasCursorAt log seats k = (seat : Seat) → slice_get seats k ≡ Some seat → IsCursorOf log seat
 
-abbrev pub HaveCursors : List Logged → List Seat → Type 0
+abbrev pub HaveCursors : LogData → List Seat → Type 0
 HaveCursors log seats = (k : ℕ) → HasCursorAt log seats k
 
 -- the runner with other commands in its script, of whose clients it may know less
@@ -156,6 +160,30 @@ pub record StationTurns (turned : Turned) (a : Parts) (seats : List Seat) (b : P
   pub hands : turned ≢ NoMemory → NoneCanAppend b later
   pub each : EachSeat (SeatTurns b.log.entries) seats later
 
+-- Moves that are forgotten.
+
+-- the seat at this place has read all moves of the log
+abbrev pub HasReadAt : List Logged → List Seat → ℕ → Type 0
+HasReadAt log seats k = (seat : Seat) → slice_get seats k ≡ Some seat → seat.moves ≡ length log
+
+abbrev pub HaveRead : List Logged → List Seat → Type 0
+HaveRead log seats = (k : ℕ) → HasReadAt log seats k
+
+-- all moves are forgotten, and no seat looks for them
+pub record HasForgotten (p : Parts) (seats : List Seat) : Type 0 where
+  pub gone : p.log.gone ≡ length p.log.entries
+  pub read : HaveRead p.log.entries seats
+
+-- nothing happened but that moves may have been forgotten, and replies of theirs put behind those that wait at the seats
+pub record MayForget (a : Parts) (seats : List Seat) (b : Parts) (later : List Seat) : Type 0 where
+  pub runner : b ≡ record a { log = b.log }
+  pub entries : b.log.entries ≡ a.log.entries
+  pub reads : EachSeat (HasReadOn a.log.entries) seats later
+
+-- nothing happened but that commands may have been forgotten
+abbrev pub ForgetsCommands : StationData → StationData → Type 0
+ForgetsCommands a b = b ≡ record a { runner = record a.runner { node = record a.runner.node { gone = b.runner.node.gone } } }
+
 -- the other end of the session is among these, at its place
 pub record IsSeated (s : Session) (seats : List Seat) : Type 0 where
   pub seat : Seat
@@ -201,7 +229,7 @@ pub record HasSeat (script : ScriptData) (capacity : ℕ) (stations : List Stati
   pub seated : IsSeated s station.seats
   pub places : producer_capacity seated.seat.replies ≡ capacity
   pub commands : known_commands seated.seat ≡ []
-  pub waits : waiting seated.seat ≡ []
+  pub waits : outbox_replies seated.seat ≡ []
 
 abbrev pub runner_of : StationData → Parts
 runner_of station = station.runner
@@ -230,3 +258,7 @@ pub record AreSeatless (runners : List Parts) (stations : List StationData) : Ty
 -- the runners' scripts have no commands
 abbrev pub HaveNoCommands : List Parts → Type 0
 HaveNoCommands runners = (k : ℕ) (p : Parts) → slice_get runners k ≡ Some p → p.node.script.commands ≡ []
+
+-- each of the runners makes fewer than 2^32 moves
+abbrev pub MakeFew : List Parts → Type 0
+MakeFew runners = (k : ℕ) (p : Parts) → slice_get runners k ≡ Some p → p.limit < 2 ^ 32

@@ -33,12 +33,12 @@ abbrev pub told_to : Seat → List Reply
 told_to seat = sent seat.replies
 
 -- those that were read from the log and found no place in the ring yet
-abbrev pub waiting : Seat → List Reply
-waiting seat = seat.waiting.items
+abbrev pub outbox_replies : Seat → List Reply
+outbox_replies seat = seat.waiting.items
 
 -- all that the client was told, and is told next
 abbrev pub due_to : Seat → List Reply
-due_to seat = told_to seat ++ waiting seat
+due_to seat = told_to seat ++ outbox_replies seat
 
 -- the command in hand
 abbrev pub command_held : Option Command → List Command

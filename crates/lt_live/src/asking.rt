@@ -1,10 +1,10 @@
 // Which commands a client may submit.
 ghost use Rattle.std.specs.Prelude.{◌≡◌, ◌<◌, length};
 ghost use Rattle.lt_modes.specs.FiveModes.{is_of_version};
-ghost use Rattle.lt_live.specs.Stations.{may_ask, may_append, has_set, is_neighbour};
+ghost use Rattle.lt_live.specs.Stations.{may_ask, has_set, is_neighbour};
 
 use lt_modes::{Command, Mode};
-use lt_script::{MAX_COMMANDS, Script};
+use lt_script::Script;
 
 fn has_set(script: &Script, set: u8) -> bool
     ensures { result ≡ has_set script.now set }
@@ -46,12 +46,4 @@ pub(crate) fn may_ask(script: &Script, client: u16, command: Command) -> bool
             has_set(script, set) && is_neighbour(script, client, other)
         }
     }
-}
-
-/// Whether it can be appended for the client.
-pub(crate) fn may_append(script: &Script, client: u16, command: Command) -> bool
-    requires { client < length script.now.clients }
-    ensures { result ≡ may_append script.now client command }
-{
-    script.commands() < MAX_COMMANDS && may_ask(script, client, command)
 }

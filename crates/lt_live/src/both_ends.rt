@@ -4,16 +4,17 @@ ghost use Rattle.lt_modes.specs.declared.command.Command.{Command};
 ghost use Rattle.lt_spec.specs.Holdings.{lines_of};
 ghost use Rattle.rtrb.specs.Ring.{producer_capacity};
 ghost use Rattle.lt_live.specs.Words.{known_replies, IsLink};
-ghost use Rattle.lt_live.specs.Seats.{IsCursor, KnowAll, LooksBeside, HasToldAll, IsSeat, IsSettledSeat};
+ghost use Rattle.lt_live.specs.Seats.{IsCursorOf, KeepsFew, KnowAll, LooksBeside, HasToldAll, IsSeat, IsSettledSeat};
 
 use crate::ends::{Seat, Session};
-use lt_merge::Log;
+use lt_log::LongLog;
 
 /// Looks at both rings from both ends: replies that wait go into their ring as far as it takes them, and then each side
 /// knows all that is in its ring.
-pub(crate) fn beside(session: &mut Session, seat: &mut Seat, log: &Log)
+pub(crate) fn beside(session: &mut Session, seat: &mut Seat, log: &LongLog)
     requires link { IsLink session.old seat.old }
-    requires cursor { IsCursor log.now.entries seat.old.moves seat.old.lines }
+    requires cursor { IsCursorOf log.now seat.old }
+    requires few { KeepsFew log.now }
     requires places { 0 < producer_capacity seat.old.replies }
     ensures link { IsLink session.new seat.new }
     ensures beside { KnowAll session.new seat.new }
@@ -27,9 +28,10 @@ pub(crate) fn beside(session: &mut Session, seat: &mut Seat, log: &Log)
 }
 
 /// What a caller can be sure of at the end, for each list of commands that the node made the client's.
-pub(crate) fn settle(session: &mut Session, seat: &mut Seat, log: &Log)
+pub(crate) fn settle(session: &mut Session, seat: &mut Seat, log: &LongLog)
     requires link { IsLink session.old seat.old }
-    requires cursor { IsCursor log.now.entries seat.old.moves seat.old.lines }
+    requires cursor { IsCursorOf log.now seat.old }
+    requires few { KeepsFew log.now }
     requires places { 0 < producer_capacity seat.old.replies }
     ensures { (list : List Command) → IsSeat list log.now.entries seat.old.client seat.old → IsSettledSeat list (lines_of log.now.entries) seat.old.client session.old session.new seat.new }
 {

@@ -39,6 +39,6 @@ pub struct Seat {
     // Replies that found no place in the ring yet.
     pub(crate) waiting: VecDeque<Reply>,
     // All lines of so many moves were read, and so many lines of the next one.
-    pub(crate) moves: u32,
+    pub(crate) moves: u64,
     pub(crate) lines: usize,
 }

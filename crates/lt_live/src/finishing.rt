@@ -1,7 +1,9 @@
 // The run that stations made, and what their sessions were told.
-ghost use Rattle.std.specs.Prelude.{◌≡◌, ◌≤◌, ◌<◌, [], length, map, vec_capacity, IfOk};
+ghost use Rattle.std.specs.Prelude.{◌≡◌, ◌≤◌, ◌<◌, [], length, map, vec_capacity, IfOk, IfErr};
 ghost use Rattle.lt_modes.specs.Script.{ScriptData};
 ghost use Rattle.lt_spec.specs.NodeMove.{home};
+ghost use Rattle.lt_threads.specs.Meeting.{HaveAll};
+ghost use Rattle.lt_live.specs.declared.finishing.FinishError.TheVariants as errors;
 ghost use Rattle.lt_live.specs.Stations.{runner_of};
 ghost use Rattle.lt_live.specs.Live.{AreLive, LiveScript, IsServedRun, SettlesAt, Settled};
 
@@ -13,24 +15,42 @@ use lt_script::Script;
 use lt_threads::{JoinError, finish_joined};
 use std::alloc::{AllocError, Global};
 
+/// Why there is no run to be had.
+#[derive(Clone, Copy, Debug, PartialEq, Eq)]
+pub enum FinishError {
+    /// Some station has forgotten moves.
+    Forgotten,
+    NoMemory,
+}
+
+impl From<AllocError> for FinishError {
+    ghost from_gives = { λ _ e. e ≡ errors.NoMemory };
+
+    fn from(_: AllocError) -> FinishError {
+        FinishError::NoMemory
+    }
+}
+
 /// The script with the commands that the stations appended, and the run of it that they made.
 ///
 /// It takes all stations and all sessions of one `open`, in order. A command that was submitted and isn't in the script was
-/// never made. Without memory all is dropped.
+/// never made. After an error all is dropped.
 #[tactic(auto, using(crate::proofs::Finished::are_shares, crate::proofs::Finished::never_many, crate::proofs::Finished::finishes))]
 pub fn finish(
     alloc: Global,
     mut stations: Vec<Station>,
     mut sessions: Vec<Session>,
-) -> Result<(Script, Run), AllocError>
+) -> Result<(Script, Run), FinishError>
     requires { LiveScript stations.items sessions.items }
-    ensures { IfOk result (λ made. (script : ScriptData) → AreLive script stations.items sessions.items → IsServedRun script sessions.items made.0 made.1.entries) }
+    ensures run { IfOk result (λ made. (script : ScriptData) → AreLive script stations.items sessions.items → IsServedRun script sessions.items made.0 made.1.entries) }
+    ensures forgotten { IfErr result (λ error. error ≡ errors.Forgotten → ¬ HaveAll (map runner_of stations.items)) }
 {
     let runners = Vec::with_capacity(alloc, stations.len())?;
     settle_all(&mut stations, &mut sessions);
     match finish_joined(alloc, take_runners(stations, runners)) {
         Ok(made) => Ok(made),
-        Err(JoinError::NoMemory) => Err(AllocError),
+        Err(JoinError::Forgotten) => Err(FinishError::Forgotten),
+        Err(JoinError::NoMemory) => Err(FinishError::NoMemory),
         Err(JoinError::TooMany) => unreachable!(),
     }
 }

@@ -5,6 +5,7 @@ mod asking;
 mod both_ends;
 mod ends;
 mod finishing;
+mod forgetting;
 mod laws;
 mod limits;
 mod looking;
@@ -23,7 +24,7 @@ mod turning;
 mod visiting;
 
 pub use ends::{Seat, Session};
-pub use finishing::{finish, settle_all, take_runners};
+pub use finishing::{FinishError, finish, settle_all, take_runners};
 pub use laws::{law_live_lasts, law_polled_in_turn, law_served_goes_on, law_served_now, law_told};
 pub use limits::LETTER_PLACES;
 pub use reply::{Reply, reply_to};

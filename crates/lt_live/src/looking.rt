@@ -13,5 +13,6 @@ pub(crate) fn beside_at(seats: &mut Vec<Seat>, session: &mut Session, runner: &R
     ensures looks { SeatLooks runner.now.log.entries session.old session.new seats.old.items seats.new.items }
 {
     let place = session.place;
+    runner.kept();
     beside(session, &mut seats[place], runner.log());
 }

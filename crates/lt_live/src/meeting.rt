@@ -58,7 +58,7 @@ impl Station {
         ensures { HasKeptRunner self.now }
     {
         self.runner.kept();
-        self.runner.script().nodes();
+        self.runner.commands();
     }
 }
 

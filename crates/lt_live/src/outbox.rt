@@ -1,10 +1,10 @@
 // Replies that wait in the outbox of a seat.
 ghost use Rattle.std.specs.Prelude.{◌≡◌, ◌≤◌, ◌<◌, ◌+◌, ◌^◌, length, OnOk, OnErr};
-ghost use Rattle.lt_live.specs.Seats.{IsCursor, TellsOutbox, ReadsOn, ReadsAll, ReadsMove, HasRead, HasNotRead};
+ghost use Rattle.lt_live.specs.Seats.{IsCursorOf, KeepsFew, TellsOutbox, HasReadOn, ReadsAll, ReadsMove, HasReadLine, HasNotReadLine};
 
 use crate::ends::Seat;
 use crate::reply::reply_to;
-use lt_merge::Log;
+use lt_log::LongLog;
 use lt_modes::Event;
 use std::alloc::AllocError;
 
@@ -24,11 +24,12 @@ impl Seat {
         true
     }
 
-    /// Puts the client's further replies of the log behind those that wait, so that the log's moves may be forgotten. Without
-    /// memory as many as there was memory for.
-    pub(crate) fn read_on(&mut self, log: &Log) -> Result<(), AllocError>
-        requires { IsCursor log.now.entries self.old.moves self.old.lines }
-        ensures on { ReadsOn log.now.entries self.old self.new }
+    /// Puts the client's further replies of the log behind those that wait, so that the log's moves may be forgotten.
+    /// Without memory as many as there was memory for.
+    pub(crate) fn read_on(&mut self, log: &LongLog) -> Result<(), AllocError>
+        requires cursor { IsCursorOf log.now self.old }
+        requires few { KeepsFew log.now }
+        ensures on { HasReadOn log.now.entries self.old self.new }
         ensures all { OnOk result (ReadsAll log.now.entries self.old self.new) }
     {
         while self.moves < log.len() {
@@ -54,8 +55,8 @@ impl Seat {
     // Puts the reply of the next line, where it is the client's, behind those that wait.
     fn read_next(&mut self, line: Event) -> Result<(), AllocError>
         requires { self.old.lines + 1 < 2 ^ 64 }
-        ensures ok { OnOk result (HasRead line self.old self.new) }
-        ensures full { OnErr result (HasNotRead self.old self.new) }
+        ensures ok { OnOk result (HasReadLine line self.old self.new) }
+        ensures full { OnErr result (HasNotReadLine self.old self.new) }
     {
         if let Some(reply) = reply_to(self.client, line) {
             self.waiting.push_back(reply)?;

@@ -1,16 +1,16 @@
 // What a station does with the end of one session.
 ghost use Rattle.std.specs.Prelude.{◌≡◌, ◌≤◌, ◌<◌, ◌+◌, ◌^◌, [], length, None};
-ghost use Rattle.lt_live.specs.Seats.{IsCursor, TakesIn, TellsSeat, TellsMove, ToldNext};
-ghost use Rattle.lt_live.specs.Words.{waiting};
+ghost use Rattle.lt_live.specs.Seats.{IsCursorOf, KeepsFew, TakesIn, TellsSeat, TellsMove, ToldNext};
+ghost use Rattle.lt_live.specs.Words.{outbox_replies};
 
 use crate::ends::Seat;
 use crate::reply::reply_to;
-use lt_merge::Log;
+use lt_log::LongLog;
 use lt_modes::Event;
 
 impl Seat {
-    /// Takes a command into the hand, where none is there and no reply waits: so the outbox of a caller that doesn't poll stays
-    /// small.
+    /// Takes a command into the hand, where none is there and no reply waits: so a caller that doesn't poll can't make
+    /// the outbox grow.
     pub(crate) fn take_in(&mut self)
         ensures { TakesIn self.old self.new }
     {
@@ -21,15 +21,16 @@ impl Seat {
 
     fn fill_hand(&mut self)
         requires hand { self.old.hand ≡ None }
-        requires empty { waiting self.old ≡ [] }
+        requires empty { outbox_replies self.old ≡ [] }
         ensures { TakesIn self.old self.new }
     {
         self.hand = self.commands.pop().ok();
     }
 
     /// Gives the ring what waits, and then the client's replies of the log, in order, while it has places.
-    pub(crate) fn tell(&mut self, log: &Log)
-        requires { IsCursor log.now.entries self.old.moves self.old.lines }
+    pub(crate) fn tell(&mut self, log: &LongLog)
+        requires cursor { IsCursorOf log.now self.old }
+        requires few { KeepsFew log.now }
         ensures { TellsSeat log.now.entries self.old self.new }
     {
         if self.tell_waiting() {
@@ -38,9 +39,10 @@ impl Seat {
     }
 
     // Gives the ring the client's further replies of the log, where none waits.
-    fn tell_further(&mut self, log: &Log)
-        requires cursor { IsCursor log.now.entries self.old.moves self.old.lines }
-        requires empty { waiting self.old ≡ [] }
+    fn tell_further(&mut self, log: &LongLog)
+        requires cursor { IsCursorOf log.now self.old }
+        requires few { KeepsFew log.now }
+        requires empty { outbox_replies self.old ≡ [] }
         ensures { TellsSeat log.now.entries self.old self.new }
     {
         while self.moves < log.len() {

@@ -2,7 +2,7 @@
 ghost use Rattle.std.specs.Prelude.{◌≡◌, ◌<◌, ◌≤◌, ◌+◌, [], length, IfOk, OnOk};
 ghost use Rattle.lt_spec.specs.declared.moves.TheConstants.{MAX_MOVES};
 ghost use Rattle.lt_spec.specs.declared.limits.TheConstants.{MAX_COMMANDS};
-ghost use Rattle.lt_live.specs.Stations.{Opens, IsOpen, AreSeatless, HaveNoCommands};
+ghost use Rattle.lt_live.specs.Stations.{Opens, IsOpen, AreSeatless, HaveNoCommands, MakeFew};
 
 use crate::ends::Session;
 use crate::limits::LETTER_PLACES;
@@ -17,6 +17,7 @@ use std::alloc::{AllocError, Global};
 ///
 /// Each node makes up to `limit` moves. A session's rings of commands and of replies have `capacity` places each, and it may
 /// submit an equal share of the commands that a script may have.
+#[tactic(auto, using(crate::proofs::OpenedStations::few_moves))]
 pub fn open(
     alloc: Global,
     script: &Script,
@@ -47,7 +48,8 @@ pub fn open(
 
 // A station for each runner, with no seats yet.
 fn stations_of(alloc: Global, runners: Vec<Runner>) -> Result<Vec<Station>, AllocError>
-    requires { HaveNoCommands runners.items }
+    requires commands { HaveNoCommands runners.items }
+    requires few { MakeFew runners.items }
     ensures { IfOk result (λ stations. AreSeatless runners.items stations.items) }
 {
     let mut stations = Vec::new(alloc);

@@ -1,6 +1,7 @@
-ghost use Rattle.std.specs.Prelude.{◌≡◌, [], ◌∷◌, ◌++◌, length, OnOk};
+ghost use Rattle.std.specs.Prelude.{◌≡◌, ◌<◌, ◌^◌, [], ◌∷◌, ◌++◌, length, OnOk};
 ghost use Rattle.lt_spec.specs.NodeMove.{AreAt, node_waits};
-ghost use Rattle.lt_node.specs.NodeData.{state_of};
+ghost use Rattle.lt_spec.specs.Script.{IsScript};
+ghost use Rattle.lt_node.specs.NodeData.{state_of, kept_script};
 ghost use Rattle.lt_live.specs.Stations.{AreOthers, IsSeatOf, IsSeated, StaySeated, SeatLooks, StationTurns};
 ghost use Rattle.lt_live.specs.Live.{GoesOn, ServedBy};
 
@@ -33,7 +34,8 @@ impl Station {
     /// A station with this runner, and no seats yet.
     #[tactic(auto, using(crate::proofs::KeptStations::station_first))]
     pub(crate) fn new(alloc: Global, runner: Runner) -> Station
-        requires { AreAt runner.node.script runner.node.me runner.node.script.commands }
+        requires own { AreAt runner.node.script runner.node.me runner.node.script.commands }
+        requires few { runner.limit < 2 ^ 32 }
         ensures { result ≡ record { runner = runner; seats = [] } }
     {
         Station {
@@ -60,8 +62,8 @@ impl Station {
         Ok(())
     }
 
-    /// Takes at most one command of each client whose replies have found places, makes one move, and tells what replies there
-    /// are.
+    /// Takes at most one command of each client for whom no reply waits here, makes one move, and tells what replies
+    /// there are.
     ///
     /// A command that finds no memory stays in hand, and is appended in a later turn. After `NoMemory` no move was made in
     /// this turn, and what was appended stays.
@@ -86,11 +88,20 @@ impl Station {
         beside_at(&mut self.seats, session, &self.runner);
     }
 
-    /// The script, with the commands that were appended here.
+    /// The script, with the commands that were appended here, without those that were forgotten.
     pub fn script(&self) -> &Script
-        ensures { result.now ≡ self.now.runner.node.script }
+        ensures kept { result.now ≡ kept_script self.now.runner.node }
+        ensures whole { self.now.runner.node.gone ≡ 0 → result.now ≡ self.now.runner.node.script }
     {
         self.runner.script()
+    }
+
+    /// How many commands were appended here, forgotten or not.
+    pub fn commands(&self) -> u32
+        ensures commands { result ≡ length self.now.runner.node.script.commands }
+        ensures script { IsScript self.now.runner.node.script }
+    {
+        self.runner.commands()
     }
 
     /// The runner alone; the seats are dropped, so that sessions have no other ends any more.

@@ -6,13 +6,15 @@ ghost use Rattle.lt_runner.specs.declared.turning.Turned.TheVariants as turns;
 ghost use Rattle.lt_runner.specs.Choices.{next_choice};
 ghost use Rattle.lt_runner.specs.Kept.{Grew, TurnEnds};
 ghost use Rattle.lt_live.specs.declared.ends.Seat.{Seat as SeatEnds};
-ghost use Rattle.lt_live.specs.Seats.{TakesIn, TellsSeat};
-ghost use Rattle.lt_live.specs.Stations.{IsStation, EachSeat, SeatAt, OnlyAppends, HandMayGo, MayHandOver, CanNotAppend, CanAppend, NoneCanAppend, SomeCanAppend, StationTurns, HasCursorAt, HaveCursors};
+ghost use Rattle.lt_live.specs.Seats.{KeepsFew, TakesIn, TellsSeat};
+ghost use Rattle.lt_live.specs.Stations.{IsStation, EachSeat, SeatAt, OnlyAppends, HandMayGo, MayHandOver, CanNotAppend, CanAppend, may_append, NoneCanAppend, SomeCanAppend, StationTurns, HasCursorAt, HaveCursors};
 
-use crate::asking::may_append;
+use crate::asking::may_ask;
 use crate::ends::Seat;
-use lt_merge::Log;
+use lt_log::LongLog;
+use lt_modes::Command;
 use lt_runner::{Gate, Runner, Turned};
+use lt_script::MAX_COMMANDS;
 
 /// Takes commands in and appends them, makes one move, and tells the replies.
 pub(crate) fn turn_of<G: Gate>(seats: &mut Vec<Seat>, runner: &mut Runner, gate: &G) -> Turned
@@ -23,6 +25,7 @@ pub(crate) fn turn_of<G: Gate>(seats: &mut Vec<Seat>, runner: &mut Runner, gate:
     take_all(seats);
     let fits = append_all(seats, runner);
     let turned = make_move(runner, fits, gate);
+    runner.kept();
     tell_all(seats, runner.log());
     turned
 }
@@ -99,7 +102,7 @@ fn append(seat: &mut Seat, runner: &mut Runner) -> bool
     let Some(command) = seat.hand else {
         return true;
     };
-    if !may_append(runner.script(), seat.client, command) {
+    if !may_append(runner, seat.client, command) {
         return true;
     }
     if runner.append(seat.client, command).is_err() {
@@ -109,9 +112,19 @@ fn append(seat: &mut Seat, runner: &mut Runner) -> bool
     true
 }
 
+// Whether the command can be appended for the client.
+#[tactic(auto, using(crate::proofs::TurnParts::ask_same))]
+fn may_append(runner: &Runner, client: u16, command: Command) -> bool
+    requires { client < length runner.now.node.script.clients }
+    ensures { result ≡ may_append runner.now.node.script client command }
+{
+    runner.commands() < MAX_COMMANDS && may_ask(runner.script(), client, command)
+}
+
 // Tells each client its replies, in order, while its ring has places.
-fn tell_all(seats: &mut Vec<Seat>, log: &Log)
-    requires { HaveCursors log.now.entries seats.old.items }
+fn tell_all(seats: &mut Vec<Seat>, log: &LongLog)
+    requires cursors { HaveCursors log.now seats.old.items }
+    requires few { KeepsFew log.now }
     ensures { EachSeat (TellsSeat log.now.entries) seats.old.items seats.new.items }
 {
     for place in 0..seats.len() {
@@ -119,9 +132,10 @@ fn tell_all(seats: &mut Vec<Seat>, log: &Log)
     }
 }
 
-fn tell_at(seats: &mut Vec<Seat>, log: &Log, place: usize)
+fn tell_at(seats: &mut Vec<Seat>, log: &LongLog, place: usize)
     requires inside { place < length seats.old.items }
-    requires cursor { HasCursorAt log.now.entries seats.old.items place }
+    requires cursor { HasCursorAt log.now seats.old.items place }
+    requires few { KeepsFew log.now }
     ensures { SeatAt (TellsSeat log.now.entries) place seats.old.items seats.new.items }
 {
     seats[place].tell(log);

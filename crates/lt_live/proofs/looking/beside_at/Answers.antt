@@ -1,9 +1,10 @@
 -- The seat at the session's place looked.
 use Rattle.std.proofs.Common.{subst, sym, refl, arith, ◌⊎◌, ◌<◌, length}
-use Rattle.lt_merge.specs.Merging.{RunData}
+use Rattle.lt_log.specs.LogData.{LogData}
 use Rattle.lt_live.specs.Words.{known_replies}
-use Rattle.lt_live.specs.Seats.{IsCursor, LooksBeside, HasToldAll}
+use Rattle.lt_live.specs.Seats.{IsCursorOf, LooksBeside, HasToldAll}
 use Rattle.lt_live.proofs.OpenedStations.{seat_found, seat_inside, station_looked, seat_looked}
+use Rattle.lt_live.proofs.TurnParts.{keeps_few}
 use Rattle.lt_live.proofs.looking.beside_at.Goals as goal
 
 pub index_mut-requires : goal.index_mut-requires
@@ -18,8 +19,11 @@ beside-requires-clause-link c =
 pub beside-requires-clause-cursor : goal.beside-requires-clause-cursor
 beside-requires-clause-cursor c =
     let here = (seat_found c.args.seats.now.items c.args.session.now.place c.index_mut.result.now c.args.session.now c.requires.seated refl c.index_mut.ensures.value).0 in
-    subst (λ (log : RunData). IsCursor log.entries c.index_mut.result.now.moves c.index_mut.result.now.lines) (sym c.log.ensures)
-    (c.requires.kept.each c.args.session.now.place c.index_mut.result.now here).kept.cursor
+    let is = c.requires.kept.each c.args.session.now.place c.index_mut.result.now here in
+    subst (λ (log : LogData). IsCursorOf log c.index_mut.result.now) (sym c.log.ensures) (is.kept.cursor, is.gone)
+
+pub beside-requires-clause-few : goal.beside-requires-clause-few
+beside-requires-clause-few c = keeps_few c.args.runner.now c.args.seats.now.items c.log.result.now c.requires.kept c.kept.ensures c.log.ensures
 
 pub beside-requires-clause-places : goal.beside-requires-clause-places
 beside-requires-clause-places c =
@@ -31,12 +35,12 @@ returns-clause-kept c =
     let here = (seat_found c.args.seats.now.items c.args.session.now.place c.index_mut.result.now c.args.session.now c.requires.seated refl c.index_mut.ensures.value).0 in
     station_looked c.args.runner.now c.args.seats.now.items c.args.session.now.place c.args.session.now c.beside.new.session c.index_mut.result.now c.beside.new.seat
     c.requires.kept refl here
-    (subst (λ (log : RunData). LooksBeside log.entries c.args.session.now c.beside.new.session c.index_mut.result.now c.beside.new.seat) c.log.ensures c.beside.ensures.looks)
+    (subst (λ (log : LogData). LooksBeside log.entries c.args.session.now c.beside.new.session c.index_mut.result.now c.beside.new.seat) c.log.ensures c.beside.ensures.looks)
 
 pub returns-clause-looks : goal.returns-clause-looks
 returns-clause-looks c =
     let here = (seat_found c.args.seats.now.items c.args.session.now.place c.index_mut.result.now c.args.session.now c.requires.seated refl c.index_mut.ensures.value).0 in
     seat_looked c.args.runner.now.log.entries c.args.seats.now.items c.args.session.now.place c.args.session.now c.beside.new.session c.index_mut.result.now c.beside.new.seat
     refl here c.beside.ensures.link c.beside.ensures.beside
-    (subst (λ (log : RunData). LooksBeside log.entries c.args.session.now c.beside.new.session c.index_mut.result.now c.beside.new.seat) c.log.ensures c.beside.ensures.looks)
-    (subst (λ (log : RunData). HasToldAll log.entries c.beside.new.seat ⊎ (0 < length (known_replies c.beside.new.session))) c.log.ensures c.beside.ensures.moves)
+    (subst (λ (log : LogData). LooksBeside log.entries c.args.session.now c.beside.new.session c.index_mut.result.now c.beside.new.seat) c.log.ensures c.beside.ensures.looks)
+    (subst (λ (log : LogData). HasToldAll log.entries c.beside.new.seat ⊎ (0 < length (known_replies c.beside.new.session))) c.log.ensures c.beside.ensures.moves)

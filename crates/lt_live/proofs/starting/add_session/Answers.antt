@@ -50,8 +50,8 @@ returns c =
       place_is = new.2 ∙ c.seats-place.ensures ∙ ap (λ (s : StationData). length s.seats) (first ∙ value);
       link = c.in_ok-session.ensures.link;
       places = c.in_ok-session.ensures.places.1;
-      commands = c.in_ok-session.ensures.fresh.3;
-      waits = c.in_ok-session.ensures.fresh.4;
+      commands = c.in_ok-session.ensures.empty.0;
+      waits = c.in_ok-session.ensures.empty.1;
     } in
     subst (λ (sessions : List Session). Opens c.args.script.now c.args._limit c.args.capacity (c.args.client + 1) (slice_set stations c.from-home.result c.add_seat.new.self) sessions)
     (sym c.in_ok-push.ensures.items)

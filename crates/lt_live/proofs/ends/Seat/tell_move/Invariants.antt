@@ -1,7 +1,7 @@
 use Rattle.std.proofs.Common.{length, take, ◌-◌, ◌≡◌, ◌≤◌, ◌++◌, List}
 use Rattle.lt_live.specs.declared.reply.Reply.{Reply}
 use Rattle.lt_live.specs.Seats.{replies_in, OnlyTells}
-use Rattle.lt_live.specs.Words.{told_to, waiting}
+use Rattle.lt_live.specs.Words.{told_to, outbox_replies}
 use Rattle.lt_live.proofs.ends.Seat.tell_move.Given as goal
 
 abbrev pub invariant-loop-self : goal.invariant-loop-self
@@ -10,7 +10,7 @@ invariant-loop-self l = record {
   moves : l.self.moves ≡ l.initial.self.moves;
   told : (before : List Reply) → told_to l.initial.self ≡ before ++ replies_in l.initial.self.client (take l.initial.self.lines l.lines)
       → told_to l.self ≡ before ++ replies_in l.initial.self.client (take l.self.lines l.lines);
-  waits : waiting l.self ≡ waiting l.initial.self;
+  waits : outbox_replies l.self ≡ outbox_replies l.initial.self;
   within : l.self.lines ≤ length l.lines;
 }
 

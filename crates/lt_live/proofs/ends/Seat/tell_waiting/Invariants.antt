@@ -1,6 +1,6 @@
 use Rattle.std.proofs.Common.{◌≡◌, length}
 use Rattle.lt_live.specs.Seats.{OnlyTells}
-use Rattle.lt_live.specs.Words.{waiting, due_to}
+use Rattle.lt_live.specs.Words.{outbox_replies, due_to}
 use Rattle.lt_live.proofs.ends.Seat.tell_waiting.Given as goal
 
 abbrev pub invariant-loop-self : goal.invariant-loop-self
@@ -12,4 +12,4 @@ invariant-loop-self l = record {
 }
 
 abbrev pub decreases-loop-self : goal.decreases-loop-self
-decreases-loop-self l = length (waiting l.self)
+decreases-loop-self l = length (outbox_replies l.self)
