@@ -6,6 +6,8 @@ use Rattle.lt_modes.specs.Script.{ScriptData}
 use Rattle.lt_mail.specs.Words.{Alike}
 use Rattle.lt_runner.specs.declared.parts.Parts.{Parts}
 use Rattle.lt_runner.specs.declared.turning.Turned.{Turned}
+use Rattle.lt_runner.specs.Kept.{HasAll}
+use Rattle.lt_threads.specs.Meeting.{HaveAll}
 use Rattle.lt_threads.specs.Pushes.{HasLimit}
 use Rattle.lt_live.specs.declared.reply.Reply.{Reply}
 use Rattle.lt_live.specs.declared.ends.Session.{Session}
@@ -14,7 +16,7 @@ use Rattle.lt_live.specs.Stations.{StationData, StationTurns, StaySeated, runner
 use Rattle.lt_live.specs.Live.{GoesOn, StationGoesOn, EachStation, EachSession, LiveLasts}
 use Rattle.lt_live.proofs.SeatLists.{alike_before, alike_self, alike_weaker}
 use Rattle.lt_live.proofs.LiveShares.{goes_join}
-use Rattle.lt_live.proofs.Settling.{station_itself}
+use Rattle.lt_live.proofs.Settling.{station_itself, turn_has_all}
 use Rattle.lt_live_callers.specs.declared.desk.Desk.{Desk}
 use Rattle.lt_live_callers.specs.Desks.{session_of, DeskGoesOn, DesksGoOn, WentByTurns, MakesTurns, StationsGoOn}
 use Rattle.lt_live_callers.specs.Served.{AreServing}
@@ -74,6 +76,17 @@ limits_last limit stations later on h k p here =
     let (old, was, goes) = alike_before StationGoesOn stations later on k s there in
     ap (λ (q : Parts). q.limit) (sym now) ∙ goes.runner.limit ∙ h k old.runner (slice_get-map runner_of stations k ∙ ap (option_map runner_of) was)
 
+-- a station that makes turns forgets nothing
+passed_has_all : (a b : StationData) (left : List StationData) → WentByTurns a left b → HasAll a.runner → HasAll b.runner
+passed_has_all a b [] p had = subst (λ (s : StationData). HasAll s.runner) (sym p) had
+passed_has_all a b (s ∷ rest) p had = passed_has_all s b rest p.1 (turn_has_all p.0.turned a.runner a.seats s.runner s.seats p.0.turns had)
+
+all_last : (n : ℕ) (stations later : List StationData) → StationsGoOn n stations later → HaveAll (map runner_of stations) → HaveAll (map runner_of later)
+all_last n stations later on had k p here =
+    let (s, there, now) = mapped_at runner_of later k p here in
+    let (old, was, turns) = alike_before (MakesTurns n) stations later on k s there in
+    subst HasAll now (passed_has_all old s turns.left turns.passed (had k old.runner (slice_get-map runner_of stations k ∙ ap (option_map runner_of) was)))
+
 module _ {C : Type 0} (goes : C → Option Reply → Option Command → C → Type 0) where
   pub desks_itself : (desks : List (Desk C)) → DesksGoOn goes 0 desks desks
   desks_itself desks = alike_self (DeskGoesOn goes 0) (desk_itself goes) desks
@@ -100,6 +113,7 @@ module _ {C : Type 0} (goes : C → Option Reply → Option Command → C → Ty
   serving_lasts lasts n turns script limit callers stations later desks after h on go = record {
     live = lasts script stations later (map session_of desks) (map session_of after) h.live (stations_go turns stations later on) (sessions_same n desks after go);
     limits = limits_last limit stations later (stations_go turns stations later on) h.limits;
+    all = all_last turns stations later on h.all;
     each = λ client d here.
         let (old, was, went) = alike_before (DeskGoesOn goes n) desks after go client d here in
         calls_go_on goes 0 n n (slice_get callers client) old d (omega arith) (h.each client old was) went;

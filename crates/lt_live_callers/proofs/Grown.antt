@@ -15,7 +15,7 @@ use Rattle.lt_law_merged.specs.States.{RestIsNoMove}
 use Rattle.lt_merge.specs.Merging.{RunData, Merges}
 use Rattle.lt_runner.specs.declared.parts.Parts.{Parts}
 use Rattle.lt_runner.specs.Kept.{Grew}
-use Rattle.lt_threads.specs.Meeting.{AreCrewLogs, IsJoined, IsSharedRun, EachIs, commands_in, crew_world}
+use Rattle.lt_threads.specs.Meeting.{AreCrewLogs, HaveAll, IsJoined, IsSharedRun, EachIs, commands_in, crew_world}
 use Rattle.lt_threads.specs.Pushes.{HasLimit, MovedOn, CrewEnds}
 use Rattle.lt_threads.specs.Threads.{IsThreadRun}
 use Rattle.lt_threads.proofs.Each.{each_before}
@@ -24,7 +24,7 @@ use Rattle.lt_live.specs.declared.ends.Session.{Session}
 use Rattle.lt_live.specs.Words.{submitted, polled, SameSession}
 use Rattle.lt_live.specs.Seats.{replies_in, reply_to}
 use Rattle.lt_live.specs.Stations.{StationData, runner_of}
-use Rattle.lt_live.specs.Live.{AreLive, GoesOn, StationGoesOn, EachStation, LiveLasts, ServedBy, Settled, IsServedRun}
+use Rattle.lt_live.specs.Live.{AreLive, LiveScript, GoesOn, StationGoesOn, EachStation, LiveLasts, ServedBy, Settled, IsServedRun}
 use Rattle.lt_live.proofs.Finished.{AllSettled, served_run}
 use Rattle.lt_live.proofs.SeatLists.{alike_after, alike_self}
 use Rattle.lt_live.proofs.Settling.{session_itself}
@@ -92,6 +92,12 @@ limits_last limit old new grew h k p e =
     let was = each_before Grew old new grew k p e in
     let is : Grew was.0 p = was.2 in
     is.same.limit ∙ h k was.0 was.1
+
+-- the runners of stations that settled have forgotten nothing where those before had not
+pub settled_have_all : (stations later : List StationData) (sessions after : List Session) (rs : List Parts) → LiveScript stations sessions
+    → AllSettled stations sessions later after → rs ≡ map runner_of later → HaveAll (map runner_of stations) → HaveAll rs
+settled_have_all stations later sessions after rs live all_settled taken all =
+    subst HaveAll (sym (taken ∙ (all_settled live.0 live.1).runners)) all
 
 -- how the world of runners stops
 stops : (e : Ending) (script : ScriptData) (rs : List Parts) → CrewEnds e script rs → StopsSo (as_live e) script (crew_world script rs)

@@ -64,6 +64,7 @@ module _ {C : Type 0} where
       → AreServing goes 0 script limit callers stations desks
   begun goes opened_live script limit capacity stations sessions callers desks empty opened share are = record {
     limits = opened.runners.limits;
+    all = opened.runners.have_all;
     live = subst (λ (all : List Session). AreLive script stations all) (sym are.given) (opened_live script limit capacity stations sessions empty opened);
     each = λ client d here.
         let new = (opened.each client d.session (session_there callers sessions desks client d are here)).0 in

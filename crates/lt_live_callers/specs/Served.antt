@@ -10,7 +10,7 @@ use Rattle.lt_spec.specs.declared.ending.Ending.TheVariants as endings
 use Rattle.lt_script.specs.Printing.{print_of}
 use Rattle.lt_journal.specs.RunLines.{text_of}
 use Rattle.lt_threads.specs.Pushes.{HasLimit}
-use Rattle.lt_threads.specs.Meeting.{IsLeastEnabled}
+use Rattle.lt_threads.specs.Meeting.{IsLeastEnabled, HaveAll}
 use Rattle.lt_threads.specs.Threads.{StaysWithin, GoesFar}
 use Rattle.lt_live.specs.declared.reply.Reply.{Reply}
 use Rattle.lt_live.specs.declared.ends.Session.{Session}
@@ -148,13 +148,15 @@ module _ {C : Type 0} where
     pub given : map session_of desks ≡ sessions
     pub free : NoneRefused desks
 
-  -- the stations and the sessions are those of the script, each caller called by the session at its place, whose ring
-  -- has a place for each command that it may submit, and what was refused might not be submitted
+  -- the stations and the sessions are those of the script, no station has forgotten anything, each caller called by the
+  -- session at its place, whose ring has a place for each command that it may submit, and what was refused might not be
+  -- submitted
   pub record AreServing (goes : C → Option Reply → Option Command → C → Type 0)
       (n : ℕ) (script : ScriptData) (limit : ℕ) (callers : List C)
       (stations : List StationData) (desks : List (Desk C)) : Type 0 where
     pub live : AreLive script stations (map session_of desks)
     pub limits : HasLimit limit (map runner_of stations)
+    pub all : HaveAll (map runner_of stations)
     pub each : (client : ℕ) (d : Desk C) → slice_get desks client ≡ Some d
         → CallsIn goes n (slice_get callers client) d.session (Some (called_of d))
     pub roomy : (client : ℕ) (d : Desk C) → slice_get desks client ≡ Some d → d.session.share ≤ places d.session

@@ -1,7 +1,7 @@
 // The run of the stations, and how it ended.
 ghost use Rattle.std.specs.Prelude.{◌≡◌, map, IfOk};
 ghost use Rattle.lt_modes.specs.Script.{ScriptData};
-ghost use Rattle.lt_threads.specs.Meeting.{ShareScript, AreTooMany, IsJoined};
+ghost use Rattle.lt_threads.specs.Meeting.{ShareScript, AreTooMany, HaveAll, IsCrew, IsJoined, AreCrewLogs};
 ghost use Rattle.lt_threads.specs.Pushes.{HasLimit};
 ghost use Rattle.lt_threads.specs.Threads.{StaysWithin, GoesFar};
 ghost use Rattle.lt_live.specs.Live.{AreLive, LiveScript, IsServedRun};
@@ -11,7 +11,7 @@ ghost use Rattle.lt_live_callers.specs.Served.{CallersEndSo, as_live, HaveMade};
 use crate::moving::move_on;
 use lt_law_merged::law_can_move;
 use lt_live::{Session, Station, law_live_lasts, settle_all, take_runners};
-use lt_merge::{Run, merge};
+use lt_merge::{Log, Run, merge};
 use lt_runner::Runner;
 use lt_script::Script;
 use lt_spec::Ending;
@@ -50,6 +50,7 @@ pub(crate) fn end_run(
 ) -> Result<(Script, Run, LiveEnding), AllocError>
     requires live { LiveScript stations.items sessions.items }
     requires limits { HasLimit _limit (map runner_of stations.items) }
+    requires all { HaveAll (map runner_of stations.items) }
     ensures served { IfOk result (λ made.
         (script : ScriptData) → AreLive script stations.items sessions.items → IsServedRun script sessions.items
         made.0 made.1.entries) }
@@ -65,20 +66,36 @@ pub(crate) fn end_run(
     let mut runners = take_runners(stations, runners);
     let script = join(alloc, &runners)?;
     let ending = move_on(&script, &mut runners)?;
-    let logs = finish(alloc, &script, runners)?;
+    let logs = gather_logs(alloc, &script, runners)?;
     let run = merge(alloc, logs)?;
     Ok((script, run, live_ending(ending)))
 }
 
-// The one script of runners that don't have too many commands.
+// The one script of runners that don't have too many commands and have forgotten none.
 fn join(alloc: Global, runners: &[Runner]) -> Result<Script, AllocError>
     requires shares { ShareScript runners.now }
     requires few { ¬ AreTooMany runners.now }
+    requires all { HaveAll runners.now }
     ensures { IfOk result (IsJoined runners.now) }
 {
     match join_scripts(alloc, runners) {
         Ok(script) => Ok(script),
         Err(JoinError::NoMemory) => Err(AllocError),
+        Err(JoinError::Forgotten) => unreachable!(),
+        Err(JoinError::TooMany) => unreachable!(),
+    }
+}
+
+// The logs of runners that have forgotten nothing.
+fn gather_logs(alloc: Global, script: &Script, runners: Vec<Runner>) -> Result<Vec<Log>, AllocError>
+    requires crew { IsCrew script.now runners.items }
+    requires all { HaveAll runners.items }
+    ensures { IfOk result (λ logs. AreCrewLogs script.now runners.items logs.items) }
+{
+    match finish(alloc, script, runners) {
+        Ok(logs) => Ok(logs),
+        Err(JoinError::NoMemory) => Err(AllocError),
+        Err(JoinError::Forgotten) => unreachable!(),
         Err(JoinError::TooMany) => unreachable!(),
     }
 }

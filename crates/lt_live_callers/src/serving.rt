@@ -1,6 +1,7 @@
 // Callers serve a script.
 ghost use Rattle.std.specs.Prelude.{◌≡◌, ◌≢◌, ◌↔◌, ◌≤◌, ◌<◌, ◌*◌, [], length, map, Err, IfOk};
 ghost use Rattle.lt_spec.specs.declared.moves.TheConstants.{MAX_MOVES};
+ghost use Rattle.lt_threads.specs.Meeting.{HaveAll};
 ghost use Rattle.lt_threads.specs.Pushes.{HasLimit};
 ghost use Rattle.lt_threads.specs.Threads.{StaysWithin, GoesFar};
 ghost use Rattle.lt_live.specs.Live.{AreLive};
@@ -140,6 +141,7 @@ fn end<C: Drop>(
 ) -> Result<Served<C>, AllocError>
     requires live { AreLive _script.now stations.items (map session_of desks.items) }
     requires limits { HasLimit limit (map runner_of stations.items) }
+    requires all { HaveAll (map runner_of stations.items) }
     ensures ended { IfOk result (λ served. AreEnded _script.now limit stations.items desks.items served) }
     ensures rounds { IfOk result (λ served. served.rounds ≡ rounds) }
 {

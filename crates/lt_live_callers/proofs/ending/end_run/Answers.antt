@@ -2,10 +2,11 @@
 use Rattle.std.proofs.Common.{List, sym, subst, ◌∙◌}
 use Rattle.lt_runner.specs.declared.parts.Parts.{Parts}
 use Rattle.lt_threads.specs.Meeting.{IsJoined}
+use Rattle.lt_threads.proofs.Whole.{all_grew}
 use Rattle.lt_live.proofs.Finished.{never_many}
 use Rattle.lt_live_callers.specs.declared.ending.LiveEnding.{LiveEnding}
 use Rattle.lt_live_callers.specs.Served.{CallersEndSo}
-use Rattle.lt_live_callers.proofs.Grown.{serves, ends, keeps, have_made}
+use Rattle.lt_live_callers.proofs.Grown.{settled_have_all, serves, ends, keeps, have_made}
 use Rattle.lt_live_callers.proofs.ending.end_run.Goals as goal
 
 pub join-requires-clause-few : goal.join-requires-clause-few
@@ -13,9 +14,21 @@ join-requires-clause-few c =
     never_many c.args.stations.items c.settle_all.new.stations.items c.args.sessions.items c.settle_all.new.sessions.items c.deref.result.now
     c.requires.live c.settle_all.ensures (c.deref.ensures.value ∙ c.take_runners-runners.ensures)
 
+pub join-requires-clause-all : goal.join-requires-clause-all
+join-requires-clause-all c =
+    settled_have_all c.args.stations.items c.settle_all.new.stations.items c.args.sessions.items c.settle_all.new.sessions.items c.deref.result.now
+    c.requires.live c.settle_all.ensures (c.deref.ensures.value ∙ c.take_runners-runners.ensures) c.requires.all
+
 pub move_on-requires : goal.move_on-requires
 move_on-requires c =
     (subst (λ (rs : List Parts). IsJoined rs c.in_ok-script.script) c.deref.ensures.value c.in_ok-script.ensures).crew
+
+pub gather_logs-requires-clause-all : goal.gather_logs-requires-clause-all
+gather_logs-requires-clause-all c =
+    let runners = c.take_runners-runners.result.items in
+    all_grew runners c.move_on.new.runners.items c.in_ok-ending.ensures.grew
+    (settled_have_all c.args.stations.items c.settle_all.new.stations.items c.args.sessions.items c.settle_all.new.sessions.items runners
+    c.requires.live c.settle_all.ensures c.take_runners-runners.ensures c.requires.all)
 
 pub returns-clause-served : goal.returns-clause-served
 returns-clause-served c =

@@ -19,6 +19,12 @@ end-requires-clause-limits g c =
     c.args.callers.items c.in_ok-stations.stations.items c.work-made.new.stations.items c.in_ok-stations.desks.items c.work-made.new.desks.items
     c.in_ok-stations.ensures.serving c.work-made.ensures.stations c.work-made.ensures.desks).limits
 
+pub end-requires-clause-all : goal.end-requires-clause-all
+end-requires-clause-all g c =
+    (serving_lasts g.C.Caller.goes c.law_live_lasts.ensures.last (c.work-made.result * TIMES_A_ROUND) (c.work-made.result * TIMES_A_ROUND) c.in_ok-bare.bare c.args.limit
+    c.args.callers.items c.in_ok-stations.stations.items c.work-made.new.stations.items c.in_ok-stations.desks.items c.work-made.new.desks.items
+    c.in_ok-stations.ensures.serving c.work-made.ensures.stations c.work-made.ensures.desks).all
+
 pub returns : goal.returns
 returns g c =
     let n = c.work-made.result * TIMES_A_ROUND in

@@ -18,6 +18,12 @@ end-requires-clause-limits g c =
     c.args.callers.items c.in_ok-stations.stations.items c.work_alone-made.new.stations.items c.in_ok-stations.desks.items c.work_alone-made.new.desks.items
     c.in_ok-stations.ensures.serving c.work_alone-made.ensures.stations c.work_alone-made.ensures.desks).limits
 
+pub end-requires-clause-all : goal.end-requires-clause-all
+end-requires-clause-all g c =
+    (serving_lasts g.C.Caller.goes c.law_live_lasts.ensures.last c.work_alone-made.result c.work_alone-made.result c.in_ok-bare.bare c.args.limit
+    c.args.callers.items c.in_ok-stations.stations.items c.work_alone-made.new.stations.items c.in_ok-stations.desks.items c.work_alone-made.new.desks.items
+    c.in_ok-stations.ensures.serving c.work_alone-made.ensures.stations c.work_alone-made.ensures.desks).all
+
 pub returns : goal.returns
 returns g c =
     let n = c.work_alone-made.result in
