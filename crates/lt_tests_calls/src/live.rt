@@ -84,6 +84,30 @@ fn a_full_ring_gives_the_command_back(rt: HostRuntime) -> Result<(), Fail> {
     Ok(())
 }
 
+// The ring has a place for one reply, so the second one waits at the station, and meanwhile no command is taken.
+#[test]
+fn a_reply_is_told_though_its_move_is_forgotten(rt: HostRuntime) -> Result<(), Fail> {
+    let (mut station, mut session) = first_client(rt.alloc(), ONE_CLIENT, 1)?;
+    same(&rt, submit(&mut session, LOCK)?, Ok(()));
+    same(&rt, station.turn(&Open), Turned::Moved);
+    same(&rt, submit(&mut session, UNLOCK)?, Ok(()));
+    same(&rt, station.turn(&Open), Turned::Moved);
+    station.forget_moves(rt.alloc())?;
+    station.forget_commands(rt.alloc())?;
+    same(&rt, submit(&mut session, LOCK)?, Ok(()));
+    same(&rt, session.poll(), Some(Reply::Granted));
+    same(&rt, station.turn(&Open), Turned::Quiet);
+    same(&rt, session.poll(), Some(Reply::Unlocked));
+    same(&rt, station.turn(&Open), Turned::Moved);
+    same(&rt, session.poll(), Some(Reply::Granted));
+    same(
+        &rt,
+        (station.commands(), station.script().commands()),
+        (3, 1),
+    );
+    Ok(())
+}
+
 #[test]
 fn an_ask_goes_to_the_other_node(rt: HostRuntime) -> Result<(), Fail> {
     let script = script_of(rt.alloc(), TWO_NODES)?;
