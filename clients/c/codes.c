@@ -105,6 +105,7 @@ static void wrong_handles(void) {
     IS(lockrun_take_station(&ann, &none), LOCKRUN_WRONG_HANDLE);
     IS(lockrun_take_session(&ann, &none), LOCKRUN_WRONG_HANDLE);
     IS(lockrun_turn(&ann), LOCKRUN_WRONG_HANDLE);
+    IS(lockrun_forget(&ann), LOCKRUN_WRONG_HANDLE);
     IS(lockrun_submit(&station[0], LOCKRUN_LOCK, 0, LOCKRUN_READ, 0), LOCKRUN_WRONG_HANDLE);
     IS(lockrun_poll(&station[0], &count), LOCKRUN_WRONG_HANDLE);
     IS(lockrun_left(&station[0]), 0);
@@ -221,6 +222,39 @@ static void whole_life(void) {
     IS(journal.at != 0, 0);
 }
 
+/* Stations forget while replies are still to be polled and a client waits. The service goes on, and has no journal. */
+static void forgetting(void) {
+    IS(open_text(text, 1 << 20, 2), LOCKRUN_OK);
+    for (int k = 0; k < 2; k++) IS(lockrun_take_station(&service, &station[k]), LOCKRUN_OK);
+    IS(lockrun_take_session(&service, &ann), LOCKRUN_OK);
+    IS(lockrun_take_session(&service, &ben), LOCKRUN_OK);
+    for (int k = 0; k < 3; k++) {
+        IS(lockrun_submit(&ann, LOCKRUN_LOCK, 0, LOCKRUN_READ, 0), LOCKRUN_OK);
+        rest();
+    }
+    IS(lockrun_submit(&ben, LOCKRUN_LOCK, 0, LOCKRUN_WRITE, 0), LOCKRUN_OK);
+    IS(reply(&ben), LOCKRUN_NOTHING);
+    served_meanwhile(2, 4, 0);
+    for (int k = 0; k < 2; k++) IS(lockrun_forget(&station[k]), LOCKRUN_OK);
+    served_meanwhile(2, 4, 0);
+    for (int k = 0; k < 3; k++) IS(reply(&ann), LOCKRUN_GRANTED);
+    for (int k = 0; k < 3; k++) {
+        IS(reply(&ben), LOCKRUN_NOTHING);
+        IS(lockrun_submit(&ann, LOCKRUN_UNLOCK, 0, LOCKRUN_READ, 0), LOCKRUN_OK);
+        IS(reply(&ann), LOCKRUN_UNLOCKED);
+    }
+    IS(reply(&ben), LOCKRUN_GRANTED);
+    served_meanwhile(2, 7, 7);
+    IS(lockrun_forget(&station[1]), LOCKRUN_OK);
+    for (int k = 0; k < 2; k++) IS(lockrun_give(&service, &station[k]), LOCKRUN_OK);
+    IS(lockrun_give(&service, &ann), LOCKRUN_OK);
+    IS(lockrun_give(&service, &ben), LOCKRUN_OK);
+    IS(lockrun_forget(&service), LOCKRUN_WRONG_HANDLE);
+    served(7, 7);
+    IS(lockrun_finish(&service, &journal), LOCKRUN_FORGOTTEN);
+    IS(service.at != 0 || journal.at != 0, 0);
+}
+
 /* A caller whose time is over is told that it still waits, until the lock is granted. */
 static void patience(void) {
     static const char script[] = "nodes 2\nset a\nclient c at 0\nclient d at 1\n";
@@ -250,6 +284,24 @@ static void patience(void) {
     lockrun_free(&journal);
 }
 
+/* Callers go on after their nodes have forgotten, also one that waits. */
+static void forgetful(void) {
+    static const char script[] = "nodes 2\nset a\nclient c at 0\nclient d at 1\n";
+    lockrun_nodes nodes;
+    IS(lockrun_nodes_open(&nodes, script, sizeof script - 1, 1 << 20), LOCKRUN_OK);
+    lockrun_caller *first = &nodes.caller[0], *second = &nodes.caller[1];
+    IS(lockrun_lock(first, 0, LOCKRUN_READ, LOCKRUN_FOREVER), LOCKRUN_GRANTED);
+    IS(lockrun_lock(second, 0, LOCKRUN_WRITE, 0), LOCKRUN_WAITS);
+    IS(lockrun_nodes_forget(&nodes), LOCKRUN_OK);
+    IS(lockrun_unlock(first, 0, LOCKRUN_READ, LOCKRUN_FOREVER), LOCKRUN_UNLOCKED);
+    IS(lockrun_wait(second, LOCKRUN_FOREVER), LOCKRUN_GRANTED);
+    IS(lockrun_nodes_served(&nodes, &submitted, &polled), LOCKRUN_OK);
+    IS(submitted, 3);
+    IS(polled, 3);
+    IS(lockrun_nodes_finish(&nodes, &journal), LOCKRUN_FORGOTTEN);
+    IS(journal.at != 0, 0);
+}
+
 int main(void) {
     opening();
     taking();
@@ -259,7 +311,9 @@ int main(void) {
     ends();
     lockrun_free(&service);
     whole_life();
+    forgetting();
     patience();
+    forgetful();
     puts(bad ? "codes: some answers are others" : "codes: each answer is as it should be");
     return bad;
 }

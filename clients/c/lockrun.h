@@ -47,7 +47,8 @@ enum lockrun_code {
     LOCKRUN_BAD_SCRIPT,
     LOCKRUN_SPENT,        /* the session's share of commands is used up */
     LOCKRUN_FULL,         /* the ring has no place now: try again later */
-    LOCKRUN_LOG_FULL      /* the node made as many moves as it may */
+    LOCKRUN_LOG_FULL,     /* the node made as many moves as it may */
+    LOCKRUN_FORGOTTEN     /* a station has forgotten moves or commands */
 };
 
 enum lockrun_reply {
@@ -73,6 +74,11 @@ uint32_t lockrun_take_session(lockrun_service *service, lockrun_session *session
  * LOCKRUN_NOTHING if there was none. */
 uint32_t lockrun_turn(lockrun_station *station);
 
+/* Forgets the moves and commands that the station has, but for commands that are still to be made, and frees their memory;
+ * replies that are still to be polled stay. After LOCKRUN_NO_MEMORY it may have forgotten moves. The service goes on either
+ * way, and has no journal then. */
+uint32_t lockrun_forget(lockrun_station *station);
+
 /* Submits a command of this lockrun_kind. `first` is the mode, of LOCKRUN_CHANGE the mode that is held, of LOCKRUN_DROP the
  * client whose locks are dropped; `second` is the new mode of LOCKRUN_CHANGE, and else not looked at. */
 uint32_t lockrun_submit(lockrun_session *session, uint32_t kind, uint8_t set, uint32_t first, uint32_t second);
@@ -94,7 +100,7 @@ uint32_t lockrun_give(lockrun_service *service, lockrun_handle *given);
  * were served so, and the service goes on: take the stations and sessions again. LOCKRUN_NOTHING if one of them is out. */
 uint32_t lockrun_served(lockrun_service *service, size_t *submitted, size_t *polled);
 
-/* Ends the service. `service` is {0} then, also without memory: then all is lost. */
+/* Ends the service. `service` is {0} then, also without memory and after LOCKRUN_FORGOTTEN: then all is lost. */
 uint32_t lockrun_finish(lockrun_service *service, lockrun_journal *journal);
 
 /* Copies bytes of the journal, or of its script with the commands, from this one on, and tells how many. */

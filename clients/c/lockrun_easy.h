@@ -227,6 +227,19 @@ static inline uint32_t lockrun_nodes_served(lockrun_nodes *nodes, size_t *submit
     return code == LOCKRUN_OK ? taken : code;
 }
 
+/* Lets each node forget its moves and commands; then they have no journal. Other threads may be in calls. */
+static inline uint32_t lockrun_nodes_forget(lockrun_nodes *nodes) {
+    uint32_t code = LOCKRUN_OK;
+    for (size_t k = 0; k < nodes->count; k++) {
+        lockrun_node *node = &nodes->node[k];
+        while (atomic_flag_test_and_set(&node->busy)) sched_yield();
+        uint32_t forgot = lockrun_forget(&node->station);
+        atomic_flag_clear(&node->busy);
+        if (forgot != LOCKRUN_OK) code = forgot;
+    }
+    return code;
+}
+
 /* Ends the nodes, while no other thread is in a call: the journal of their run. */
 static inline uint32_t lockrun_nodes_finish(lockrun_nodes *nodes, lockrun_journal *journal) {
     lockrun_nodes_rest(nodes);

@@ -1,16 +1,16 @@
 /* Want of memory at each allocation in the life of a service. In each life one allocation more goes through, and then each
  * is refused until a call has answered LOCKRUN_NO_MEMORY. That call is made again, and what follows is as in a life in which
- * nothing is refused, since nothing was lost; only lockrun_finish drops all. Each call that may give this answer gives it in
- * some life. Linked with --wrap=malloc and --wrap=realloc. */
+ * nothing is refused, since nothing was lost; only lockrun_finish drops all. So it is again where the stations forget before
+ * each command. Each call that may give this answer gives it in some life. Linked with --wrap=malloc and --wrap=realloc. */
 #include "lockrun.h"
 #include <stdio.h>
 #include <string.h>
 
-enum call { OPEN, TAKE_STATION, TAKE_SESSION, TURN, GIVE, FINISH, CALLS };
+enum call { OPEN, TAKE_STATION, TAKE_SESSION, TURN, FORGET, GIVE, FINISH, CALLS };
 
 enum { NODES = 2, CLIENTS = 6, MOST_BYTES = 8192 };
 
-static const char *const names[CALLS] = {"open", "take_station", "take_session", "turn", "give", "finish"};
+static const char *const names[CALLS] = {"open", "take_station", "take_session", "turn", "forget", "give", "finish"};
 
 static const char text[] = "nodes 2\nset a\nset b with a\n"
                            "client c0 at 0\nclient c1 at 1\nclient c2 at 0\nclient c3 at 1\nclient c4 at 0\nclient c5 at 1\n";
@@ -40,7 +40,7 @@ static lockrun_station station[NODES];
 static lockrun_session session[CLIENTS];
 static uint8_t wanted[2][MOST_BYTES], found[MOST_BYTES];
 static unsigned long number, asked, told, told_by[CALLS];
-static int refusing, bad;
+static int refusing, forgets, bad;
 
 void *__real_malloc(size_t size);
 void *__real_realloc(void *old, size_t size);
@@ -123,10 +123,19 @@ static void rest(void) {
         }
 }
 
+static void forget_all(void) {
+    for (int k = 0; k < NODES; k++) {
+        uint32_t code;
+        while (wants_memory(FORGET, code = lockrun_forget(&station[k]))) {}
+        want(code == LOCKRUN_OK, "forget");
+    }
+}
+
 static void ask_all(void) {
     size_t next = 0, count = sizeof replies / sizeof *replies;
     for (size_t k = 0; k < sizeof commands / sizeof *commands; k++) {
         lockrun_session *client = &session[commands[k].client];
+        if (forgets) forget_all();
         uint32_t dropped,
             code = lockrun_submit(client, commands[k].kind, commands[k].set, commands[k].first, commands[k].second);
         want(code == LOCKRUN_OK, "submit");
@@ -168,20 +177,33 @@ static void live(void) {
     ask_all();
     give_all(&service);
     serve();
-    if (wants_memory(FINISH, lockrun_finish(&service, &journal))) {
-        want(!service.at && !journal.at, "a service or a journal of no memory");
+    uint32_t code = lockrun_finish(&service, &journal);
+    want(!service.at, "a service that is finished");
+    if (wants_memory(FINISH, code)) {
+        want(!journal.at, "a journal of no memory");
+    } else if (forgets) {
+        want(code == LOCKRUN_FORGOTTEN && !journal.at, "a journal of what is forgotten");
     } else {
-        want(!service.at && journal.at != 0, "finish");
+        want(code == LOCKRUN_OK && journal.at != 0, "finish");
         compare(&journal);
         lockrun_free(&journal);
     }
     want(told == (number > 0), "it isn't told once");
 }
 
-int main(void) {
+/* One life in which nothing is refused, and one for each of its allocations. */
+static unsigned long live_all(void) {
+    number = 0;
     live();
     unsigned long all = asked;
     for (number = 1; number <= all; number++) live();
+    return all;
+}
+
+int main(void) {
+    unsigned long all = live_all();
+    forgets = 1;
+    all += live_all();
     for (int call = 0; call < CALLS; call++)
         if (told_by[call] == 0) {
             printf("memory: lockrun_%s never wants memory\n", names[call]);

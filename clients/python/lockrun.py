@@ -14,7 +14,7 @@ import threading
 import time
 from ctypes import POINTER, c_size_t, c_uint8, c_uint32
 
-OK, NOTHING, WRONG_HANDLE, NO_MEMORY, BAD_ARGUMENT, BAD_SCRIPT, SPENT, FULL, LOG_FULL = range(9)
+OK, NOTHING, WRONG_HANDLE, NO_MEMORY, BAD_ARGUMENT, BAD_SCRIPT, SPENT, FULL, LOG_FULL, FORGOTTEN = range(10)
 LOCK, TRY, UNLOCK, CHANGE, DROP = range(5)
 GRANTED, TRUE, FALSE, UNLOCKED, NOT_HELD, CHANGED, DROPPED, BUSY = range(16, 24)
 MODES = ('intention_read', 'read', 'upgrade', 'intention_write', 'read_intention_write', 'write')
@@ -28,6 +28,7 @@ FAULTS = {
     BAD_SCRIPT: 'the script has a fault',
     SPENT: "the session's share of commands is used up",
     LOG_FULL: 'a node made as many moves as it may',
+    FORGOTTEN: 'a node has forgotten moves or commands',
     NOT_HELD: "the client doesn't hold this mode",
     BUSY: 'the client whose locks should be dropped waits',
 }
@@ -45,6 +46,7 @@ EXPORTS = {
     'lockrun_take_station': (c_uint32, AT, AT),
     'lockrun_take_session': (c_uint32, AT, AT),
     'lockrun_turn': (c_uint32, AT),
+    'lockrun_forget': (c_uint32, AT),
     'lockrun_submit': (c_uint32, AT, c_uint32, c_uint8, c_uint32, c_uint32),
     'lockrun_poll': (c_uint32, AT, COUNT),
     'lockrun_left': (c_uint32, AT),
@@ -134,6 +136,13 @@ class Nodes:
     def turn_all(self):
         """A turn of each node: whether one made a move."""
         return any([self.turn(node) for node in range(len(self.stations))])
+
+    def forget(self):
+        """Lets each node forget its moves and commands, and frees their memory; then they have no journal. Other threads may be
+        in calls. Want of memory loses nothing."""
+        for station, lock in self.stations:
+            with lock:
+                said(self.library.lockrun_forget(station))
 
     def served(self):
         """How many commands all sessions submitted so far, and how many replies they polled, while no other thread is in a

@@ -1,10 +1,10 @@
 #!/usr/bin/env python3
-"""What sessions were served so far: before anything, while a client waits, and at the end; and while one is out, or of what
-is no service, nothing is told. The status is 0 if each answer is as it should be."""
+"""What sessions were served so far: before anything, while a client waits, after all nodes have forgotten, and at the end; and
+while one is out, or of what is no service, nothing is told. Nodes that have forgotten have no journal. The status is 0 if each answer is as it should be."""
 import sys
 from ctypes import c_size_t
 
-from lockrun import NOTHING, OK, WRONG_HANDLE, Nodes, StillWaits
+from lockrun import FORGOTTEN, NOTHING, OK, WRONG_HANDLE, LockError, Nodes, StillWaits
 
 
 def asked(nodes, handle):
@@ -20,6 +20,31 @@ def wait_a_little(session):
     except StillWaits:
         return True
     return False
+
+
+def finish(nodes):
+    """The code of why there is no journal."""
+    try:
+        nodes.finish()
+    except LockError as error:
+        return error.code
+    return OK
+
+
+def forgetful():
+    """What nodes that forget in the middle answer, and what they should."""
+    nodes = Nodes('nodes 2\nset a\nclient ann at 0\nclient ben at 1\n')
+    ann, ben = nodes.sessions
+    yield nodes.library.lockrun_forget(ann.handle), WRONG_HANDLE
+    held = ann.lock('a', 'read')
+    yield wait_a_little(ben), True
+    nodes.forget()
+    yield nodes.served(), (2, 1)
+    held.unlock()
+    ben.wait(60).unlock()
+    nodes.forget()
+    yield nodes.served(), (4, 4)
+    yield finish(nodes), FORGOTTEN
 
 
 def answers():
@@ -45,7 +70,7 @@ def answers():
 def main():
     """Prints each answer that is another."""
     bad = 0
-    for place, (answer, wanted) in enumerate(answers()):
+    for place, (answer, wanted) in enumerate([*answers(), *forgetful()]):
         if answer != wanted:
             print(f'served.py: answer {place} is {answer} and not {wanted}')
             bad = 1

@@ -11,6 +11,8 @@ pub enum Error {
     Spent,
     /// A node made as many moves as it may.
     LogFull,
+    /// A node has forgotten moves or commands.
+    Forgotten,
     /// The client didn't hold the mode that it gives up.
     NotHeld,
     /// The client whose locks should be dropped waits.
@@ -30,6 +32,7 @@ impl Error {
             exports::BAD_SCRIPT => Error::BadScript,
             exports::SPENT => Error::Spent,
             exports::LOG_FULL => Error::LogFull,
+            exports::FORGOTTEN => Error::Forgotten,
             exports::NOT_HELD => Error::NotHeld,
             exports::BUSY => Error::Busy,
             _ => Error::BadArgument,
@@ -45,6 +48,7 @@ impl fmt::Display for Error {
             Error::BadScript => "the script has a fault",
             Error::Spent => "the session's share of commands is used up",
             Error::LogFull => "a node made as many moves as it may",
+            Error::Forgotten => "a node has forgotten moves or commands",
             Error::NotHeld => "the client doesn't hold this mode",
             Error::Busy => "the client whose locks should be dropped waits",
             Error::StillWaits => "the client still waits",

@@ -17,6 +17,7 @@ extern "C" {
     pub fn lockrun_take_station(service: *mut Handle, station: *mut Handle) -> u32;
     pub fn lockrun_take_session(service: *mut Handle, session: *mut Handle) -> u32;
     pub fn lockrun_turn(station: *mut Handle) -> u32;
+    pub fn lockrun_forget(station: *mut Handle) -> u32;
     pub fn lockrun_submit(session: *mut Handle, kind: u32, set: u8, first: u32, second: u32) -> u32;
     pub fn lockrun_poll(session: *mut Handle, count: *mut u32) -> u32;
     pub fn lockrun_left(session: *mut Handle) -> u32;
@@ -57,6 +58,7 @@ pub const BAD_SCRIPT: u32 = 5;
 pub const SPENT: u32 = 6;
 pub const FULL: u32 = 7;
 pub const LOG_FULL: u32 = 8;
+pub const FORGOTTEN: u32 = 9;
 
 pub const LOCK: u32 = 0;
 pub const TRY: u32 = 1;

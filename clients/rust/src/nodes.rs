@@ -89,6 +89,15 @@ impl Stations {
 }
 
 impl Nodes {
+    /// Lets each node forget its moves and commands, and frees their memory; then they have no journal. Other threads may be in
+    /// calls. Want of memory loses nothing.
+    pub fn forget(&self) -> Result<(), Error> {
+        self.stations.0.iter().try_for_each(|station| {
+            // SAFETY: the lock gives the handle to one call at a time.
+            check(unsafe { exports::lockrun_forget(&mut *lock(station)) })
+        })
+    }
+
     /// What all sessions were served so far: there is a run in which they were served so, and the nodes go on. It borrows all
     /// sessions that were opened with them, in any order.
     pub fn served(&mut self, sessions: &mut [Session]) -> Result<Served, Error> {
@@ -97,6 +106,7 @@ impl Nodes {
         if !self.are_all(sessions.iter().map(|session| &**session)) {
             return Err(Error::OtherSessions);
         }
+        // No other thread has one: each that turns nodes has a session.
         let mut stations: Vec<MutexGuard<Handle>> = self.stations.0.iter().map(lock).collect();
         let mut stations: Vec<&mut Handle> = stations.iter_mut().map(|station| &mut **station).collect();
         let mut sessions: Vec<&mut Handle> = sessions.into_iter().map(Session::handle).collect();
@@ -141,7 +151,6 @@ impl Nodes {
     }
 }
 
-// No other thread has it: each that turns nodes has a session.
 fn lock(station: &Mutex<Handle>) -> MutexGuard<'_, Handle> {
     station.lock().unwrap_or_else(|poisoned| poisoned.into_inner())
 }

@@ -12,6 +12,7 @@ use Rattle.lt_live_c.specs.declared.journal.Journal.{Journal}
 use Rattle.lt_live_c.specs.declared.service.Service.{Service}
 use Rattle.lt_live_c.specs.Calls.{TurnsStation, Submits, Polls, left_at, client_in, home_in}
 use Rattle.lt_live_c.specs.Taking.{HandleGoesOn, AtStation, AtSession}
+use Rattle.lt_live_c.specs.Forgetting.{ForgetsStation}
 use Rattle.lt_live_c.specs.Told.{OfStation, OfSession, kind_of, IsOfKind, KindsTold, AsksTold}
 
 both : (code : ℕ) (content b : Content) → (code ≡ 2) × (b ≡ content) → (code ≡ 2) × (Some b ≡ Some content)
@@ -66,6 +67,7 @@ journal_stays journal (Some b) h = ap (λ (c : Content). Some c) h
 pub kinds_told : KindsTold
 kinds_told = record {
   turn = at_station (λ code. TurnsStation code);
+  forget = at_station (λ code. ForgetsStation code);
   submit = at_session (λ code. Submits code (Some (Lock 7 Write)));
   poll = λ was count. at_session (λ code. Polls code was count);
   station = station_stays;

@@ -20,7 +20,7 @@ use Rattle.lt_live_c.specs.declared.content.Content.{Content}
 use Rattle.lt_live_c.specs.declared.content.Content.TheVariants as contents
 use Rattle.lt_live_c.specs.declared.journal.Journal.{Journal}
 use Rattle.lt_live_c.specs.declared.service.Service.{Service}
-use Rattle.lt_live_c.specs.Journals.{HandleOpened, IsOpenedFrom, OpenRefused, fits_for_c, HandleFinishes, TellsOf, CopiesFrom, says_held, says_waiting, text_of_content, script_at}
+use Rattle.lt_live_c.specs.Journals.{HandleOpened, IsOpenedFrom, OpenRefused, fits_for_c, HandleFinishes, HandleNotFinished, TellsOf, CopiesFrom, says_held, says_waiting, text_of_content, script_at}
 use Rattle.lt_live_c.specs.Told.{kind_of}
 use Rattle.lt_live_c.specs.ServicesTold.{OfService, client_text, client_script, OpensTold, OfJournal, three_writers, one_holds, AfterEnd, FinishesTold, IsCopied, CopiesTold}
 
@@ -138,6 +138,12 @@ no_end (contents.Station x) other code was held waited waiting h = h
 no_end (contents.Session s) other code was held waited waiting h = h
 no_end (contents.Journal journal) other code was held waited waiting h = absurd (other refl)
 
+forgotten_so : (content : Content) → kind_of content ≢ 0 → HandleNotFinished 9 (Some content) → ⊥
+forgotten_so (contents.Service s) other h = other refl
+forgotten_so (contents.Station x) other h = h.forgotten refl
+forgotten_so (contents.Session s) other h = h.forgotten refl
+forgotten_so (contents.Journal journal) other h = h.forgotten refl
+
 pub finishes_told : FinishesTold
 finishes_told = record {
   served = finished;
@@ -146,7 +152,9 @@ finishes_told = record {
   text = λ script run journal h. h.text_is;
   held = held_so;
   waiting = waiting_so;
-  finish_codes = λ code h. h;
+  forgotten = λ s all h. h.forgotten refl all;
+  forgotten_of_others = forgotten_so;
+  finish_codes = λ code content h. h.only;
   wrong = λ s h. false≢true (sym h);
   end_code = λ journal code was held waited waiting h. h.0;
   end_held = λ journal code was held waited waiting h. h.1;

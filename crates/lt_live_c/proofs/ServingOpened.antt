@@ -1,5 +1,5 @@
 -- What follows where a service is told what it served, and where it is not.
-use Rattle.std.proofs.Common.{◌≡◌, ◌≢◌, ◌==◌, ◌+◌, ◌∷◌, [], inl, inr, ℕ, List, Option, Some, None, true, false, refl, sym, ap, subst, arith, eqb-true, length, slice_get, sum_by, ◌∙◌}
+use Rattle.std.proofs.Common.{◌≡◌, ◌≢◌, ◌==◌, ◌+◌, ◌∷◌, [], inl, inr, ℕ, List, Option, Some, None, true, refl, sym, ap, subst, arith, eqb-true, length, slice_get, sum_by, ◌∙◌}
 use Rattle.std.proofs.lemmas.Bool.{and_parts, false≢true}
 use Rattle.lt_modes.specs.Script.{ScriptData}
 use Rattle.lt_live.specs.declared.ends.Session.{Session}

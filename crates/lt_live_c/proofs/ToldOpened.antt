@@ -24,6 +24,7 @@ call_codes_are = record {
   spent = refl;
   full = refl;
   log_full = refl;
+  forgotten = refl;
   bytes = refl;
 }
 

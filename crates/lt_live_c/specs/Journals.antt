@@ -1,5 +1,5 @@
 -- The journal of a service's run.
-use Rattle.std.specs.Prelude.{◌≡◌, ℕ, ◌-◌, ◌++◌, ◌⊎◌, Bool, true, false, List, [], Option, Some, None, min, length, take, drop, count_by, ⊤, ◌&&◌, Ok, Err, nat_le, nat_lt}
+use Rattle.std.specs.Prelude.{◌≡◌, ℕ, ◌-◌, ◌++◌, ◌⊎◌, Bool, true, false, List, [], Option, Some, None, min, length, take, drop, count_by, ⊤, ◌&&◌, Ok, Err, nat_le, nat_lt, map}
 use Rattle.lt_modes.specs.Script.{ScriptData}
 use Rattle.lt_spec.specs.World.{Logged}
 use Rattle.lt_spec.specs.declared.moves.TheConstants.{MAX_MOVES}
@@ -11,8 +11,9 @@ use Rattle.lt_journal.specs.declared.line.Line.{Line}
 use Rattle.lt_journal.specs.declared.line.Line.TheVariants.{Held, Waiting}
 use Rattle.lt_journal.specs.RunLines.{closing_lines, text_of}
 use Rattle.lt_live.specs.Live.{AreLive, IsServedRun}
-use Rattle.lt_live.specs.Stations.{IsOpen}
-use Rattle.lt_live_c.specs.declared.code.TheConstants.{OK, WRONG_HANDLE, NO_MEMORY, BAD_ARGUMENT, BAD_SCRIPT}
+use Rattle.lt_threads.specs.Meeting.{HaveAll}
+use Rattle.lt_live.specs.Stations.{IsOpen, runner_of}
+use Rattle.lt_live_c.specs.declared.code.TheConstants.{OK, WRONG_HANDLE, NO_MEMORY, BAD_ARGUMENT, BAD_SCRIPT, FORGOTTEN}
 use Rattle.lt_live_c.specs.declared.journal.Journal.{Journal}
 use Rattle.lt_live_c.specs.declared.service.Service.{Service}
 use Rattle.lt_live_c.specs.declared.content.Content.{Content}
@@ -50,9 +51,22 @@ JournalIsOf a b = ⊥
 abbrev pub HandleFinishes : Option Content → Option Content → Type 0
 HandleFinishes a b = BothStand JournalIsOf a b
 
+-- some station of the service has forgotten moves or commands
+abbrev pub SomeForgot : Service → Type 0
+SomeForgot s = ¬ HaveAll (map runner_of s.stations.items)
+
+abbrev pub ServiceForgot : Content → Type 0
+ServiceForgot (contents.Service s) = SomeForgot s
+ServiceForgot other = ⊥
+
 -- why there is no journal
-abbrev pub FinishRefused : ℕ → Type 0
-FinishRefused code = (code ≡ WRONG_HANDLE) ⊎ (code ≡ NO_MEMORY)
+pub record FinishRefused (code : ℕ) (a : Content) : Type 0 where
+  pub forgotten : code ≡ FORGOTTEN → ServiceForgot a
+  pub only : (code ≡ WRONG_HANDLE) ⊎ ((code ≡ NO_MEMORY) ⊎ (code ≡ FORGOTTEN))
+
+abbrev pub HandleNotFinished : ℕ → Option Content → Type 0
+HandleNotFinished code None = ⊤
+HandleNotFinished code (Some a) = FinishRefused code a
 
 -- the text of the script with its commands; empty where it is no journal
 abbrev pub script_of_content : Content → List ℕ

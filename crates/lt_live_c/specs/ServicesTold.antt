@@ -1,6 +1,6 @@
 -- What C is told of services and journals, in literals: what was taken, given, opened, finished and served, or why nothing
 -- was.
-use Rattle.std.specs.Prelude.{◌≡◌, ◌≢◌, ◌<◌, ◌≤◌, ◌⊎◌, ◌+◌, ◌∷◌, [], ℕ, List, Ok, Option, Some, None, codes, length}
+use Rattle.std.specs.Prelude.{◌≡◌, ◌≢◌, ◌<◌, ◌≤◌, ◌⊎◌, ◌+◌, ◌∷◌, [], ℕ, List, Ok, Option, Some, None, codes, length, map}
 use Rattle.lt_modes.specs.declared.command.Command.TheVariants.{Lock}
 use Rattle.lt_modes.specs.declared.event.Event.TheVariants.{Grant, Wait}
 use Rattle.lt_modes.specs.declared.mode.Mode.TheVariants.{Write}
@@ -14,14 +14,15 @@ use Rattle.lt_journal.specs.RunLines.{text_of}
 use Rattle.lt_live.specs.declared.ends.Session.{Session}
 use Rattle.lt_live.specs.Live.{AreLive, IsServedRun, IsServedNow, LiveScript, EachStation, EachSession, SaysSame}
 use Rattle.lt_live.specs.Served.{MakesNoMove}
-use Rattle.lt_live.specs.Stations.{StationData, IsOpen}
+use Rattle.lt_threads.specs.Meeting.{HaveAll}
+use Rattle.lt_live.specs.Stations.{StationData, IsOpen, runner_of}
 use Rattle.lt_live.specs.Words.{submitted, polled}
 use Rattle.lt_live_c.specs.declared.content.Content.{Content}
 use Rattle.lt_live_c.specs.declared.content.Content.TheVariants as contents
 use Rattle.lt_live_c.specs.declared.journal.Journal.{Journal}
 use Rattle.lt_live_c.specs.declared.service.Service.{Service}
 use Rattle.lt_live_c.specs.Taking.{IsWholeHandle, IsOfOther, HandleTakesStation, HandleTakesSession, HandleHasNoStation, HandleHasNoSession, HandleGives, HandleKeeps, HandleGiveRefused}
-use Rattle.lt_live_c.specs.Journals.{HandleOpened, OpenRefused, HandleFinishes, FinishRefused, TellsOf, HandleTellsEnd, CopiesFrom, text_of_content, script_at}
+use Rattle.lt_live_c.specs.Journals.{HandleOpened, OpenRefused, HandleFinishes, HandleNotFinished, TellsOf, HandleTellsEnd, CopiesFrom, text_of_content, script_at}
 use Rattle.lt_live_c.specs.Serving.{HandleTellsServed, HandleNotTold, IsWholeHandleIfAll}
 use Rattle.lt_live_c.specs.Told.{kind_of}
 
@@ -179,7 +180,11 @@ pub record FinishesTold : Type 0 where
       → TellsOf script run journal → journal.text.items ≡ text_of script run None
   pub held : (journal : Journal) → TellsOf three_writers one_holds journal → journal.held ≡ 1
   pub waiting : (journal : Journal) → TellsOf three_writers one_holds journal → journal.waiting ≡ 2
-  pub finish_codes : (code : ℕ) → FinishRefused code → (code ≡ 2) ⊎ (code ≡ 3)
+  pub forgotten : (s : Service) → HaveAll (map runner_of s.stations.items)
+      → HandleNotFinished 9 (Some (contents.Service s)) → ⊥
+  pub forgotten_of_others : (content : Content) → kind_of content ≢ 0 → HandleNotFinished 9 (Some content) → ⊥
+  pub finish_codes : (code : ℕ) (content : Content) → HandleNotFinished code (Some content)
+      → (code ≡ 2) ⊎ ((code ≡ 3) ⊎ (code ≡ 9))
   pub wrong : (s : Service) → IsOfOther (Some (contents.Service s)) → ⊥
   pub end_code : (journal : Journal) → AfterEnd (contents.Journal journal) (λ code was held waited waiting. code ≡ 0)
   pub end_held : (journal : Journal)

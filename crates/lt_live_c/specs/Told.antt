@@ -1,20 +1,21 @@
 -- What C is told of stations and sessions, in literals: the numbers of clients/c/lockrun.h, and what follows from each
 -- code of a call.
-use Rattle.std.specs.Prelude.{◌≡◌, ◌≢◌, ◌<◌, ◌≤◌, ◌⊎◌, ◌+◌, ◌++◌, ◌∷◌, [], ℕ, IsTrue, Option, Some, None, length}
+use Rattle.std.specs.Prelude.{◌≡◌, ◌≢◌, ◌<◌, ◌≤◌, ◌⊎◌, ◌+◌, ◌++◌, ◌∷◌, [], ℕ, List, IsTrue, Option, Some, None, length, slice_get, slice_set}
 use mathlib.Core.List.{IsPrefix}
 use Rattle.rtrb.specs.Ring.{known_free, producer_capacity}
 use Rattle.lt_modes.specs.declared.command.Command.TheVariants.{Lock, Try, Unlock, Change, DropAll}
 use Rattle.lt_modes.specs.declared.mode.Mode.TheVariants as modes
 use Rattle.lt_modes.specs.FiveModes.{is_of_version}
-use Rattle.lt_modes.specs.Script.{home_at}
+use Rattle.lt_modes.specs.Script.{ScriptData, home_at}
+use Rattle.lt_node.specs.NodeData.{state_of}
 use Rattle.lt_runner.specs.declared.turning.Turned.TheVariants as turns
 use Rattle.lt_live.specs.declared.ends.Session.{Session}
 use Rattle.lt_live.specs.declared.reply.Reply.{Reply}
 use Rattle.lt_live.specs.declared.reply.Reply.TheVariants as replies
-use Rattle.lt_live.specs.Live.{StationGoesOn}
-use Rattle.lt_live.specs.Stations.{StationData, StationTurns}
+use Rattle.lt_live.specs.Live.{AreLive, StationGoesOn}
+use Rattle.lt_live.specs.Stations.{StationData, StationTurns, StaySeated}
 use Rattle.lt_live.specs.Words.{submitted, polled, known_replies, SameSession}
-use Rattle.lt_live_c.specs.declared.code.TheConstants.{OK, NOTHING, WRONG_HANDLE, NO_MEMORY, BAD_ARGUMENT, BAD_SCRIPT, SPENT, FULL, LOG_FULL}
+use Rattle.lt_live_c.specs.declared.code.TheConstants.{OK, NOTHING, WRONG_HANDLE, NO_MEMORY, BAD_ARGUMENT, BAD_SCRIPT, SPENT, FULL, LOG_FULL, FORGOTTEN}
 use Rattle.lt_live_c.specs.declared.content.Content.{Content}
 use Rattle.lt_live_c.specs.declared.content.Content.TheVariants as contents
 use Rattle.lt_live_c.specs.declared.journal.Journal.{Journal}
@@ -22,6 +23,7 @@ use Rattle.lt_live_c.specs.declared.limits.TheConstants.{MAX_BYTES}
 use Rattle.lt_live_c.specs.declared.service.Service.{Service}
 use Rattle.lt_live_c.specs.Calls.{number_of_reply, count_for_c, mode_numbered, command_numbered, TurnsStation, Submits, Polls, left_at, client_in, home_in}
 use Rattle.lt_live_c.specs.Taking.{HandleGoesOn, AtStation, AtSession}
+use Rattle.lt_live_c.specs.Forgetting.{ForgetsStation}
 
 -- the codes of all calls, and the greatest text of a script in bytes
 pub record CallCodesAre : Type 0 where
@@ -34,6 +36,7 @@ pub record CallCodesAre : Type 0 where
   pub spent : SPENT ≡ 6
   pub full : FULL ≡ 7
   pub log_full : LOG_FULL ≡ 8
+  pub forgotten : FORGOTTEN ≡ 9
   pub bytes : MAX_BYTES ≡ 1048576
 
 -- the reply's number, and what stands in the count after it where 9 stood there
@@ -98,6 +101,31 @@ pub record TurnsTold : Type 0 where
   pub full : AfterTurn 8 (λ a b. StationTurns turns.Full a.runner a.seats b.runner b.seats)
   pub no_memory : AfterTurn 3 (λ a b. StationTurns turns.NoMemory a.runner a.seats b.runner b.seats)
   pub only : (code : ℕ) → AfterTurn code (λ a b. (code ≡ 0) ⊎ ((code ≡ 1) ⊎ ((code ≡ 8) ⊎ (code ≡ 3))))
+
+-- this is so of each call with this code that lets a station forget, by the station before and after it
+abbrev pub AfterForget : ℕ → (StationData → StationData → Type 0) → Type 0
+AfterForget code Told =
+    (a : StationData) (new : Option Content) → AtStation code (ForgetsStation code) (Some (contents.Station a)) new
+    → OfStation new (Told a)
+
+-- what is forgotten, and that nothing else changes but what waits at seats
+pub record ForgetsTold : Type 0 where
+  pub moves : AfterForget 0 (λ a b. b.runner.log.gone ≡ length a.runner.log.entries)
+  pub commands : AfterForget 0 (λ a b. b.runner.node.gone ≡ length a.runner.node.script.commands)
+  pub commands_kept : AfterForget 3 (λ a b. b.runner.node.gone ≡ a.runner.node.gone)
+  pub same_moves : (code : ℕ) → AfterForget code (λ a b. b.runner.log.entries ≡ a.runner.log.entries)
+  pub same_script : (code : ℕ) → AfterForget code (λ a b. b.runner.node.script ≡ a.runner.node.script)
+  pub same_node : (code : ℕ) → AfterForget code (λ a b. b.runner.node.me ≡ a.runner.node.me)
+  pub same_state : (code : ℕ) → AfterForget code (λ a b. state_of b.runner.node ≡ state_of a.runner.node)
+  pub same_mail : (code : ℕ) → AfterForget code (λ a b. b.runner.mail ≡ a.runner.mail)
+  pub same_hand : (code : ℕ) → AfterForget code (λ a b. b.runner.hand ≡ a.runner.hand)
+  pub same_limit : (code : ℕ) → AfterForget code (λ a b. b.runner.limit ≡ a.runner.limit)
+  pub seated : (code : ℕ) → AfterForget code (λ a b. StaySeated a.seats b.seats)
+  pub only : (code : ℕ) → AfterForget code (λ a b. (code ≡ 0) ⊎ (code ≡ 3))
+  -- stations and sessions of one script are so still
+  pub whole : (first : ScriptData) (stations : List StationData) (sessions : List Session) (place code : ℕ) (x y : StationData)
+      → AreLive first stations sessions → slice_get stations place ≡ Some x → ForgetsStation code x y
+      → AreLive first (slice_set stations place y) sessions
 
 -- this is so of each call with this code that submits a command of this kind and of set 7, with this first number, by
 -- the session before and after it
@@ -164,6 +192,7 @@ IsOfKind kind Calls =
 -- what calls do with handles of each kind
 pub record KindsTold : Type 0 where
   pub turn : IsOfKind 1 (λ code old new. AtStation code (TurnsStation code) old new)
+  pub forget : IsOfKind 1 (λ code old new. AtStation code (ForgetsStation code) old new)
   pub submit : IsOfKind 2 (λ code old new. AtSession code (Submits code (Some (Lock 7 modes.Write))) old new)
   pub poll : (was count : ℕ) → IsOfKind 2 (λ code old new. AtSession code (Polls code was count) old new)
   pub station : (a : StationData) (new : Option Content) → HandleGoesOn (Some (contents.Station a)) new

@@ -3,15 +3,18 @@ ghost use Rattle.std.specs.Prelude.{◌≡◌};
 ghost use Rattle.lt_live.specs.Words.{SameSession};
 ghost use Rattle.lt_live.specs.Live.{StationGoesOn};
 ghost use Rattle.lt_live_c.specs.Taking.{ContentGoesOn, OnStation, OnSession};
+ghost use Rattle.lt_live_c.specs.Forgetting.{ForgetsStation};
 ghost use Rattle.lt_live_c.specs.Calls.{TurnsStation, Submits, Polls, left_in, client_of, home_of_content};
 
 use crate::code::{
-    BAD_ARGUMENT, FULL, NOTHING, OK, SPENT, WRONG_HANDLE, number_of_reply, number_of_turn,
+    BAD_ARGUMENT, FULL, NO_MEMORY, NOTHING, OK, SPENT, WRONG_HANDLE, number_of_reply,
+    number_of_turn,
 };
 use crate::content::Content;
 use lt_live::{Session, Station};
 use lt_modes::Command;
 use lt_runner::Open;
+use std::alloc::Global;
 
 #[tactic(auto, using(lt_live::proofs::Settling::same_sessions))]
 pub fn turn(content: &mut Content) -> u32
@@ -29,6 +32,27 @@ fn turn_of(station: &mut Station) -> u32
     ensures turns { TurnsStation result station.old station.new }
 {
     number_of_turn(station.turn(&Open))
+}
+
+pub fn forget(content: &mut Content, alloc: Global) -> u32
+    ensures { OnStation result (ForgetsStation result) content.old content.new }
+{
+    match content {
+        Content::Station(station) => forget_by(station, alloc),
+        _ => WRONG_HANDLE,
+    }
+}
+
+fn forget_by(station: &mut Station, alloc: Global) -> u32
+    ensures { ForgetsStation result station.old station.new }
+{
+    let Ok(()) = station.forget_moves(alloc) else {
+        return NO_MEMORY;
+    };
+    match station.forget_commands(alloc) {
+        Ok(()) => OK,
+        Err(_) => NO_MEMORY,
+    }
 }
 
 #[tactic(auto, using(lt_live::specs::Live::station_goes_on_itself))]

@@ -30,6 +30,9 @@ pub const FULL: u32 = 7;
 /// A move was found, and the log has no place for it.
 pub const LOG_FULL: u32 = 8;
 
+/// Some station has forgotten moves or commands.
+pub const FORGOTTEN: u32 = 9;
+
 /// How a turn ended.
 pub fn number_of_turn(turned: Turned) -> u32
     ensures { result ≡ number_of_turn turned }

@@ -1,5 +1,5 @@
 // What the calls' contracts say, in literals.
-ghost use Rattle.lt_live_c.specs.Told.{CallCodesAre, ReplyNumbersAre, ModeNumbersAre, CommandNumbersAre, TurnsTold, SubmitsTold, PollsTold, KindsTold, AsksTold};
+ghost use Rattle.lt_live_c.specs.Told.{CallCodesAre, ReplyNumbersAre, ModeNumbersAre, CommandNumbersAre, TurnsTold, ForgetsTold, SubmitsTold, PollsTold, KindsTold, AsksTold};
 ghost use Rattle.lt_live_c.specs.ServicesTold.{TakesTold, GivesTold, OpensTold, FinishesTold, CopiesTold, ServedTold};
 
 /// What C is told, by the numbers of `clients/c/lockrun.h`: what follows from each code of a call, field by field.
@@ -11,6 +11,7 @@ pub fn law_c_told()
     ensures modes { ModeNumbersAre }
     ensures commands { CommandNumbersAre }
     ensures turns { TurnsTold }
+    ensures forgets { ForgetsTold }
     ensures submits { SubmitsTold }
     ensures polls { PollsTold }
     ensures kinds { KindsTold }

@@ -4,14 +4,15 @@ ghost use Rattle.lt_spec.specs.declared.moves.TheConstants.{MAX_MOVES};
 ghost use Rattle.lt_spec.specs.declared.limits.TheConstants.{MAX_COMMANDS};
 ghost use Rattle.lt_live.specs.Stations.{IsOpen};
 ghost use Rattle.lt_live.specs.Live.{LiveScript};
-ghost use Rattle.lt_live_c.specs.Journals.{IsOpenedFrom, OpenRefused, fits_for_c, IsJournalOfService};
+ghost use Rattle.lt_live.specs.declared.finishing.FinishError.TheVariants as errors;
+ghost use Rattle.lt_live_c.specs.Journals.{IsOpenedFrom, OpenRefused, fits_for_c, IsJournalOfService, SomeForgot};
 ghost use Rattle.lt_live_c.specs.Serving.{has_all};
 ghost use Rattle.lt_live_c.specs.Taking.{TakesFirstStation, TakesFirstSession};
 
 use crate::code::{BAD_ARGUMENT, BAD_SCRIPT, NO_MEMORY};
 use crate::journal::Journal;
 use crate::limits::MAX_BYTES;
-use lt_live::{Session, Station, finish, law_live_lasts, open};
+use lt_live::{FinishError, Session, Station, finish, law_live_lasts, open};
 use lt_script::{MAX_COMMANDS, ReadError, Script};
 use lt_spec::MAX_MOVES;
 use std::alloc::{AllocError, Global};
@@ -59,11 +60,12 @@ impl Service {
         Ok(Service { stations, sessions })
     }
 
-    /// The journal of the run that the stations made. Without memory all is dropped.
+    /// The journal of the run that the stations made. After an error all is dropped.
     #[tactic(auto, using(crate::proofs::Finishing::is_journal))]
-    pub fn finish(self, alloc: Global) -> Result<Journal, AllocError>
+    pub fn finish(self, alloc: Global) -> Result<Journal, FinishError>
         requires { LiveScript self.stations.items self.sessions.items }
-        ensures { IfOk result (λ journal. IsJournalOfService self journal) }
+        ensures journal { IfOk result (λ journal. IsJournalOfService self journal) }
+        ensures forgotten { IfErr result (λ error. error ≡ errors.Forgotten → SomeForgot self) }
     {
         let (script, run) = finish(alloc, self.stations, self.sessions)?;
         let journal = Journal::of(alloc, &script, &run)?;

@@ -2,16 +2,17 @@
 ghost use Rattle.std.specs.Prelude.{◌≡◌, ◌≢◌, None, IsSome};
 ghost use Rattle.lt_live_c.specs.Taking.{IsWholeHandle, IsOfOther, HandleTakesStation, HandleTakesSession, HandleHasNoStation, HandleHasNoSession, HandleGives, HandleKeeps, HandleGiveRefused};
 ghost use Rattle.lt_live_c.specs.Serving.{IsWholeHandleIfAll, HandleTellsServed, HandleNotTold};
-ghost use Rattle.lt_live_c.specs.Journals.{HandleOpened, OpenRefused, HandleFinishes, FinishRefused};
+ghost use Rattle.lt_live_c.specs.Journals.{HandleOpened, OpenRefused, HandleFinishes, HandleNotFinished};
 
 use crate::boxes::{put, room, take};
-use crate::code::{NO_MEMORY, OK, WRONG_HANDLE};
+use crate::code::{FORGOTTEN, NO_MEMORY, OK, WRONG_HANDLE};
 use crate::content::Content;
 use crate::handle::Handle;
 use crate::journal::Journal;
 use crate::service::Service;
 use crate::serving::tell_served;
 use crate::taking::{give_back, journal_of, next_session, next_station, stands_for_service};
+use lt_live::FinishError;
 use std::alloc::Global;
 use std::mem::replace;
 
@@ -144,7 +145,7 @@ pub extern "C" fn lockrun_served(
 }
 
 /// Ends the service, all of whose stations and sessions were given back in order: `journal` stands for what they did.
-/// Without memory all is dropped.
+/// Without memory, or where a station has forgotten moves or commands, all is dropped.
 #[unsafe(no_mangle)]
 pub extern "C" fn lockrun_finish(alloc: Global, service: &mut Handle, journal: &mut Handle) -> u32
     requires some { IsSome service.old.value }
@@ -153,7 +154,7 @@ pub extern "C" fn lockrun_finish(alloc: Global, service: &mut Handle, journal: &
     ensures gone { result ≢ WRONG_HANDLE → service.new.value ≡ None }
     ensures wrong { result ≡ WRONG_HANDLE → IsOfOther service.old.value × (service.new.value ≡ service.old.value) }
     ensures keeps { result ≢ OK → journal.new.value ≡ journal.old.value }
-    ensures refused { result ≢ OK → FinishRefused result }
+    ensures refused { result ≢ OK → HandleNotFinished result service.old.value }
 {
     let mut room = take(alloc, service);
     if !stands_for_service(&room) {
@@ -163,7 +164,8 @@ pub extern "C" fn lockrun_finish(alloc: Global, service: &mut Handle, journal: &
     let content = replace(&mut *room, Content::Journal(Journal::empty(alloc)));
     match journal_of(alloc, content) {
         Ok(made) => put(room, made, journal),
-        Err(_) => NO_MEMORY,
+        Err(FinishError::Forgotten) => FORGOTTEN,
+        Err(FinishError::NoMemory) => NO_MEMORY,
     }
 }
 

@@ -1,6 +1,7 @@
 // The calls on stations and on sessions.
 ghost use Rattle.std.specs.Prelude.{◌≡◌, IsSome};
 ghost use Rattle.lt_live_c.specs.Taking.{HandleGoesOn, AtStation, AtSession};
+ghost use Rattle.lt_live_c.specs.Forgetting.{ForgetsStation};
 ghost use Rattle.lt_live_c.specs.Calls.{TurnsStation, Submits, Polls, left_at, client_in, home_in, command_numbered as the_command};
 
 use crate::boxes::take;
@@ -19,6 +20,20 @@ pub extern "C" fn lockrun_turn(alloc: Global, station: &mut Handle) -> u32
 {
     let mut inside = take(alloc, station);
     let code = calls::turn(&mut inside);
+    *station = Handle::of(inside);
+    code
+}
+
+/// Lets a station forget the moves that it made and the commands that were appended, but for those still to be made.
+/// Without memory what was forgotten until then stays so.
+#[unsafe(no_mangle)]
+pub extern "C" fn lockrun_forget(alloc: Global, station: &mut Handle) -> u32
+    requires { IsSome station.old.value }
+    ensures some { IsSome station.new.value }
+    ensures forgets { AtStation result (ForgetsStation result) station.old.value station.new.value }
+{
+    let mut inside = take(alloc, station);
+    let code = calls::forget(&mut inside, alloc);
     *station = Handle::of(inside);
     code
 }

@@ -1,13 +1,14 @@
 // What the calls on services do with what a handle stands for.
 ghost use Rattle.std.specs.Prelude.{◌≡◌, true, IfOk, IfErr, OnOk};
+ghost use Rattle.lt_live.specs.declared.finishing.FinishError.TheVariants as errors;
 ghost use Rattle.lt_live_c.specs.Taking.{IsWholeService, stands_for_service, TakesStation, TakesSession, StationRefused, SessionRefused, GivesTheOther, GiveRefused, GivesTo, GiveRefusedBy};
-ghost use Rattle.lt_live_c.specs.Journals.{JournalIsOf};
+ghost use Rattle.lt_live_c.specs.Journals.{JournalIsOf, ServiceForgot};
 
 use crate::code::{NO_MEMORY, NOTHING, WRONG_HANDLE};
 use crate::content::Content;
 use crate::service::Service;
-use lt_live::{Session, Station};
-use std::alloc::{AllocError, Global};
+use lt_live::{FinishError, Session, Station};
+use std::alloc::Global;
 
 /// Takes the next station of the service, or tells why there is none.
 pub fn next_station(content: &mut Content) -> Result<Station, u32>
@@ -72,10 +73,11 @@ pub fn stands_for_service(content: &Content) -> bool
 }
 
 /// The journal of the service's run.
-pub fn journal_of(alloc: Global, content: Content) -> Result<Content, AllocError>
+pub fn journal_of(alloc: Global, content: Content) -> Result<Content, FinishError>
     requires service { stands_for_service content ≡ true }
     requires whole { IsWholeService content }
-    ensures { IfOk result (λ journal. JournalIsOf content journal) }
+    ensures journal { IfOk result (λ journal. JournalIsOf content journal) }
+    ensures forgotten { IfErr result (λ error. error ≡ errors.Forgotten → ServiceForgot content) }
 {
     match content {
         Content::Service(service) => Ok(Content::Journal(service.finish(alloc)?)),

@@ -1,4 +1,5 @@
 use Rattle.lt_live_c.proofs.ToldOpened.{call_codes_are, reply_numbers_are, mode_numbers_are, command_numbers_are, turns_told, submits_told, polls_told}
+use Rattle.lt_live_c.proofs.ForgettingOpened.{forgets_told}
 use Rattle.lt_live_c.proofs.KindsOpened.{kinds_told, asks_told}
 use Rattle.lt_live_c.proofs.TakingOpened.{takes_told, gives_told}
 use Rattle.lt_live_c.proofs.ServicesOpened.{opens_told, finishes_told, copies_told}
@@ -12,6 +13,7 @@ returns c = record {
   modes = mode_numbers_are;
   commands = command_numbers_are;
   turns = turns_told;
+  forgets = forgets_told;
   submits = submits_told;
   polls = polls_told;
   kinds = kinds_told;
