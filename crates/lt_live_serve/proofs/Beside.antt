@@ -14,7 +14,7 @@ use Rattle.lt_threads.specs.Meeting.{InShares}
 use Rattle.lt_live.specs.declared.ends.Seat.{Seat}
 use Rattle.lt_live.specs.Stations.{may_ask, runner_of, StationData, IsSeatOf, IsOpen, IsNewSession, equal_share}
 use Rattle.lt_live.specs.Live.{IsSessionOf, AreLive}
-use Rattle.lt_live.specs.Words.{submitted, taken, known_commands, command_held}
+use Rattle.lt_live.specs.Words.{submitted, taken, known_commands, outbox_replies, command_held}
 use Rattle.lt_live.specs.declared.ends.Session.{Session}
 use Rattle.lt_live.proofs.TurnParts.{asks, has_targets, has_modes}
 use Rattle.lt_live.proofs.Settling.{opened_are_live}
@@ -23,6 +23,7 @@ use Rattle.lt_live_serve.specs.declared.callers.Caller.{Caller}
 use Rattle.lt_live_serve.specs.Completing.{AllSubmitted, session_of, left_of, appended_at, AreStationsKept, IsBeside, BesideTo, AreServing, share_or_one, CanCall, AreNew, IsNewCaller, AreNewCallers}
 use Rattle.lt_live_serve.proofs.Completed.{Within, no_more, none_apart, same_ask, middle}
 use Rattle.lt_live_serve.proofs.Told.{session_there}
+use Rattle.lt_live_serve.proofs.Outboxes.{first_waits}
 use Rattle.lt_live_serve.specs.declared.limits.TheConstants.{MOVES}
 use Rattle.lt_live_serve.specs.Serves.{AsksAll, IsFirstOver, is_over}
 
@@ -33,6 +34,7 @@ pub record Seen (script : ScriptData) (stations : List StationData) (client plac
   pub seat : Seat
   pub at : slice_get station.seats place ≡ Some seat
   pub client_is : seat.client ≡ client
+  pub waits : outbox_replies seat ≡ []
   pub took : taken seat ≡ commands_of station.runner.node.script client ++ command_held seat.hand
   pub rest : (commands_of station.runner.node.script client ++ command_held seat.hand) ++ known_commands seat ≡ commands_of script client
   pub asks : (command : Command) → seat.hand ≡ Some command → may_ask station.runner.node.script client command ≡ true
@@ -90,6 +92,7 @@ module _ (script : ScriptData) (stations : List StationData) (callers : List Cal
     seat = b.seat;
     at = b.at;
     client_is = client_same;
+    waits = serving.waits (home script client) b.station b.here c.session.place b.seat b.at;
     took = took_is;
     rest = rest_is;
     asks = asks_is;
@@ -212,20 +215,24 @@ can_call script sessions k s new inside here = (new k s (slice_get-get_or sessio
 
 -- so stations and callers are those of the script
 pub first_serving : (script bare : ScriptData) (stations : List StationData) (sessions : List Session) (callers : List Caller) (share : ℕ) → bare ≡ with_commands script []
-    → IsOpen bare MOVES share stations sessions → AreNewCallers script sessions callers → AreServing script stations callers
-first_serving script bare stations sessions callers share is opened made = record {
+    → IsOpen bare MOVES share stations sessions → AreNewCallers script sessions callers → AreStationsKept stations → AreServing script stations callers
+first_serving script bare stations sessions callers share is opened made kept = record {
   live = live;
   limits = opened.runners.limits;
+  have_all = opened.runners.have_all;
+  waits = first_waits bare MOVES share stations sessions before.runners opened kept;
   lists = λ client c e.
       let there : slice_get (map session_of callers) client ≡ Some c.session = slice_get-map session_of callers client ∙ ap (option_map session_of) e in
       made.lists client c e ∙ ap (commands_of script) (live.each client c.session there).client_is;
 }
   where
+    before : AreLive bare stations sessions
+    before = opened_are_live bare MOVES share stations sessions (ap (λ (s : ScriptData). s.commands) is) opened
+
     live : AreLive (with_commands script []) stations (map session_of callers)
     live =
         subst (λ (ss : List Session). AreLive (with_commands script []) stations ss) (sym made.sessions_are)
-        (subst (λ (s : ScriptData). AreLive s stations sessions) is
-        (opened_are_live bare MOVES share stations sessions (ap (λ (s : ScriptData). s.commands) is) opened))
+        (subst (λ (s : ScriptData). AreLive s stations sessions) is before)
 
 -- What a caller may still submit.
 

@@ -16,8 +16,9 @@ use Rattle.lt_spec.specs.declared.limits.TheConstants.{MAX_COMMANDS}
 use Rattle.lt_spec.specs.World.{Logged}
 use Rattle.lt_threads.proofs.Shares.{counted}
 use Rattle.lt_live.specs.declared.ends.Seat.{Seat}
+use Rattle.lt_live.specs.declared.reply.Reply.{Reply}
 use Rattle.lt_live.specs.Stations.{may_ask, may_append, SeatTurns, HandMayGo}
-use Rattle.lt_live.specs.Words.{taken, known_commands, command_held}
+use Rattle.lt_live.specs.Words.{taken, known_commands, outbox_replies, command_held}
 use Rattle.lt_live_serve.specs.Serves.{among}
 use Rattle.lt_live_serve.specs.Completing.{SameHand}
 
@@ -86,7 +87,7 @@ some_none x f = cc
 -- between two looks a turn took a command in, where there was one
 module _ (log : List Logged) (old new all : List Command) (x y z : Seat) (turn : SeatTurns log x y) (look : SameHand y z)
     (before : taken x ≡ old ++ command_held x.hand) (after : taken z ≡ new ++ command_held z.hand)
-    (rest : (old ++ command_held x.hand) ++ known_commands x ≡ all) (none : z.hand ≡ None) where
+    (rest : (old ++ command_held x.hand) ++ known_commands x ≡ all) (empty : outbox_replies x ≡ []) (none : z.hand ≡ None) where
   grown : new ≡ old ++ command_held turn.held.hand
   grown =
       sym (append-nil new)
@@ -106,7 +107,10 @@ module _ (log : List Logged) (old new all : List Command) (x y z : Seat) (turn :
       ∙ append-nil old
 
   by_first : (first : Option Command) → x.hand ≡ first → turn.held.hand ≡ None → all ≡ old
-  by_first None e held = none_left e (turn.takes.none e held)
+  by_first None e held = elim (turn.takes.none e held) [
+    | inl no_known ↦ none_left e no_known
+    | inr some ↦ let count = ap (λ (replies : List Reply). length replies) empty in absurd (omega (arith, some, count))
+  ]
   by_first (Some command) e held = absurd (some_none command (sym e ∙ sym (ap (λ (s : Seat). s.hand) (turn.takes.stays command e)) ∙ held))
 
   by_hand : (hand : Option Command) → turn.held.hand ≡ hand → (length old < length new) ⊎ (all ≡ old)

@@ -8,16 +8,20 @@ use Rattle.lt_live_serve.specs.declared.limits.TheConstants.{MOVES}
 use Rattle.lt_spec.specs.NodeMove.{with_commands}
 use Rattle.lt_mail.specs.Words.{Alike}
 use Rattle.lt_runner.specs.declared.parts.Parts.{Parts}
+use Rattle.lt_runner.specs.declared.turning.Turned.{Turned}
+use Rattle.lt_runner.specs.Kept.{HasAll}
+use Rattle.lt_threads.specs.Meeting.{HaveAll}
 use Rattle.lt_threads.specs.Pushes.{HasLimit}
 use Rattle.lt_live.specs.declared.ends.Session.{Session}
 use Rattle.lt_live.specs.Live.{GoesOn, StationGoesOn, EachStation, EachSession}
-use Rattle.lt_live.specs.Stations.{runner_of, StationData, StaySeated}
+use Rattle.lt_live.specs.Stations.{runner_of, StationData, StaySeated, StationTurns}
 use Rattle.lt_live.specs.Words.{SameSession}
-use Rattle.lt_live.proofs.SeatLists.{alike_self, alike_before, alike_join, alike_set, set_here, set_other}
-use Rattle.lt_live.proofs.Settling.{live_lasts, session_itself, station_itself, same_sessions}
+use Rattle.lt_live.proofs.SeatLists.{alike_self, alike_before, alike_join, alike_set, alike_weaker, set_here, set_other}
+use Rattle.lt_live.proofs.Settling.{live_lasts, session_itself, station_itself, station_same, same_sessions, turn_has_all}
 use Rattle.lt_live.proofs.LiveShares.{goes_join}
 use Rattle.lt_live_serve.specs.declared.callers.Caller.{Caller}
-use Rattle.lt_live_serve.specs.Completing.{Calls, EachCaller, AllSubmitted, session_of, left_of, all_left, AreServing}
+use Rattle.lt_live_serve.specs.Completing.{Calls, EachCaller, AllSubmitted, session_of, left_of, all_left, NoReplyWaits, ServesOn, AreServing}
+use Rattle.lt_live_serve.proofs.Outboxes.{waits_turned}
 
 -- what is mapped to what stands at this place
 pub mapped_at : {X Y : Type 0} (f : X → Y) (xs : List X) (k : ℕ) (y : Y) → slice_get (map f xs) k ≡ Some y → (x : X) × (slice_get xs k ≡ Some x) × (f x ≡ y)
@@ -27,14 +31,40 @@ mapped_at f (x ∷ xs) (suc k) y e = mapped_at f xs k y e
 
 -- going on, one step after the other
 
-pub station_join : (a b c : StationData) → StationGoesOn a b → StationGoesOn b c → StationGoesOn a c
+station_join : (a b c : StationData) → StationGoesOn a b → StationGoesOn b c → StationGoesOn a c
 station_join a b c first second = record {
   runner = goes_join a.runner b.runner c.runner first.runner second.runner;
   seated = λ s seated. second.seated s (first.seated s seated);
 }
 
-pub station_turned : (a b c : StationData) → StationGoesOn a b → GoesOn b.runner c.runner → StaySeated b.seats c.seats → StationGoesOn a c
-station_turned a b c first goes seated = station_join a b c first (record { runner = goes; seated = seated })
+pub serves_itself : (a : StationData) → ServesOn a a
+serves_itself a = record { goes = station_itself a; has_all = λ had. had; waits = λ none. none }
+
+serves_join : (a b c : StationData) → ServesOn a b → ServesOn b c → ServesOn a c
+serves_join a b c first second = record {
+  goes = station_join a b c first.goes second.goes;
+  has_all = λ had. second.has_all (first.has_all had);
+  waits = λ none. second.waits (first.waits none);
+}
+
+pub serves_turned : (turned : Turned) (a b : StationData) → StationTurns turned a.runner a.seats b.runner b.seats → StationGoesOn a b → ServesOn a b
+serves_turned turned a b turns goes = record {
+  goes = goes;
+  has_all = turn_has_all turned a.runner a.seats b.runner b.seats turns;
+  waits = waits_turned b.runner.log.entries a.seats b.seats turns.each;
+}
+
+-- a station whose runner stays
+pub serves_same : (a b : StationData) → b.runner ≡ a.runner → StaySeated a.seats b.seats → (NoReplyWaits a.seats → NoReplyWaits b.seats) → ServesOn a b
+serves_same a b same stay waits = record {
+  goes = station_same a b same stay;
+  has_all = λ had. subst HasAll (sym same) had;
+  waits = waits;
+}
+
+pub station_turned : (turned : Turned) (a b c : StationData) → ServesOn a b → StationTurns turned b.runner b.seats c.runner c.seats → GoesOn b.runner c.runner
+    → StaySeated b.seats c.seats → ServesOn a c
+station_turned turned a b c first turns goes seated = serves_join a b c first (serves_turned turned b c turns (record { runner = goes; seated = seated }))
 
 pub calls_itself : (c : Caller) → Calls c c
 calls_itself c = record { session = session_itself c.session; commands = refl; left = omega arith }
@@ -68,26 +98,40 @@ limits_last stations later goes h k p e =
     let old : slice_get (map runner_of stations) k ≡ Some x.runner = slice_get-map runner_of stations k ∙ ap (option_map runner_of) here in
     sym (ap (λ (r : Parts). r.limit) is) ∙ on.runner.limit ∙ h k x.runner old
 
+all_last : (stations later : List StationData) → EachStation ServesOn stations later → HaveAll (map runner_of stations) → HaveAll (map runner_of later)
+all_last stations later serves all k p e =
+    let (y, there, is) = mapped_at runner_of later k p e in
+    let (x, here, on) = alike_before ServesOn stations later serves k y there in
+    let old : slice_get (map runner_of stations) k ≡ Some x.runner = slice_get-map runner_of stations k ∙ ap (option_map runner_of) here in
+    subst HasAll is (on.has_all (all k x.runner old))
+
 -- what stations and callers do
 pub serving_lasts : (script : ScriptData) (stations later : List StationData) (callers after : List Caller) → AreServing script stations callers
-    → EachStation StationGoesOn stations later → EachCaller Calls callers after → AreServing script later after
-serving_lasts script stations later callers after h goes calls = record {
+    → EachStation ServesOn stations later → EachCaller Calls callers after → AreServing script later after
+serving_lasts script stations later callers after h serves calls = record {
   live = live_lasts (with_commands script []) stations later (map session_of callers) (map session_of after) h.live goes (sessions_same callers after calls);
   limits = limits_last stations later goes h.limits;
+  have_all = all_last stations later serves h.have_all;
+  waits = λ q y there.
+      let (x, here, on) = alike_before ServesOn stations later serves q y there in
+      on.waits (h.waits q x here);
   lists = λ client c e.
       let (d, here, calls_at) = alike_before Calls callers after calls client c e in
       calls_at.commands ∙ h.lists client d here;
 }
+  where
+    goes : EachStation StationGoesOn stations later
+    goes = alike_weaker ServesOn StationGoesOn (λ x y on. on.goes) stations later serves
 
-pub same_stations : (stations : List StationData) → EachStation StationGoesOn stations stations
-same_stations stations = alike_self StationGoesOn station_itself stations
+pub same_stations : (stations : List StationData) → EachStation ServesOn stations stations
+same_stations stations = alike_self ServesOn serves_itself stations
 
 pub same_callers : (callers : List Caller) → EachCaller Calls callers callers
 same_callers callers = alike_self Calls calls_itself callers
 
-pub stations_join : (stations mid later : List StationData) → EachStation StationGoesOn stations mid → EachStation StationGoesOn mid later
-    → EachStation StationGoesOn stations later
-stations_join stations mid later first second = alike_join StationGoesOn station_join stations mid later first second
+pub stations_join : (stations mid later : List StationData) → EachStation ServesOn stations mid → EachStation ServesOn mid later
+    → EachStation ServesOn stations later
+stations_join stations mid later first second = alike_join ServesOn serves_join stations mid later first second
 
 pub callers_join : (callers mid after : List Caller) → EachCaller Calls callers mid → EachCaller Calls mid after → EachCaller Calls callers after
 callers_join callers mid after first second = alike_join Calls calls_join callers mid after first second

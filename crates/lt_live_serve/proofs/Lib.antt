@@ -2,6 +2,7 @@ pub mod Completed
 pub mod Told
 pub mod Answering
 pub mod Beside
+pub mod Outboxes
 pub mod Lasting
 pub mod Parted
 pub mod Heard

@@ -8,13 +8,12 @@ use Rattle.lt_spec.specs.World.{Logged}
 use Rattle.lt_mail.specs.Words.{Alike}
 use Rattle.lt_live.specs.declared.ends.Seat.{Seat}
 use Rattle.lt_live.specs.declared.ends.Session.{Session}
-use Rattle.lt_live.specs.Live.{StationGoesOn}
 use Rattle.lt_live.specs.Stations.{StationData, IsSeated, StaySeated, SeatLooks, EachSeat}
 use Rattle.lt_live.proofs.SeatLists.{alike_self, alike_set, alike_join, set_here, set_other}
-use Rattle.lt_live.proofs.Settling.{station_itself, station_same}
 use Rattle.lt_live_serve.specs.declared.callers.Caller.{Caller}
-use Rattle.lt_live_serve.specs.Completing.{Calls, IsBeside, SameHand, OnlyLooks, CallersLook, CallerLooks, AreServing}
-use Rattle.lt_live_serve.proofs.Lasting.{serving_lasts, calls_itself, calls_join}
+use Rattle.lt_live_serve.specs.Completing.{Calls, IsBeside, SameHand, OnlyLooks, CallersLook, CallerLooks, ServesOn, AreServing}
+use Rattle.lt_live_serve.proofs.Lasting.{serving_lasts, serves_itself, serves_same, calls_itself, calls_join}
+use Rattle.lt_live_serve.proofs.Outboxes.{waits_looked}
 use Rattle.lt_live_serve.proofs.Told.{session_there}
 
 same_hand : (s : Seat) → SameHand s s
@@ -103,7 +102,8 @@ module _ (script : ScriptData) (client place : ℕ) (stations : List StationData
   pub looks_at : CallerLooks script client stations callers (slice_set stations place y) (slice_set callers client d)
   looks_at = record {
     serving = serving_lasts script stations (slice_set stations place y) callers (slice_set callers client d) h
-        (alike_set StationGoesOn station_itself stations place x y station (station_same x y runner stay))
+        (alike_set ServesOn serves_itself stations place x y station
+        (serves_same x y runner stay (waits_looked x.runner.log.entries c.session d.session x.seats y.seats looks)))
         (alike_set Calls calls_itself callers client c d here calls);
     looks = alike_set OnlyLooks only_itself stations place x y station only;
     calls = alike_set Calls calls_itself callers client c d here calls;

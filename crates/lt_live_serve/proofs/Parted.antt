@@ -13,13 +13,13 @@ use Rattle.lt_threads.specs.Pushes.{MovedOn}
 use Rattle.lt_threads.specs.Meeting.{EachIs, IsCrew, AreShares}
 use Rattle.lt_threads.proofs.Each.{each_before, each_len}
 use Rattle.lt_live.specs.declared.ends.Seat.{Seat}
-use Rattle.lt_live.specs.Live.{GoesOn, StationGoesOn, EachStation}
+use Rattle.lt_live.specs.Live.{GoesOn, EachStation}
 use Rattle.lt_live.specs.Stations.{runner_of, StationData, IsStation, IsSeated}
 use Rattle.lt_live.proofs.KeptStations.{station_grew}
 use Rattle.lt_live_serve.specs.declared.benches.Bench.{Bench}
 use Rattle.lt_live_serve.specs.declared.callers.Caller.{Caller}
 use Rattle.lt_live_serve.specs.Apart.{seats_of, seats_on, AreParts, GoTogether}
-use Rattle.lt_live_serve.specs.Completing.{AreStationsKept, AreServing, AreComplete}
+use Rattle.lt_live_serve.specs.Completing.{AreStationsKept, NoReplyWaits, ServesOn, AreServing, AreComplete}
 use Rattle.lt_live_serve.proofs.Lasting.{mapped_at, serving_lasts, same_callers}
 
 -- the runners are a crew of the script, once each client's commands were appended at its node
@@ -162,7 +162,7 @@ goes_grown a b grew =
 
 module _ (stations later : List StationData) (runners moved : List Parts) (benches : List Bench) (parts : AreParts stations runners benches)
     (again : AreParts later moved benches) (grew : EachIs Grew runners moved) where
-  pub stations_grown : EachStation StationGoesOn stations later
+  pub stations_grown : EachStation ServesOn stations later
   stations_grown k = by_two (slice_get stations k) (slice_get later k) refl refl runner seats
     where
       runner : Alike Grew (option_map runner_of (slice_get stations k)) (option_map runner_of (slice_get later k))
@@ -179,13 +179,17 @@ module _ (stations later : List StationData) (runners moved : List Parts) (bench
           ∙ slice_get-map seats_of stations k
 
       by_two : (x y : Option StationData) → slice_get stations k ≡ x → slice_get later k ≡ y → Alike Grew (option_map runner_of x) (option_map runner_of y)
-          → option_map seats_of y ≡ option_map seats_of x → Alike StationGoesOn x y
+          → option_map seats_of y ≡ option_map seats_of x → Alike ServesOn x y
       by_two None None e f g same = tt
       by_two None (Some y) e f g same = g
       by_two (Some x) None e f g same = g
       by_two (Some x) (Some y) e f g same = record {
-        runner = goes_grown x.runner y.runner g;
-        seated = λ s seated. subst (λ (list : List Seat). IsSeated s list) (sym (same_Some y.seats x.seats same)) seated;
+        goes = record {
+          runner = goes_grown x.runner y.runner g;
+          seated = λ s seated. subst (λ (list : List Seat). IsSeated s list) (sym (same_Some y.seats x.seats same)) seated;
+        };
+        has_all = λ had. (g.same.gone ∙ had.0, g.same.commands_gone ∙ had.1);
+        waits = λ none. subst NoReplyWaits (sym (same_Some y.seats x.seats same)) none;
       }
 
   pub serving_moved : (script : ScriptData) (callers : List Caller) → AreServing script stations callers → AreServing script later callers

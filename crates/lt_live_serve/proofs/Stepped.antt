@@ -11,13 +11,13 @@ use Rattle.lt_spec.specs.NodeMove.{command_if, commands_of, home}
 use Rattle.lt_runner.specs.declared.parts.Parts.{Parts}
 use Rattle.lt_live.specs.declared.ends.Seat.{Seat}
 use Rattle.lt_live.specs.Stations.{may_append, StationData, SeatTurns}
-use Rattle.lt_live.specs.Live.{StationGoesOn, EachStation}
+use Rattle.lt_live.specs.Live.{EachStation}
 use Rattle.lt_live.specs.Words.{known_commands}
 use Rattle.lt_live.proofs.SeatLists.{alike_before, alike_after, alike_join, alike_weaker, each_after}
 use Rattle.lt_live_serve.specs.declared.callers.Caller.{Caller}
-use Rattle.lt_live_serve.specs.Completing.{Calls, EachCaller, AllSubmitted, appended_at, lack_at, all_lack, AreStationsKept, SameHand, OnlyLooks, CallersLook, Turns, AnyTurns, SameCount, AllTurn, AreServing, AreComplete}
+use Rattle.lt_live_serve.specs.Completing.{Calls, EachCaller, AllSubmitted, appended_at, lack_at, all_lack, AreStationsKept, SameHand, OnlyLooks, CallersLook, Turns, AnyTurns, SameCount, AllTurn, ServesOn, AreServing, AreComplete}
 use Rattle.lt_live_serve.proofs.Completed.{Within, advances, no_hand, none_outside}
-use Rattle.lt_live_serve.proofs.Lasting.{serving_lasts, same_callers}
+use Rattle.lt_live_serve.proofs.Lasting.{serving_lasts, serves_turned, same_callers}
 use Rattle.lt_live_serve.proofs.Turned.{more_commands, more_appended, falls}
 use Rattle.lt_live_serve.proofs.Beside.{Seen, AllBeside, count, seen_at, within, same_clients, no_more_at}
 
@@ -31,7 +31,8 @@ submitted_on callers after calls all k c e =
 pub serving_turned : (script : ScriptData) (more : Bool) (a b : List StationData) (callers : List Caller) → AreServing script a callers → AllTurn more a b
     → AreServing script b callers
 serving_turned script more a b callers serving turn =
-    serving_lasts script a b callers callers serving (alike_weaker AnyTurns StationGoesOn (λ x y t. t.1.goes) a b turn.each) (same_callers callers)
+    serving_lasts script a b callers callers serving
+    (alike_weaker AnyTurns ServesOn (λ x y t. serves_turned t.1.turned x y t.1.turns t.1.goes) a b turn.each) (same_callers callers)
 
 -- one client, whose station turned between two looks
 module _ (script : ScriptData) (a c : List StationData) (k p q : ℕ) (s : Seen script a k p) (t : Seen script c k q) (some : Bool) (y : StationData) (seat : Seat)
@@ -49,7 +50,7 @@ module _ (script : ScriptData) (a c : List StationData) (k p q : ℕ) (s : Seen 
       ⊎ (commands_of script k ≡ commands_of s.station.runner.node.script k)
   moved =
       advances y.runner.log.entries (commands_of s.station.runner.node.script k) (commands_of t.station.runner.node.script k) (commands_of script k)
-      s.seat seat t.seat one look s.took t.took s.rest
+      s.seat seat t.seat one look s.took t.took s.rest s.waits
       (no_hand script t.station.runner.node.script is_script is_own same fits k t.seat.hand (known_commands t.seat) below t.rest t.asks can_not)
 
 -- the client's station before and after: it has appended more of the client's commands, or had all

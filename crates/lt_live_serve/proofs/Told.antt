@@ -14,17 +14,17 @@ use Rattle.lt_runner.specs.declared.parts.Parts.{Parts}
 use Rattle.lt_live.specs.declared.ends.Seat.{Seat}
 use Rattle.lt_live.specs.declared.ends.Session.{Session}
 use Rattle.lt_live.specs.declared.reply.Reply.{Reply}
-use Rattle.lt_live.specs.Seats.{lines_up_to, lines_at, replies_in}
-use Rattle.lt_live.specs.Live.{ServedBy, StationGoesOn}
+use Rattle.lt_live.specs.Seats.{lines_up_to, lines_at, replies_in, HasToldAll}
+use Rattle.lt_live.specs.Live.{ServedBy}
 use Rattle.lt_live.specs.Stations.{runner_of, StationData, IsStation, IsSeated, SeatLooks}
 use Rattle.lt_live.specs.Words.{polled, known_replies, told_to}
 use Rattle.lt_live.proofs.SeatLists.{alike_set, set_here, set_other}
 use Rattle.lt_live.proofs.Finished.{first_few}
-use Rattle.lt_live.proofs.Settling.{station_itself, station_same, home_found, home_inside, station_found, seated_there}
+use Rattle.lt_live.proofs.Settling.{home_found, home_inside, station_found, seated_there}
 use Rattle.lt_live_serve.specs.Serves.{is_over, NoneIsOver}
 use Rattle.lt_live_serve.specs.declared.callers.Caller.{Caller}
-use Rattle.lt_live_serve.specs.Completing.{Calls, session_of, AreServing, HasHeardAll, HaveHeard, Hears, TellsAt, marked, marked_by, heard_at}
-use Rattle.lt_live_serve.proofs.Lasting.{serving_lasts, calls_itself, calls_join}
+use Rattle.lt_live_serve.specs.Completing.{Calls, session_of, ServesOn, AreServing, HasHeardAll, HaveHeard, Hears, TellsAt, marked, marked_by, heard_at}
+use Rattle.lt_live_serve.proofs.Lasting.{serving_lasts, serves_itself, serves_same, calls_itself, calls_join}
 
 pub next_over : (script : ScriptData) (n : ℕ) → NoneIsOver script n → is_over script n ≡ false → NoneIsOver script (n + 1)
 next_over script n before here k below = elim (cases_eq k n) [
@@ -68,14 +68,20 @@ heard_all p s t old new station seated h none =
     client : h.x.client ≡ s.client
     client = ap (λ (z : Seat). z.client) (same_Some h.x seated.seat (sym h.before ∙ seated.here)) ∙ seated.link.0
 
-    told : told_to h.y ≡ replies_in h.x.client (lines_up_to p.log.entries h.y.moves h.y.lines)
-    told = h.looks.told (station.each s.place h.x h.before).kept.told
-
-    moves : h.y.moves ≡ length p.log.entries
-    moves = elim h.moves [
+    has_told : HasToldAll p.log.entries h.y
+    has_told = elim h.moves [
       | inl e ↦ e
       | inr some ↦ absurd (omega (arith, some, ap (λ (replies : List Reply). length replies) none))
     ]
+
+    told : told_to h.y ≡ replies_in h.x.client (lines_up_to p.log.entries h.y.moves h.y.lines)
+    told =
+        sym (append-nil (told_to h.y))
+        ∙ ap (λ (replies : List Reply). told_to h.y ++ replies) (sym has_told.0)
+        ∙ h.looks.due (station.each s.place h.x h.before).kept.due
+
+    moves : h.y.moves ≡ length p.log.entries
+    moves = has_told.1
 
 -- what a caller polled are first replies of its client
 pub heard_few : (p : Parts) (client : ℕ) (c : Caller) → ServedBy p client c.session → length c.heard.items ≤ length (replies_in client (lines_of p.log.entries))
@@ -89,12 +95,13 @@ heard_few p client c served =
 -- what a caller and its station do
 
 pub hears_itself : (a : StationData) (c : Caller) → IsSeated c.session a.seats → Hears a c a c
-hears_itself a c seated = record { runner = refl; stay = λ s h. h; seated = seated; calls = calls_itself c }
+hears_itself a c seated = record { runner = refl; stay = λ s h. h; waits = λ none. none; seated = seated; calls = calls_itself c }
 
 pub hears_join : (a b d : StationData) (c e f : Caller) → Hears a c b e → Hears b e d f → Hears a c d f
 hears_join a b d c e f first second = record {
   runner = second.runner ∙ first.runner;
   stay = λ s h. second.stay s (first.stay s h);
+  waits = λ none. second.waits (first.waits none);
   seated = second.seated;
   calls = calls_join c e f first.calls second.calls;
 }
@@ -149,7 +156,7 @@ module _ (script : ScriptData) (client place : ℕ) (stations : List StationData
   pub tells_at : TellsAt script client stations callers (slice_set stations place y) (slice_set callers client d)
   tells_at = record {
     serving = serving_lasts script stations (slice_set stations place y) callers (slice_set callers client d) h
-        (alike_set StationGoesOn station_itself stations place x y station (station_same x y hears.runner hears.stay))
+        (alike_set ServesOn serves_itself stations place x y station (serves_same x y hears.runner hears.stay hears.waits))
         (alike_set Calls calls_itself callers client c d here hears.calls);
     runners = same_runners;
     others = λ k apart. set_other callers client d k apart;

@@ -8,9 +8,11 @@ use Rattle.lt_mail.specs.Words.{Alike}
 use Rattle.lt_runner.specs.declared.parts.Parts.{Parts}
 use Rattle.lt_runner.specs.declared.turning.Turned.{Turned}
 use Rattle.lt_runner.specs.declared.turning.Turned.TheVariants.{NoMemory}
+use Rattle.lt_runner.specs.Kept.{HasAll}
+use Rattle.lt_threads.specs.Meeting.{HaveAll}
 use Rattle.lt_threads.specs.Pushes.{HasLimit}
 use Rattle.lt_live.specs.declared.ends.Session.{Session}
-use Rattle.lt_live.specs.Words.{SameSession, taken, IsLink}
+use Rattle.lt_live.specs.Words.{SameSession, taken, outbox_replies, IsLink}
 use Rattle.lt_live.specs.Live.{AreLive, StationGoesOn, EachStation}
 use Rattle.lt_live.specs.Stations.{runner_of, StationData, IsNewSession, equal_share, IsSeated, StaySeated, IsStation, StationTurns, EachSeat}
 use Rattle.lt_live.specs.Seats.{replies_in, KnowAll}
@@ -45,11 +47,24 @@ AllSubmitted callers = (k : ℕ) (c : Caller) → slice_get callers k ≡ Some c
 
 -- Stations and callers of a script that was read.
 
--- the stations of all nodes and the callers of all clients, in order; each has the client's commands of the script, which no station
--- had at first
+-- no reply waits at any of these seats for a place in its ring
+abbrev pub NoReplyWaits : List Seat → Type 0
+NoReplyWaits seats = (k : ℕ) (seat : Seat) → slice_get seats k ≡ Some seat → outbox_replies seat ≡ []
+
+-- the station of the same node, where all sessions keep their other ends; it has forgotten nothing if it had not before, and
+-- no reply waits if none did
+pub record ServesOn (a b : StationData) : Type 0 where
+  pub goes : StationGoesOn a b
+  pub has_all : HasAll a.runner → HasAll b.runner
+  pub waits : NoReplyWaits a.seats → NoReplyWaits b.seats
+
+-- the stations of all nodes and the callers of all clients, in order; each caller has the client's commands of the script,
+-- which no station had at first; no station has forgotten moves or commands, and at none a reply waits
 pub record AreServing (script : ScriptData) (stations : List StationData) (callers : List Caller) : Type 0 where
   pub live : AreLive (with_commands script []) stations (map session_of callers)
   pub limits : HasLimit MOVES (map runner_of stations)
+  pub have_all : HaveAll (map runner_of stations)
+  pub waits : (q : ℕ) (station : StationData) → slice_get stations q ≡ Some station → NoReplyWaits station.seats
   pub lists : (client : ℕ) (c : Caller) → slice_get callers client ≡ Some c → c.commands.items ≡ commands_of script client
 
 -- the station of the client's node has appended all commands of the client
@@ -101,6 +116,7 @@ pub record AreNewCallers (script : ScriptData) (sessions : List Session) (caller
 pub record Hears (a : StationData) (c : Caller) (b : StationData) (d : Caller) : Type 0 where
   pub runner : b.runner ≡ a.runner
   pub stay : StaySeated a.seats b.seats
+  pub waits : NoReplyWaits a.seats → NoReplyWaits b.seats
   pub seated : IsSeated d.session b.seats
   pub calls : Calls c d
 

@@ -95,7 +95,7 @@ fn is_kept(station: &Station)
     ensures { IsKept station.now }
 {
     station.kept();
-    station.script().nodes();
+    station.commands();
 }
 
 // Each station makes a turn; true where one of them has appended a command.
@@ -122,9 +122,9 @@ fn turn_at<G: Gate>(stations: &mut Vec<Station>, place: usize, gate: &G) -> Resu
 fn turn<G: Gate>(station: &mut Station, gate: &G) -> Result<bool, AllocError>
     ensures { IfOk result (λ more. Turns more station.old station.new) }
 {
-    let before = station.script().commands();
+    let before = station.commands();
     if let Turned::NoMemory = station.turn(gate) {
         return Err(AllocError);
     }
-    Ok(station.script().commands() > before)
+    Ok(station.commands() > before)
 }

@@ -1,6 +1,6 @@
 // The first round, in which each client has a command for its station.
-ghost use Rattle.lt_live.specs.Live.{StationGoesOn, EachStation};
-ghost use Rattle.lt_live_serve.specs.Completing.{Calls, EachCaller};
+ghost use Rattle.lt_live.specs.Live.{EachStation};
+ghost use Rattle.lt_live_serve.specs.Completing.{Calls, EachCaller, ServesOn};
 
 use crate::callers::Caller;
 use crate::rounds::round;
@@ -16,7 +16,7 @@ pub(crate) fn first_round<R: Threads + Sync, G: Gate>(
     callers: &mut Vec<Caller>,
     gate: &G,
 )
-    ensures stations { EachStation StationGoesOn stations.old.items stations.new.items }
+    ensures stations { EachStation ServesOn stations.old.items stations.new.items }
     ensures callers { EachCaller Calls callers.old.items callers.new.items }
 {
     submit_first(callers);

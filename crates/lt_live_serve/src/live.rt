@@ -2,7 +2,7 @@
 ghost use Rattle.std.specs.Prelude.{◌≢◌, ℕ, None, map, IfOk};
 ghost use Rattle.lt_spec.specs.Script.{IsScript};
 ghost use Rattle.lt_live.specs.Stations.{runner_of};
-ghost use Rattle.lt_threads.specs.Meeting.{IsCrew};
+ghost use Rattle.lt_threads.specs.Meeting.{IsCrew, AreCrewLogs, HaveAll};
 ghost use Rattle.lt_live_serve.specs.Apart.{IsRunOf};
 ghost use Rattle.lt_live_serve.specs.Serves.{IsFirstOver, LiveRun};
 
@@ -17,11 +17,11 @@ use lt_law_merged::law_can_move;
 use lt_law_ordered::law_ordered;
 use lt_law_promises::law_promised;
 use lt_live::{Reply, Station, take_runners};
-use lt_merge::{Run, merge};
-use lt_runner::Gate;
+use lt_merge::{Log, Run, merge};
+use lt_runner::{Gate, Runner};
 use lt_script::Script;
 use lt_spec::Ending;
-use lt_threads::finish;
+use lt_threads::{JoinError, finish};
 use std::alloc::{AllocError, Global};
 use std::thread::Threads;
 
@@ -82,10 +82,25 @@ fn ended_run<R: Threads + Sync, G: Gate>(
 
 // The moves of all nodes.
 fn run_of(alloc: Global, script: &Script, stations: Vec<Station>) -> Result<Run, AllocError>
-    requires { IsCrew script.now (map runner_of stations.items) }
+    requires crew { IsCrew script.now (map runner_of stations.items) }
+    requires all { HaveAll (map runner_of stations.items) }
     ensures { IfOk result (λ run. IsRunOf script.now (map runner_of stations.items) run.entries) }
 {
     let runners = Vec::with_capacity(alloc, stations.len())?;
-    let logs = finish(alloc, script, take_runners(stations, runners))?;
+    let logs = logs_of(alloc, script, take_runners(stations, runners))?;
     merge(alloc, logs)
+}
+
+// The logs of runners that have forgotten nothing.
+fn logs_of(alloc: Global, script: &Script, runners: Vec<Runner>) -> Result<Vec<Log>, AllocError>
+    requires crew { IsCrew script.now runners.items }
+    requires all { HaveAll runners.items }
+    ensures { IfOk result (λ logs. AreCrewLogs script.now runners.items logs.items) }
+{
+    match finish(alloc, script, runners) {
+        Ok(logs) => Ok(logs),
+        Err(JoinError::NoMemory) => Err(AllocError),
+        Err(JoinError::Forgotten) => unreachable!(),
+        Err(JoinError::TooMany) => unreachable!(),
+    }
 }

@@ -7,6 +7,7 @@ ghost use Rattle.lt_live_serve.specs.Serves.{among, IsFirstOver};
 ghost use Rattle.lt_live_serve.specs.Completing.{share_or_one, IsNewCaller, CanCall, AreNew, AreNewCallers, AreServing};
 
 use crate::callers::Caller;
+use crate::completing::are_kept;
 use crate::limits::MOVES;
 use lt_live::{Session, Station, open};
 use lt_modes::Command;
@@ -25,6 +26,7 @@ pub(crate) fn begin(
 {
     let bare = script.without_commands(alloc)?;
     let (stations, sessions) = open(alloc, &bare, MOVES, share_of(script))?;
+    are_kept(&stations);
     let callers = callers_of(alloc, script, sessions)?;
     Ok((stations, callers))
 }

@@ -1,7 +1,7 @@
 // Rounds, in which stations and callers are at work beside each other.
 ghost use Rattle.std.specs.Prelude.{◌≡◌, ◌≤◌, ◌<◌, true, false};
-ghost use Rattle.lt_live.specs.Live.{StationGoesOn, EachStation};
-ghost use Rattle.lt_live_serve.specs.Completing.{Calls, EachCaller, AllSubmitted, all_left};
+ghost use Rattle.lt_live.specs.Live.{EachStation};
+ghost use Rattle.lt_live_serve.specs.Completing.{Calls, EachCaller, AllSubmitted, ServesOn, all_left};
 
 use crate::callers::Caller;
 use crate::limits::{TRIES, WORKERS};
@@ -17,7 +17,7 @@ pub(crate) fn rounds<R: Threads + Sync, G: Gate>(
     callers: &mut Vec<Caller>,
     gate: &G,
 )
-    ensures stations { EachStation StationGoesOn stations.old.items stations.new.items }
+    ensures stations { EachStation ServesOn stations.old.items stations.new.items }
     ensures callers { EachCaller Calls callers.old.items callers.new.items }
     ensures submitted { AllSubmitted callers.new.items }
 {
@@ -30,7 +30,7 @@ fn rounds_of<R: Threads + Sync, G: Gate>(
     callers: &mut [Caller],
     gate: &G,
 )
-    ensures stations { EachStation StationGoesOn stations.old stations.new }
+    ensures stations { EachStation ServesOn stations.old stations.new }
     ensures callers { EachCaller Calls callers.old callers.new }
     ensures submitted { AllSubmitted callers.new }
 {
@@ -60,13 +60,13 @@ pub(crate) fn round<R: Threads + Sync, G: Gate>(
     callers: &mut [Caller],
     gate: &G,
 )
-    ensures stations { EachStation StationGoesOn stations.old stations.new }
+    ensures stations { EachStation ServesOn stations.old stations.new }
     ensures callers { EachCaller Calls callers.old callers.new }
 {
     join_mut(
         rt,
         &mut ||
-            ensures { EachStation StationGoesOn stations.entry.now stations.exit.now }
+            ensures { EachStation ServesOn stations.entry.now stations.exit.now }
         { turn_all(rt, stations, gate) },
         &mut ||
             ensures { EachCaller Calls callers.entry.now callers.exit.now }
@@ -88,22 +88,22 @@ fn call_all<R: Threads + Sync>(rt: &R, callers: &mut [Caller])
 }
 
 fn turn_all<R: Threads + Sync, G: Gate>(rt: &R, stations: &mut [Station], gate: &G)
-    ensures { EachStation StationGoesOn stations.old stations.new }
+    ensures { EachStation ServesOn stations.old stations.new }
 {
     for_each_mut(
         rt,
         stations,
         usize::from(WORKERS),
         &|_, station: &mut Station|
-            ensures { StationGoesOn station.old station.new }
+            ensures { ServesOn station.old station.new }
         { turn_often(station, gate) },
     );
 }
 
 // Makes turns, for a while.
-#[tactic(auto, using(lt_live::proofs::Settling::station_itself, crate::proofs::Lasting::station_turned))]
+#[tactic(auto, using(crate::proofs::Lasting::serves_itself, crate::proofs::Lasting::station_turned))]
 fn turn_often<G: Gate>(station: &mut Station, gate: &G)
-    ensures { StationGoesOn station.old station.new }
+    ensures { ServesOn station.old station.new }
 {
     for _ in 0..TRIES {
         station.turn(gate);

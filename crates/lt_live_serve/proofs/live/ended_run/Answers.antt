@@ -18,6 +18,9 @@ complete_all-requires-clause-serving g c κs within =
     c.first_round.ensures.stations c.first_round.ensures.callers)
     c.rounds.ensures.stations c.rounds.ensures.callers
 
+pub run_of-requires-clause-all : goal.run_of-requires-clause-all
+run_of-requires-clause-all g c = c.in_ok-tell_all.ensures.serving.have_all
+
 pub returns : goal.returns
 returns g c =
     let polled = c.in_ok-polled.polled.items in

@@ -1,8 +1,8 @@
-use Rattle.std.proofs.Common.{ℕ, subst}
+use Rattle.std.proofs.Common.{ℕ, List, subst}
 use Rattle.lt_modes.specs.Script.{ScriptData}
 use Rattle.lt_live_serve.specs.declared.limits.TheConstants.{MOVES}
-use Rattle.lt_live.specs.Stations.{IsOpen}
-use Rattle.lt_live_serve.specs.Completing.{share_or_one}
+use Rattle.lt_live.specs.Stations.{StationData, IsOpen}
+use Rattle.lt_live_serve.specs.Completing.{share_or_one, AreStationsKept}
 use Rattle.lt_live_serve.proofs.Beside.{are_new, first_serving}
 use Rattle.lt_live_serve.proofs.opening.begin.Goals as goal
 
@@ -17,3 +17,4 @@ pub returns : goal.returns
 returns c =
     first_serving c.args.script.now c.in_ok-bare.bare c.in_ok-stations.stations.items c.in_ok-stations.sessions.items c.in_ok-callers.callers.items c.share_of.result
     c.in_ok-bare.ensures c.in_ok-stations.ensures c.in_ok-callers.ensures
+    (subst (λ (stations : List StationData). AreStationsKept stations) c.deref.ensures.value c.are_kept.ensures)

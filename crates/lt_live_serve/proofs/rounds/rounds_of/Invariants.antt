@@ -1,11 +1,11 @@
 -- Stations and callers went on, and each round has fewer commands left.
-use Rattle.lt_live.specs.Live.{StationGoesOn, EachStation}
-use Rattle.lt_live_serve.specs.Completing.{Calls, EachCaller, all_left}
+use Rattle.lt_live.specs.Live.{EachStation}
+use Rattle.lt_live_serve.specs.Completing.{Calls, EachCaller, ServesOn, all_left}
 use Rattle.lt_live_serve.proofs.rounds.rounds_of.Given as goal
 
 abbrev pub invariant-loop-stations : goal.invariant-loop-stations
 invariant-loop-stations g l = record {
-  stations : EachStation StationGoesOn l.initial.stations l.stations;
+  stations : EachStation ServesOn l.initial.stations l.stations;
   callers : EachCaller Calls l.initial.callers l.callers;
 }
 

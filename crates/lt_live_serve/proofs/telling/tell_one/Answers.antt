@@ -3,6 +3,7 @@ use Rattle.std.proofs.Common.{sym, ◌∙◌}
 use Rattle.std.proofs.lemmas.Result.{IfOk-weaker}
 use Rattle.lt_live.proofs.Telling.{session_stays}
 use Rattle.lt_live.proofs.Settling.{same_sessions}
+use Rattle.lt_live_serve.proofs.Outboxes.{waits_looked}
 use Rattle.lt_live_serve.proofs.Told.{heard_all}
 use Rattle.lt_live_serve.proofs.telling.tell_one.Goals as goal
 
@@ -14,6 +15,11 @@ pub returns-clause-hears : goal.returns-clause-hears
 returns-clause-hears c = record {
   runner = c.beside-2.ensures.runner ∙ c.beside.ensures.runner;
   stay = λ s h. c.beside-2.ensures.stay s (c.beside.ensures.stay s h);
+  waits = λ none.
+      waits_looked c.beside.new.self.runner.log.entries c.hear-more.new.self.session c.beside-2.new.session c.beside.new.self.seats c.beside-2.new.self.seats
+      c.beside-2.ensures.looks
+      (waits_looked c.args.station.now.runner.log.entries c.args.caller.now.session c.beside.new.session c.args.station.now.seats c.beside.new.self.seats
+      c.beside.ensures.looks none);
   seated = c.beside-2.ensures.seated;
   calls = record {
     session = same_sessions c.args.caller.now.session c.beside.new.session c.beside-2.new.session c.beside.ensures.looks.looks.session
