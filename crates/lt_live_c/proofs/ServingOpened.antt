@@ -11,7 +11,7 @@ use Rattle.lt_live_c.specs.declared.content.Content.TheVariants as contents
 use Rattle.lt_live_c.specs.declared.service.Service.{Service}
 use Rattle.lt_live_c.specs.Serving.{ServedSoFar, HandleTellsServed, HandleNotTold, are_all}
 use Rattle.lt_live_c.specs.Told.{kind_of}
-use Rattle.lt_live_c.specs.ServicesTold.{OfService, HasThese, client_script, AfterServed, CountedAtTwo, NeverTold, ServedTold}
+use Rattle.lt_live_c.specs.ServicesTold.{OfService, HasThem, client_script, AfterServed, CountedAtTwo, NeverTold, ServedTold}
 use Rattle.lt_live_c.proofs.Countable.{live_has_all}
 
 -- the service went on so
@@ -56,7 +56,7 @@ counted Told follows x y stations s submits polls (Some (contents.Journal other)
 -- Where some are out.
 
 all_of : (submits polls : ℕ) (stations : List StationData) (sessions : List Session) (old new : Option Content)
-    → HasThese stations sessions old → HandleTellsServed submits polls old new
+    → HasThem stations sessions old → HandleTellsServed submits polls old new
     → are_all (slice_get stations 0) (length stations) (length sessions) ≡ true
 all_of submits polls stations sessions None new has h = absurd has
 all_of submits polls stations sessions (Some (contents.Service s)) None has h = absurd h

@@ -9,7 +9,7 @@ use Rattle.lt_live_c.specs.declared.content.Content.TheVariants as contents
 use Rattle.lt_live_c.specs.declared.service.Service.{Service}
 use Rattle.lt_live_c.specs.Taking.{HandleTakesStation, HandleTakesSession, TakesFirstStation, TakesFirstSession, HandleHasNoStation, HandleHasNoSession, HandleGives, GivesTo, HandleKeeps, SameService}
 use Rattle.lt_live_c.specs.Told.{kind_of}
-use Rattle.lt_live_c.specs.ServicesTold.{OfService, HasThese, AfterTakingStation, AfterTakingSession, TakesTold, AfterGiving, GivesTold}
+use Rattle.lt_live_c.specs.ServicesTold.{OfService, HasThem, AfterTakingStation, AfterTakingSession, TakesTold, AfterGiving, GivesTold}
 
 -- the handle stands for a service of which this is so
 of_service : (handle : Option Content) (Told : Service → Type 0) (Goal : Option Content → Type 0) → OfService handle Told
@@ -76,30 +76,30 @@ first_is {X = X} x y rest items got same =
     same_item x y (slice_get items 0) got (ap (λ (xs : List X). slice_get xs 0) same)
 
 first_station : (x y : StationData) (sessions : List Session)
-    → AfterTakingStation (x ∷ y ∷ []) sessions (λ taken new. (taken ≡ Some (contents.Station x)) × HasThese (y ∷ []) sessions new)
+    → AfterTakingStation (x ∷ y ∷ []) sessions (λ taken new. (taken ≡ Some (contents.Station x)) × HasThem (y ∷ []) sessions new)
 first_station x y sessions old new taken has =
     of_service old (Has (x ∷ y ∷ []) sessions)
-    (λ handle. HandleTakesStation taken handle new → (taken ≡ Some (contents.Station x)) × HasThese (y ∷ []) sessions new)
+    (λ handle. HandleTakesStation taken handle new → (taken ≡ Some (contents.Station x)) × HasThem (y ∷ []) sessions new)
     has
     (λ s same h.
     let took = station_taken s taken new h in (
       took.taken_is ∙ ap (λ (z : StationData). Some (contents.Station z)) (first_is x took.station (y ∷ []) s.stations.items took.takes.0 same.0),
-      subst (λ (handle : Option Content). HasThese (y ∷ []) sessions handle) (sym took.new_is) (
+      subst (λ (handle : Option Content). HasThem (y ∷ []) sessions handle) (sym took.new_is) (
         took.takes.1 ∙ ap (λ (xs : List StationData). drop 1 xs) same.0,
         ap (λ (v : Vec Session Global). v.items) took.takes.2 ∙ same.1,
       ),
     ))
 
 first_session : (x y : Session) (stations : List StationData)
-    → AfterTakingSession stations (x ∷ y ∷ []) (λ taken new. (taken ≡ Some (contents.Session x)) × HasThese stations (y ∷ []) new)
+    → AfterTakingSession stations (x ∷ y ∷ []) (λ taken new. (taken ≡ Some (contents.Session x)) × HasThem stations (y ∷ []) new)
 first_session x y stations old new taken has =
     of_service old (Has stations (x ∷ y ∷ []))
-    (λ handle. HandleTakesSession taken handle new → (taken ≡ Some (contents.Session x)) × HasThese stations (y ∷ []) new)
+    (λ handle. HandleTakesSession taken handle new → (taken ≡ Some (contents.Session x)) × HasThem stations (y ∷ []) new)
     has
     (λ s same h.
     let took = session_taken s taken new h in (
       took.taken_is ∙ ap (λ (z : Session). Some (contents.Session z)) (first_is x took.session (y ∷ []) s.sessions.items took.takes.0 same.1),
-      subst (λ (handle : Option Content). HasThese stations (y ∷ []) handle) (sym took.new_is) (
+      subst (λ (handle : Option Content). HasThem stations (y ∷ []) handle) (sym took.new_is) (
         ap (λ (v : Vec StationData Global). v.items) took.takes.2 ∙ same.0,
         took.takes.1 ∙ ap (λ (xs : List Session). drop 1 xs) same.1,
       ),
@@ -171,13 +171,13 @@ given_to given s (Some (contents.Session other)) h = absurd h
 given_to given s (Some (contents.Journal other)) h = absurd h
 
 station_given : (x y : StationData) (sessions : List Session)
-    → AfterGiving (contents.Station y) (x ∷ []) sessions (λ new. HasThese (x ∷ y ∷ []) sessions new)
+    → AfterGiving (contents.Station y) (x ∷ []) sessions (λ new. HasThem (x ∷ y ∷ []) sessions new)
 station_given x y sessions old new has =
     of_service old (Has (x ∷ []) sessions)
-    (λ handle. HandleGives (Some (contents.Station y)) handle new → HasThese (x ∷ y ∷ []) sessions new)
+    (λ handle. HandleGives (Some (contents.Station y)) handle new → HasThem (x ∷ y ∷ []) sessions new)
     has
     (λ s same h.
-    of_service new (λ t. GivesTo (contents.Station y) s t) (λ handle. HasThese (x ∷ y ∷ []) sessions handle)
+    of_service new (λ t. GivesTo (contents.Station y) s t) (λ handle. HasThem (x ∷ y ∷ []) sessions handle)
     (given_to (contents.Station y) s new h)
     (λ t gives. (
       gives.0 ∙ ap (λ (xs : List StationData). xs ++ y ∷ []) same.0,
@@ -185,13 +185,13 @@ station_given x y sessions old new has =
     )))
 
 session_given : (x y : Session) (stations : List StationData)
-    → AfterGiving (contents.Session y) stations (x ∷ []) (λ new. HasThese stations (x ∷ y ∷ []) new)
+    → AfterGiving (contents.Session y) stations (x ∷ []) (λ new. HasThem stations (x ∷ y ∷ []) new)
 session_given x y stations old new has =
     of_service old (Has stations (x ∷ []))
-    (λ handle. HandleGives (Some (contents.Session y)) handle new → HasThese stations (x ∷ y ∷ []) new)
+    (λ handle. HandleGives (Some (contents.Session y)) handle new → HasThem stations (x ∷ y ∷ []) new)
     has
     (λ s same h.
-    of_service new (λ t. GivesTo (contents.Session y) s t) (λ handle. HasThese stations (x ∷ y ∷ []) handle)
+    of_service new (λ t. GivesTo (contents.Session y) s t) (λ handle. HasThem stations (x ∷ y ∷ []) handle)
     (given_to (contents.Session y) s new h)
     (λ t gives. (
       ap (λ (v : Vec StationData Global). v.items) gives.1 ∙ same.0,
@@ -215,11 +215,11 @@ never_given given (contents.Session s) (Some b) other h = h
 never_given given (contents.Journal journal) (Some b) other h = h
 
 all_kept : (stations : List StationData) (sessions : List Session) (old new : Option Content)
-    → HasThese stations sessions old → HandleKeeps old new → HasThese stations sessions new
+    → HasThem stations sessions old → HandleKeeps old new → HasThem stations sessions new
 all_kept stations sessions old new has =
-    of_service old (Has stations sessions) (λ handle. HandleKeeps handle new → HasThese stations sessions new) has
+    of_service old (Has stations sessions) (λ handle. HandleKeeps handle new → HasThem stations sessions new) has
     (λ s same h.
-    of_service new (λ t. SameService s t) (λ handle. HasThese stations sessions handle) (keeps_all s new h)
+    of_service new (λ t. SameService s t) (λ handle. HasThem stations sessions handle) (keeps_all s new h)
     (λ t keeps. (keeps.0 ∙ same.0, keeps.1 ∙ same.1)))
 
 others_kept : (content : Content) (new : Option Content) → kind_of content ≢ 0 → HandleKeeps (Some content) new

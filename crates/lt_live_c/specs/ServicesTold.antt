@@ -1,5 +1,5 @@
--- What C is told of services and journals, in literals: what was taken, given, opened, finished and served, or why nothing
--- was.
+-- What C is told of services and journals, in literals: what was taken, given, opened, finished and served, or why
+-- nothing was.
 use Rattle.std.specs.Prelude.{◌≡◌, ◌≢◌, ◌<◌, ◌≤◌, ◌⊎◌, ◌+◌, ◌∷◌, [], ℕ, List, Ok, Option, Some, None, codes, length, map}
 use Rattle.lt_modes.specs.declared.command.Command.TheVariants.{Lock}
 use Rattle.lt_modes.specs.declared.event.Event.TheVariants.{Grant, Wait}
@@ -32,37 +32,37 @@ OfService (Some (contents.Service s)) Told = Told s
 OfService other Told = ⊥
 
 -- it stands for a service that has these stations and sessions
-abbrev pub HasThese : List StationData → List Session → Option Content → Type 0
-HasThese stations sessions handle =
+abbrev pub HasThem : List StationData → List Session → Option Content → Type 0
+HasThem stations sessions handle =
     OfService handle (λ s. (s.stations.items ≡ stations) × (s.sessions.items ≡ sessions))
 
 -- this is so of what was taken and what is left where a station, or a session, was taken from such a service
 abbrev pub AfterTakingStation : List StationData → List Session → (Option Content → Option Content → Type 0) → Type 0
 AfterTakingStation stations sessions Told =
-    (old new taken : Option Content) → HasThese stations sessions old → HandleTakesStation taken old new → Told taken new
+    (old new taken : Option Content) → HasThem stations sessions old → HandleTakesStation taken old new → Told taken new
 
 abbrev pub AfterTakingSession : List StationData → List Session → (Option Content → Option Content → Type 0) → Type 0
 AfterTakingSession stations sessions Told =
-    (old new taken : Option Content) → HasThese stations sessions old → HandleTakesSession taken old new → Told taken new
+    (old new taken : Option Content) → HasThem stations sessions old → HandleTakesSession taken old new → Told taken new
 
 -- from a service of two the first is taken; and why none was taken
 pub record TakesTold : Type 0 where
   pub station : (x y : StationData) (sessions : List Session)
       → AfterTakingStation (x ∷ y ∷ []) sessions (λ taken new. taken ≡ Some (contents.Station x))
   pub stations_left : (x y : StationData) (sessions : List Session)
-      → AfterTakingStation (x ∷ y ∷ []) sessions (λ taken new. HasThese (y ∷ []) sessions new)
+      → AfterTakingStation (x ∷ y ∷ []) sessions (λ taken new. HasThem (y ∷ []) sessions new)
   pub session : (s t : Session) (stations : List StationData)
       → AfterTakingSession stations (s ∷ t ∷ []) (λ taken new. taken ≡ Some (contents.Session s))
   pub sessions_left : (s t : Session) (stations : List StationData)
-      → AfterTakingSession stations (s ∷ t ∷ []) (λ taken new. HasThese stations (t ∷ []) new)
+      → AfterTakingSession stations (s ∷ t ∷ []) (λ taken new. HasThem stations (t ∷ []) new)
   pub no_station_of_others : (content : Content) (taken new : Option Content) → kind_of content ≢ 0
       → HandleTakesStation taken (Some content) new → ⊥
   pub no_session_of_others : (content : Content) (taken new : Option Content) → kind_of content ≢ 0
       → HandleTakesSession taken (Some content) new → ⊥
   pub a_station_left : (x : StationData) (rest : List StationData) (sessions : List Session) (old : Option Content)
-      → HasThese (x ∷ rest) sessions old → HandleHasNoStation 1 old → ⊥
+      → HasThem (x ∷ rest) sessions old → HandleHasNoStation 1 old → ⊥
   pub a_session_left : (s : Session) (rest : List Session) (stations : List StationData) (old : Option Content)
-      → HasThese stations (s ∷ rest) old → HandleHasNoSession 1 old → ⊥
+      → HasThem stations (s ∷ rest) old → HandleHasNoSession 1 old → ⊥
   pub nothing_of_others : (content : Content) → kind_of content ≢ 0
       → (HandleHasNoStation 1 (Some content) → ⊥) × (HandleHasNoSession 1 (Some content) → ⊥)
   pub wrong_for_station : (s : Service) → HandleHasNoStation 2 (Some (contents.Service s)) → ⊥
@@ -75,14 +75,14 @@ pub record TakesTold : Type 0 where
 -- this is so of a service with these stations and sessions to which the content was given
 abbrev pub AfterGiving : Content → List StationData → List Session → (Option Content → Type 0) → Type 0
 AfterGiving given stations sessions Told =
-    (old new : Option Content) → HasThese stations sessions old → HandleGives (Some given) old new → Told new
+    (old new : Option Content) → HasThem stations sessions old → HandleGives (Some given) old new → Told new
 
 -- what is given stands last; and why it was not given
 pub record GivesTold : Type 0 where
   pub station : (x y : StationData) (sessions : List Session)
-      → AfterGiving (contents.Station y) (x ∷ []) sessions (λ new. HasThese (x ∷ y ∷ []) sessions new)
+      → AfterGiving (contents.Station y) (x ∷ []) sessions (λ new. HasThem (x ∷ y ∷ []) sessions new)
   pub session : (s t : Session) (stations : List StationData)
-      → AfterGiving (contents.Session t) stations (s ∷ []) (λ new. HasThese stations (s ∷ t ∷ []) new)
+      → AfterGiving (contents.Session t) stations (s ∷ []) (λ new. HasThem stations (s ∷ t ∷ []) new)
   pub never_service : (given s : Service) (new : Option Content)
       → HandleGives (Some (contents.Service given)) (Some (contents.Service s)) new → ⊥
   pub never_journal : (given : Journal) (s : Service) (new : Option Content)
@@ -90,7 +90,7 @@ pub record GivesTold : Type 0 where
   pub never_to_others : (given content : Content) (new : Option Content) → kind_of content ≢ 0
       → HandleGives (Some given) (Some content) new → ⊥
   pub keeps : (stations : List StationData) (sessions : List Session) (old new : Option Content)
-      → HasThese stations sessions old → HandleKeeps old new → HasThese stations sessions new
+      → HasThem stations sessions old → HandleKeeps old new → HasThem stations sessions new
   pub keeps_others : (content : Content) (new : Option Content) → kind_of content ≢ 0
       → HandleKeeps (Some content) new → new ≡ Some content
   pub wrong_station : (x : StationData) (s : Service)
@@ -219,12 +219,12 @@ AfterServed first Told =
 abbrev pub CountedAtTwo : (Session → Session → ℕ → ℕ → Type 0) → Type 0
 CountedAtTwo Told =
     (x y : Session) (stations : List StationData) (s : Service) (submits polls : ℕ) (new : Option Content)
-    → HandleTellsServed submits polls (Some (contents.Service s)) new → HasThese stations (x ∷ y ∷ []) new → Told x y submits polls
+    → HandleTellsServed submits polls (Some (contents.Service s)) new → HasThem stations (x ∷ y ∷ []) new → Told x y submits polls
 
 -- nothing is told of a service that has these stations and sessions
 abbrev pub NeverTold : List StationData → List Session → Type 0
 NeverTold stations sessions =
-    (submits polls : ℕ) (old new : Option Content) → HasThese stations sessions old → HandleTellsServed submits polls old new → ⊥
+    (submits polls : ℕ) (old new : Option Content) → HasThem stations sessions old → HandleTellsServed submits polls old new → ⊥
 
 -- what is told of a service that goes on; and why nothing is
 pub record ServedTold : Type 0 where

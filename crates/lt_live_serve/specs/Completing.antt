@@ -51,15 +51,15 @@ AllSubmitted callers = (k : ℕ) (c : Caller) → slice_get callers k ≡ Some c
 abbrev pub NoReplyWaits : List Seat → Type 0
 NoReplyWaits seats = (k : ℕ) (seat : Seat) → slice_get seats k ≡ Some seat → outbox_replies seat ≡ []
 
--- the station of the same node, where all sessions keep their other ends; it has forgotten nothing if it had not before, and
--- no reply waits if none did
+-- the station of the same node, where all sessions keep their other ends; it has forgotten nothing if it had not before,
+-- and no reply waits if none did
 pub record ServesOn (a b : StationData) : Type 0 where
   pub goes : StationGoesOn a b
   pub has_all : HasAll a.runner → HasAll b.runner
   pub waits : NoReplyWaits a.seats → NoReplyWaits b.seats
 
--- the stations of all nodes and the callers of all clients, in order; each caller has the client's commands of the script,
--- which no station had at first; no station has forgotten moves or commands, and at none a reply waits
+-- the stations of all nodes and the callers of all clients, in order; each caller has the client's commands of the
+-- script, which no station had at first; no station has forgotten moves or commands, and at none a reply waits
 pub record AreServing (script : ScriptData) (stations : List StationData) (callers : List Caller) : Type 0 where
   pub live : AreLive (with_commands script []) stations (map session_of callers)
   pub limits : HasLimit MOVES (map runner_of stations)
