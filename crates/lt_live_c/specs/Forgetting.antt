@@ -1,7 +1,7 @@
 -- What a call that lets a station forget does.
 use Rattle.std.specs.Prelude.{◌≡◌, ◌⊎◌, ℕ, length}
 use Rattle.lt_runner.specs.declared.parts.Parts.{Parts}
-use Rattle.lt_live.specs.Stations.{StationData, StaySeated}
+use Rattle.lt_live.specs.Stations.{StationData}
 use Rattle.lt_live_c.specs.declared.code.TheConstants.{OK, NO_MEMORY}
 
 -- the runner is the same, with the same moves and the same script, but that more of these may be forgotten
@@ -9,14 +9,9 @@ pub record RunnerForgets (a b : Parts) : Type 0 where
   pub rest : b ≡ record a { log = b.log; node = record a.node { gone = b.node.gone } }
   pub moves : b.log.entries ≡ a.log.entries
 
--- so is that of the station, where all sessions keep their other ends
-pub record MayForgetAt (a b : StationData) : Type 0 where
-  pub runner : RunnerForgets a.runner b.runner
-  pub seated : StaySeated a.seats b.seats
-
 -- all moves and all commands are forgotten; without memory no command is
 pub record ForgetsStation (code : ℕ) (a b : StationData) : Type 0 where
-  pub forgets : MayForgetAt a b
+  pub runner : RunnerForgets a.runner b.runner
   pub moves : code ≡ OK → b.runner.log.gone ≡ length a.runner.log.entries
   pub commands : code ≡ OK → b.runner.node.gone ≡ length a.runner.node.script.commands
   pub kept : code ≡ NO_MEMORY → b.runner.node.gone ≡ a.runner.node.gone

@@ -1,19 +1,19 @@
 -- What C is told of stations and sessions, in literals: the numbers of clients/c/lockrun.h, and what follows from each
 -- code of a call.
-use Rattle.std.specs.Prelude.{◌≡◌, ◌≢◌, ◌<◌, ◌≤◌, ◌⊎◌, ◌+◌, ◌++◌, ◌∷◌, [], ℕ, List, IsTrue, Option, Some, None, length, slice_get, slice_set}
+use Rattle.std.specs.Prelude.{◌≡◌, ◌≢◌, ◌<◌, ◌≤◌, ◌⊎◌, ◌+◌, ◌++◌, ◌∷◌, [], ℕ, IsTrue, Option, Some, None, length}
 use mathlib.Core.List.{IsPrefix}
 use Rattle.rtrb.specs.Ring.{known_free, producer_capacity}
 use Rattle.lt_modes.specs.declared.command.Command.TheVariants.{Lock, Try, Unlock, Change, DropAll}
 use Rattle.lt_modes.specs.declared.mode.Mode.TheVariants as modes
 use Rattle.lt_modes.specs.FiveModes.{is_of_version}
-use Rattle.lt_modes.specs.Script.{ScriptData, home_at}
+use Rattle.lt_modes.specs.Script.{home_at}
 use Rattle.lt_node.specs.NodeData.{state_of}
 use Rattle.lt_runner.specs.declared.turning.Turned.TheVariants as turns
 use Rattle.lt_live.specs.declared.ends.Session.{Session}
 use Rattle.lt_live.specs.declared.reply.Reply.{Reply}
 use Rattle.lt_live.specs.declared.reply.Reply.TheVariants as replies
-use Rattle.lt_live.specs.Live.{AreLive, StationGoesOn}
-use Rattle.lt_live.specs.Stations.{StationData, StationTurns, StaySeated}
+use Rattle.lt_live.specs.Live.{StationGoesOn}
+use Rattle.lt_live.specs.Stations.{StationData, StationTurns}
 use Rattle.lt_live.specs.Words.{submitted, polled, known_replies, SameSession}
 use Rattle.lt_live_c.specs.declared.code.TheConstants.{OK, NOTHING, WRONG_HANDLE, NO_MEMORY, BAD_ARGUMENT, BAD_SCRIPT, SPENT, FULL, LOG_FULL, FORGOTTEN}
 use Rattle.lt_live_c.specs.declared.content.Content.{Content}
@@ -108,7 +108,7 @@ AfterForget code Told =
     (a : StationData) (new : Option Content) → AtStation code (ForgetsStation code) (Some (contents.Station a)) new
     → OfStation new (Told a)
 
--- what is forgotten, and that nothing else changes but what waits at seats
+-- what is forgotten, and that all else of the runner stays
 pub record ForgetsTold : Type 0 where
   pub moves : AfterForget 0 (λ a b. b.runner.log.gone ≡ length a.runner.log.entries)
   pub commands : AfterForget 0 (λ a b. b.runner.node.gone ≡ length a.runner.node.script.commands)
@@ -120,12 +120,7 @@ pub record ForgetsTold : Type 0 where
   pub same_mail : (code : ℕ) → AfterForget code (λ a b. b.runner.mail ≡ a.runner.mail)
   pub same_hand : (code : ℕ) → AfterForget code (λ a b. b.runner.hand ≡ a.runner.hand)
   pub same_limit : (code : ℕ) → AfterForget code (λ a b. b.runner.limit ≡ a.runner.limit)
-  pub seated : (code : ℕ) → AfterForget code (λ a b. StaySeated a.seats b.seats)
   pub only : (code : ℕ) → AfterForget code (λ a b. (code ≡ 0) ⊎ (code ≡ 3))
-  -- stations and sessions of one script are so still
-  pub whole : (first : ScriptData) (stations : List StationData) (sessions : List Session) (place code : ℕ) (x y : StationData)
-      → AreLive first stations sessions → slice_get stations place ≡ Some x → ForgetsStation code x y
-      → AreLive first (slice_set stations place y) sessions
 
 -- this is so of each call with this code that submits a command of this kind and of set 7, with this first number, by
 -- the session before and after it

@@ -34,8 +34,10 @@ fn turn_of(station: &mut Station) -> u32
     number_of_turn(station.turn(&Open))
 }
 
+#[tactic(auto, using(lt_live::proofs::Settling::same_sessions))]
 pub fn forget(content: &mut Content, alloc: Global) -> u32
-    ensures { OnStation result (ForgetsStation result) content.old content.new }
+    ensures goes_on { ContentGoesOn content.old content.new }
+    ensures forgets { OnStation result (ForgetsStation result) content.old content.new }
 {
     match content {
         Content::Station(station) => forget_by(station, alloc),
@@ -43,8 +45,10 @@ pub fn forget(content: &mut Content, alloc: Global) -> u32
     }
 }
 
+#[tactic(auto, using(crate::proofs::Forgetting::goes_on_join))]
 fn forget_by(station: &mut Station, alloc: Global) -> u32
-    ensures { ForgetsStation result station.old station.new }
+    ensures goes_on { StationGoesOn station.old station.new }
+    ensures forgets { ForgetsStation result station.old station.new }
 {
     let Ok(()) = station.forget_moves(alloc) else {
         return NO_MEMORY;

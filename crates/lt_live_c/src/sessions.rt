@@ -30,6 +30,7 @@ pub extern "C" fn lockrun_turn(alloc: Global, station: &mut Handle) -> u32
 pub extern "C" fn lockrun_forget(alloc: Global, station: &mut Handle) -> u32
     requires { IsSome station.old.value }
     ensures some { IsSome station.new.value }
+    ensures goes_on { HandleGoesOn station.old.value station.new.value }
     ensures forgets { AtStation result (ForgetsStation result) station.old.value station.new.value }
 {
     let mut inside = take(alloc, station);
