@@ -15,5 +15,5 @@ returns c =
     let two : 1 < c.nodes.result = omega (arith, c.requires, c.nodes.ensures.nodes) in
     let some : 0 < c.nodes.result = omega (arith, two) in
     two_beside c.nodes.result 1 10 c.args.script.now _ _ _ _ _ _ c.in_ok-mails.ensures two c.remove-mail.ensures.value c.remove-mail.ensures.items
-    c.remove-mail-2.ensures.value c.in_ok-first.ensures c.in_ok-second.ensures (first_fresh c.nodes.result 1 _ _ c.in_ok-mails.ensures some c.remove-mail.ensures.value)
+    c.remove-mail-2.ensures.value c.in_ok-first.ensures.starts c.in_ok-second.ensures.starts (first_fresh c.nodes.result 1 _ _ c.in_ok-mails.ensures some c.remove-mail.ensures.value)
     (second_fresh c.nodes.result 1 _ _ _ c.in_ok-mails.ensures two c.remove-mail.ensures.items c.remove-mail-2.ensures.value)
