@@ -18,14 +18,14 @@ import lockrun  # noqa: E402
 # What crosses in place of an argument of the crate; Global takes no bytes.
 CROSSES = {
     'Global': [], '&[u8]': ['*u8', 'size'], '&mut [u8]': ['*u8', 'size'], '&mut Handle': ['*handle'],
-    '&mut u32': ['*u32'], '&mut usize': ['*size'], 'u32': ['u32'], 'u8': ['u8'], 'usize': ['size']}
-IN_C = {'uint32_t': 'u32', 'uint8_t': 'u8', 'size_t': 'size', 'lockrun_handle *': '*handle', 'lockrun_service *': '*handle',
+    '&mut u64': ['*u64'], '&mut usize': ['*size'], 'u32': ['u32'], 'u64': ['u64'], 'u8': ['u8'], 'usize': ['size']}
+IN_C = {'uint32_t': 'u32', 'uint64_t': 'u64', 'uint8_t': 'u8', 'size_t': 'size', 'lockrun_handle *': '*handle', 'lockrun_service *': '*handle',
         'lockrun_station *': '*handle', 'lockrun_session *': '*handle', 'lockrun_journal *': '*handle',
-        'const uint8_t *': '*u8', 'uint8_t *': '*u8', 'uint32_t *': '*u32', 'size_t *': '*size', 'void': None}
-IN_RUST = {'u32': 'u32', 'u8': 'u8', 'usize': 'size', '*mut Handle': '*handle', '*const u8': '*u8', '*mut u8': '*u8',
-           '*mut u32': '*u32', '*mut usize': '*size', '': None}
+        'const uint8_t *': '*u8', 'uint8_t *': '*u8', 'uint64_t *': '*u64', 'size_t *': '*size', 'void': None}
+IN_RUST = {'u32': 'u32', 'u64': 'u64', 'u8': 'u8', 'usize': 'size', '*mut Handle': '*handle', '*const u8': '*u8', '*mut u8': '*u8',
+           '*mut u64': '*u64', '*mut usize': '*size', '': None}
 IN_PYTHON = {ctypes.c_uint32: 'u32', ctypes.c_uint8: 'u8', ctypes.c_size_t: 'size', lockrun.AT: '*handle',
-             lockrun.BYTES: '*u8', lockrun.COUNT: '*u32', lockrun.SIZE: '*size', None: None}
+             lockrun.BYTES: '*u8', lockrun.SIZE: '*size', None: None}
 # What a command's kind is called outside, by the function that makes it.
 KINDS = {'lock': 'LOCK', 'try_lock': 'TRY', 'unlock': 'UNLOCK', 'change': 'CHANGE', 'drop_locks': 'DROP'}
 
@@ -33,6 +33,11 @@ KINDS = {'lock': 'LOCK', 'try_lock': 'TRY', 'unlock': 'UNLOCK', 'change': 'CHANG
 def upper(word):
     """IntentionRead as INTENTION_READ."""
     return re.sub(r'(?<=[a-z])(?=[A-Z])', '_', word).upper()
+
+
+def sized(kind):
+    """What a number of 64 bits is where a size is one."""
+    return {'u64': 'size', '*u64': '*size'}.get(kind, kind)
 
 
 def of_crate():
@@ -74,6 +79,10 @@ def of_python():
 def calls_differ(language, found):
     """The faults of a language's declarations of the calls."""
     wanted = of_crate()
+    if language == 'Python':
+        # ctypes has one type for numbers of 64 bits and for sizes.
+        wanted = {name: (sized(result), [(word, sized(kind)) for word, kind in arguments])
+                  for name, (result, arguments) in wanted.items()}
     yield from (f'{language} has no {name}' for name in wanted.keys() - found.keys())
     yield from (f'{name} of {language} is no export' for name in found.keys() - wanted.keys())
     for name in wanted.keys() & found.keys():

@@ -1,5 +1,5 @@
-/* Lock and unlock pairs of callers on threads, by lockrun_easy.h. Each round opens the service, uses up the share of each
- * session, and finishes.
+/* Lock and unlock pairs of callers on threads, by lockrun_easy.h. Each round opens a service, makes as many pairs as a script
+ * has commands for, and finishes.
  *
  * usage: pairs CALLERS NODES one|own write|read ROUNDS: all callers lock one set, or each its own, on the nodes in turn. */
 #define _POSIX_C_SOURCE 200809L
@@ -8,11 +8,12 @@
 #include <stdio.h>
 #include <string.h>
 
-enum { MOST_CALLERS = 8 };
+enum { MOST_CALLERS = 8, MOST_COMMANDS = 4096 };
 
 static lockrun_nodes nodes;
 static enum lockrun_mode mode;
 static int one_set;
+static uint32_t pairs_of_caller;
 static pthread_barrier_t start;
 static struct { double begun, ended; } times[MOST_CALLERS];
 
@@ -32,10 +33,9 @@ static void *work(void *argument) {
     lockrun_caller *caller = argument;
     uint32_t number = lockrun_client(&caller->session);
     uint8_t set = one_set ? 0 : (uint8_t)number;
-    uint32_t pairs = lockrun_left(&caller->session) / 2;
     pthread_barrier_wait(&start);
     times[number].begun = seconds();
-    for (uint32_t k = 0; k < pairs; k++) {
+    for (uint32_t k = 0; k < pairs_of_caller; k++) {
         want(lockrun_lock(caller, set, mode, LOCKRUN_FOREVER), LOCKRUN_GRANTED);
         want(lockrun_unlock(caller, set, mode, LOCKRUN_FOREVER), LOCKRUN_UNLOCKED);
     }
@@ -62,6 +62,7 @@ int main(int count, char **words) {
     if (count != 6) { fputs("usage: pairs CALLERS NODES one|own write|read ROUNDS\n", stderr); return 1; }
     int callers = atoi(words[1]), on = atoi(words[2]), rounds = atoi(words[5]);
     if (callers < 1 || callers > MOST_CALLERS) { fputs("pairs: 1 to 8 callers\n", stderr); return 1; }
+    pairs_of_caller = MOST_COMMANDS / (uint32_t)callers / 2;
     one_set = !strcmp(words[3], "one");
     mode = strcmp(words[4], "read") ? LOCKRUN_WRITE : LOCKRUN_READ;
     char text[1024];
@@ -73,7 +74,7 @@ int main(int count, char **words) {
     for (int round = 0; round < rounds; round++) {
         lockrun_journal journal = {0};
         want(lockrun_nodes_open(&nodes, text, (size_t)length, 1 << 20), LOCKRUN_OK);
-        long in_round = (long)callers * (lockrun_left(&nodes.caller[0].session) / 2);
+        long in_round = (long)callers * pairs_of_caller;
         double taken = time_of_pairs(callers);
         want(lockrun_nodes_finish(&nodes, &journal), LOCKRUN_OK);
         lockrun_free(&journal);

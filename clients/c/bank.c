@@ -1,7 +1,8 @@
 /* A bank: callers on threads move money from account to account under locks, and one adds up all accounts.
  *
- * usage: bank CALLERS NODES TRANSFERS SCRIPT JOURNAL: it writes the script of what was asked, and the journal, into these
- * files. The status is 0 if the sum is right and nothing is held at the end. */
+ * usage: bank CALLERS NODES TRANSFERS [SCRIPT JOURNAL]: so many transfers of each caller. It writes the script of what was
+ * asked, and the journal, into these files. If they aren't named its nodes forget meanwhile, and it may go on for as many
+ * transfers as it likes. The status is 0 if the sum is right and nothing is held at the end. */
 #define _POSIX_C_SOURCE 200809L
 #include "lockrun_easy.h"
 #include <pthread.h>
@@ -10,8 +11,9 @@
 
 enum { ACCOUNTS = 4, FIRST = 1000, AMOUNT = 5, MOST_CALLERS = 16, SECONDS = 60 };
 
-/* How many transfers all callers make together before it is asked what they were served. */
-enum { BETWEEN = 100 };
+/* How many transfers all callers make together, at least, before it is asked what they were served; it is asked some hundred
+ * times if they make more. So many transfers a caller makes before it lets the nodes forget. */
+enum { BETWEEN = 100, ROUNDS = 100 };
 
 /* The set that stands for the whole bank. An account's set has the number after the account's. */
 enum { BANK = 0 };
@@ -19,6 +21,9 @@ enum { BANK = 0 };
 /* Plain words: nothing but the locks keeps callers apart. */
 static long money[ACCOUNTS];
 static lockrun_nodes nodes;
+
+/* Whether the nodes forget. */
+static int forgets;
 
 /* Which transfers each caller makes in this round, and how many replies it was told so far. */
 static struct { int first, last; size_t told; } work[MOST_CALLERS];
@@ -66,6 +71,7 @@ static void *call(void *argument) {
     for (int k = work[number].first; k < work[number].last; k++) {
         int from = (number + k) % ACCOUNTS;
         transfer(caller, from, (from + 1 + k % (ACCOUNTS - 1)) % ACCOUNTS);
+        if (forgets && k % BETWEEN == 0) want("forget", lockrun_nodes_forget(&nodes), LOCKRUN_OK);
     }
     return 0;
 }
@@ -117,28 +123,44 @@ static void write_text(const char *name, lockrun_journal *journal,
     if (fclose(file)) { perror(name); exit(1); }
 }
 
+/* Ends the service, with a journal: whether something is held or waits. */
+static int end_with(const char *script, const char *of_moves) {
+    lockrun_journal journal = {0};
+    size_t held = 1, waiting = 1;
+    want("finish", lockrun_nodes_finish(&nodes, &journal), LOCKRUN_OK);
+    want("end", lockrun_end(&journal, &held, &waiting), LOCKRUN_OK);
+    write_text(script, &journal, lockrun_script);
+    write_text(of_moves, &journal, lockrun_copy);
+    lockrun_free(&journal);
+    return held || waiting;
+}
+
+/* Ends it without one: whether something is held, which bars a write of the whole bank. */
+static int end_without(void) {
+    uint32_t code = lockrun_try(&nodes.caller[0], BANK, LOCKRUN_WRITE, LOCKRUN_FOREVER);
+    lockrun_nodes_free(&nodes);
+    return code != LOCKRUN_TRUE;
+}
+
 int main(int count, char **words) {
-    if (count != 6) { fputs("usage: bank CALLERS NODES TRANSFERS SCRIPT JOURNAL\n", stderr); return 1; }
+    if (count != 4 && count != 6) { fputs("usage: bank CALLERS NODES TRANSFERS [SCRIPT JOURNAL]\n", stderr); return 1; }
     int callers = atoi(words[1]), nodes_wanted = atoi(words[2]), transfers = atoi(words[3]);
     if (callers < 1 || callers > MOST_CALLERS) { fputs("bank: 1 to 16 callers\n", stderr); return 1; }
+    forgets = count == 4;
     char text[4096];
     int length = sprintf(text, "nodes %d\nset bank\n", nodes_wanted);
     for (int k = 0; k < ACCOUNTS; k++) length += sprintf(text + length, "set account%d with bank\n", k);
     for (int k = 0; k < callers; k++) length += sprintf(text + length, "client caller%d at %d\n", k, k % nodes_wanted);
     for (int k = 0; k < ACCOUNTS; k++) money[k] = FIRST;
-    want("open", lockrun_nodes_open(&nodes, text, length, 1 << 20), LOCKRUN_OK);
+    want("open", lockrun_nodes_open(&nodes, text, length, (uint64_t)1 << 55), LOCKRUN_OK);
     compare(callers);
-    for (int first = 0, each = (BETWEEN + callers - 1) / callers; first < transfers; first += each)
+    int each = (BETWEEN + callers - 1) / callers;
+    if (each < transfers / ROUNDS) each = transfers / ROUNDS;
+    for (int first = 0; first < transfers; first += each)
         make_round(callers, first, first + each < transfers ? first + each : transfers);
     long sum = audit(&nodes.caller[0]);
     compare(callers);
-    lockrun_journal journal = {0};
-    size_t held = 1, waiting = 1;
-    want("finish", lockrun_nodes_finish(&nodes, &journal), LOCKRUN_OK);
-    want("end", lockrun_end(&journal, &held, &waiting), LOCKRUN_OK);
-    write_text(words[4], &journal, lockrun_script);
-    write_text(words[5], &journal, lockrun_copy);
-    lockrun_free(&journal);
+    int is_held = forgets ? end_without() : end_with(words[4], words[5]);
     printf("all together: %ld\n", sum);
-    return sum != (long)ACCOUNTS * FIRST || held || waiting;
+    return sum != (long)ACCOUNTS * FIRST || is_held;
 }

@@ -11,8 +11,11 @@ static lockrun_station station[2];
 static lockrun_session ann, ben;
 static lockrun_handle none;
 static lockrun_journal journal;
-static uint32_t count = 7;
+static uint64_t count = 7;
 static size_t submitted, polled;
+
+/* The most commands of a script. */
+enum { MOST = 4096 };
 
 #define IS(call, wanted) is(#call, __LINE__, call, wanted)
 
@@ -22,7 +25,7 @@ static void is(const char *call, int line, size_t got, size_t wanted) {
     bad = 1;
 }
 
-static uint32_t open_text(const char *text, uint32_t limit, uint32_t places) {
+static uint32_t open_text(const char *text, uint64_t limit, uint32_t places) {
     return lockrun_open((const uint8_t *)text, strlen(text), limit, places, &service);
 }
 
@@ -43,7 +46,7 @@ static void opening(void) {
     IS(open_text("nodes 0\n", 100, 2), LOCKRUN_BAD_SCRIPT);
     IS(open_text("", 100, 2), LOCKRUN_BAD_SCRIPT);
     IS(open_text(text, 0, 2), LOCKRUN_BAD_ARGUMENT);
-    IS(open_text(text, UINT32_MAX, 2), LOCKRUN_BAD_ARGUMENT);
+    IS(open_text(text, ((uint64_t)1 << 55) + 1, 2), LOCKRUN_BAD_ARGUMENT);
     IS(open_text(text, 100, 0), LOCKRUN_BAD_ARGUMENT);
     IS(open_text(text, 100, UINT32_MAX), LOCKRUN_BAD_ARGUMENT);
     IS(lockrun_open((const uint8_t *)text, ((size_t)1 << 20) + 1, 100, 2, &service), LOCKRUN_BAD_ARGUMENT);
@@ -167,7 +170,7 @@ static void replies(void) {
 
 static void ends(void) {
     size_t commands = 9, replies = 9;
-    while (lockrun_left(&ann) > 0) {
+    for (int k = 0; k < 20; k++) {
         uint32_t code = lockrun_submit(&ann, LOCKRUN_TRY, 0, LOCKRUN_READ, 0);
         if (code == LOCKRUN_FULL) break;
         IS(code, LOCKRUN_OK);
@@ -184,7 +187,7 @@ static void ends(void) {
     served(commands, replies);
 }
 
-/* One client alone, whose share is used up; and what is held and waits at the end. */
+/* As many commands as a script may have; and what is held and waits at the end. */
 static void whole_life(void) {
     uint8_t bytes[64];
     size_t held, waiting, commands = 2, replies = 1;
@@ -195,14 +198,14 @@ static void whole_life(void) {
     IS(lockrun_submit(&ann, LOCKRUN_LOCK, 0, LOCKRUN_WRITE, 0), LOCKRUN_OK);
     while (lockrun_poll(&ann, &count) == LOCKRUN_NOTHING) lockrun_turn(&station[0]);
     IS(lockrun_submit(&ben, LOCKRUN_LOCK, 0, LOCKRUN_WRITE, 0), LOCKRUN_OK);
-    while (lockrun_left(&ann) > 0) {
+    while (commands < MOST) {
         IS(lockrun_submit(&ann, LOCKRUN_TRY, 0, LOCKRUN_WRITE, 0), LOCKRUN_OK);
         do lockrun_turn(&station[0]);
         while (lockrun_poll(&ann, &count) == LOCKRUN_NOTHING);
         commands++, replies++;
-        if (commands % 20 == 0) served_meanwhile(1, commands, replies);
+        if (commands % 200 == 0) served_meanwhile(1, commands, replies);
     }
-    IS(lockrun_submit(&ann, LOCKRUN_TRY, 0, LOCKRUN_WRITE, 0), LOCKRUN_SPENT);
+    IS(lockrun_left(&ann), ((uint64_t)1 << 58) - MOST + 1);
     while (lockrun_turn(&station[0]) == LOCKRUN_OK) {}
     IS(lockrun_give(&service, &station[0]), LOCKRUN_OK);
     IS(lockrun_give(&service, &ann), LOCKRUN_OK);
@@ -220,6 +223,25 @@ static void whole_life(void) {
     IS(lockrun_copy(&journal, SIZE_MAX, bytes, 5), 0);
     lockrun_free(&journal);
     IS(journal.at != 0, 0);
+}
+
+/* One command more than a script may have: the service goes on, and has no journal. */
+static void too_many(void) {
+    IS(open_text("nodes 1\nset a\nclient c at 0\nclient d at 0\n", (uint64_t)1 << 55, 4), LOCKRUN_OK);
+    IS(lockrun_take_station(&service, &station[0]), LOCKRUN_OK);
+    IS(lockrun_take_session(&service, &ann), LOCKRUN_OK);
+    for (int k = 0; k <= MOST; k++) {
+        IS(lockrun_submit(&ann, LOCKRUN_TRY, 0, LOCKRUN_WRITE, 0), LOCKRUN_OK);
+        do lockrun_turn(&station[0]);
+        while (lockrun_poll(&ann, &count) == LOCKRUN_NOTHING);
+    }
+    IS(lockrun_take_session(&service, &ben), LOCKRUN_OK);
+    served_meanwhile(1, MOST + 1, MOST + 1);
+    IS(lockrun_give(&service, &station[0]), LOCKRUN_OK);
+    IS(lockrun_give(&service, &ann), LOCKRUN_OK);
+    IS(lockrun_give(&service, &ben), LOCKRUN_OK);
+    IS(lockrun_finish(&service, &journal), LOCKRUN_TOO_MANY);
+    IS(service.at != 0 || journal.at != 0, 0);
 }
 
 /* Stations forget while replies are still to be polled and a client waits. The service goes on, and has no journal. */
@@ -311,6 +333,7 @@ int main(void) {
     ends();
     lockrun_free(&service);
     whole_life();
+    too_many();
     forgetting();
     patience();
     forgetful();

@@ -45,10 +45,11 @@ enum lockrun_code {
     LOCKRUN_NO_MEMORY,
     LOCKRUN_BAD_ARGUMENT, /* a number out of range, or a command that names what the script doesn't have */
     LOCKRUN_BAD_SCRIPT,
-    LOCKRUN_SPENT,        /* the session's share of commands is used up */
+    LOCKRUN_SPENT,        /* the session's share of commands is used up: 2^59 by the number of clients */
     LOCKRUN_FULL,         /* the ring has no place now: try again later */
     LOCKRUN_LOG_FULL,     /* the node made as many moves as it may */
-    LOCKRUN_FORGOTTEN     /* a station has forgotten moves or commands */
+    LOCKRUN_FORGOTTEN,    /* a station has forgotten moves or commands */
+    LOCKRUN_TOO_MANY      /* more than 4,096 commands: no script has as many */
 };
 
 enum lockrun_reply {
@@ -62,9 +63,9 @@ enum lockrun_reply {
     LOCKRUN_BUSY
 };
 
-/* Opens the script's nodes, sets and clients; its commands are left out. Each node makes at most `limit` moves, and a
- * session's rings have `places` places. */
-uint32_t lockrun_open(const uint8_t *text, size_t length, uint32_t limit, uint32_t places, lockrun_service *service);
+/* Opens the script's nodes, sets and clients; its commands are left out. Each node makes at most `limit` moves, which is at
+ * most 2^55, and a session's rings have `places` places, at most 4,096. */
+uint32_t lockrun_open(const uint8_t *text, size_t length, uint64_t limit, uint32_t places, lockrun_service *service);
 
 /* The station of the next node, and the session of the next client, in the order of the script. */
 uint32_t lockrun_take_station(lockrun_service *service, lockrun_station *station);
@@ -74,9 +75,9 @@ uint32_t lockrun_take_session(lockrun_service *service, lockrun_session *session
  * LOCKRUN_NOTHING if there was none. */
 uint32_t lockrun_turn(lockrun_station *station);
 
-/* Forgets the moves and commands that the station has, but for commands that are still to be made, and frees their memory;
- * replies that are still to be polled stay. After LOCKRUN_NO_MEMORY it may have forgotten moves. The service goes on either
- * way, and has no journal then. */
+/* Forgets the moves and commands that the station has, but for commands that are still to be made: their memory serves
+ * further ones. Replies that are still to be polled stay. After LOCKRUN_NO_MEMORY it may have forgotten moves. The service
+ * goes on either way, and has no journal then. */
 uint32_t lockrun_forget(lockrun_station *station);
 
 /* Submits a command of this lockrun_kind. `first` is the mode, of LOCKRUN_CHANGE the mode that is held, of LOCKRUN_DROP the
@@ -84,10 +85,10 @@ uint32_t lockrun_forget(lockrun_station *station);
 uint32_t lockrun_submit(lockrun_session *session, uint32_t kind, uint8_t set, uint32_t first, uint32_t second);
 
 /* The next reply, or LOCKRUN_NOTHING. Of LOCKRUN_DROPPED `count` tells how many locks were dropped. */
-uint32_t lockrun_poll(lockrun_session *session, uint32_t *count);
+uint32_t lockrun_poll(lockrun_session *session, uint64_t *count);
 
 /* How many commands may still be submitted. */
-uint32_t lockrun_left(lockrun_session *session);
+uint64_t lockrun_left(lockrun_session *session);
 
 /* The number of the session's client, and that of its node; 0 of another handle. */
 uint32_t lockrun_client(lockrun_session *session);
@@ -100,7 +101,8 @@ uint32_t lockrun_give(lockrun_service *service, lockrun_handle *given);
  * were served so, and the service goes on: take the stations and sessions again. LOCKRUN_NOTHING if one of them is out. */
 uint32_t lockrun_served(lockrun_service *service, size_t *submitted, size_t *polled);
 
-/* Ends the service. `service` is {0} then, also without memory and after LOCKRUN_FORGOTTEN: then all is lost. */
+/* Ends the service. `service` is {0} then, also without memory, and after LOCKRUN_FORGOTTEN and LOCKRUN_TOO_MANY: then all
+ * is lost. */
 uint32_t lockrun_finish(lockrun_service *service, lockrun_journal *journal);
 
 /* Copies bytes of the journal, or of its script with the commands, from this one on, and tells how many. */

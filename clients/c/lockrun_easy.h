@@ -42,7 +42,8 @@ typedef struct {
 typedef struct lockrun_caller {
     lockrun_session session;
     lockrun_nodes *nodes;
-    uint32_t home, dropped; /* how many locks the last LOCKRUN_DROPPED was of */
+    uint64_t dropped; /* how many locks the last LOCKRUN_DROPPED was of */
+    uint32_t home;
     int waits;
 } lockrun_caller;
 
@@ -173,13 +174,13 @@ static inline uint32_t lockrun_add_caller(lockrun_nodes *nodes) {
     lockrun_caller *grown = (lockrun_caller *)realloc(nodes->caller, (nodes->callers + 1) * sizeof *grown);
     if (!grown) { lockrun_free(&session); return LOCKRUN_NO_MEMORY; }
     nodes->caller = grown;
-    lockrun_caller caller = {session, nodes, lockrun_home(&session), 0, 0};
+    lockrun_caller caller = {session, nodes, 0, lockrun_home(&session), 0};
     nodes->caller[nodes->callers++] = caller;
     return LOCKRUN_OK;
 }
 
 /* Opens all nodes of a script, with a caller for each client. `nodes` stays where it is until it is finished or freed. */
-static inline uint32_t lockrun_nodes_open(lockrun_nodes *nodes, const char *text, size_t length, uint32_t limit) {
+static inline uint32_t lockrun_nodes_open(lockrun_nodes *nodes, const char *text, size_t length, uint64_t limit) {
     memset(nodes, 0, sizeof *nodes);
     uint32_t code = lockrun_open((const uint8_t *)text, length, limit, 4, &nodes->service);
     while (code == LOCKRUN_OK) code = lockrun_add_node(nodes);

@@ -136,8 +136,8 @@ static void ask_all(void) {
     for (size_t k = 0; k < sizeof commands / sizeof *commands; k++) {
         lockrun_session *client = &session[commands[k].client];
         if (forgets) forget_all();
-        uint32_t dropped,
-            code = lockrun_submit(client, commands[k].kind, commands[k].set, commands[k].first, commands[k].second);
+        uint64_t dropped;
+        uint32_t code = lockrun_submit(client, commands[k].kind, commands[k].set, commands[k].first, commands[k].second);
         want(code == LOCKRUN_OK, "submit");
         rest();
         for (int each = 0; each < CLIENTS; each++)

@@ -12,9 +12,9 @@ import ctypes
 import os
 import threading
 import time
-from ctypes import POINTER, c_size_t, c_uint8, c_uint32
+from ctypes import POINTER, c_size_t, c_uint8, c_uint32, c_uint64
 
-OK, NOTHING, WRONG_HANDLE, NO_MEMORY, BAD_ARGUMENT, BAD_SCRIPT, SPENT, FULL, LOG_FULL, FORGOTTEN = range(10)
+OK, NOTHING, WRONG_HANDLE, NO_MEMORY, BAD_ARGUMENT, BAD_SCRIPT, SPENT, FULL, LOG_FULL, FORGOTTEN, TOO_MANY = range(11)
 LOCK, TRY, UNLOCK, CHANGE, DROP = range(5)
 GRANTED, TRUE, FALSE, UNLOCKED, NOT_HELD, CHANGED, DROPPED, BUSY = range(16, 24)
 MODES = ('intention_read', 'read', 'upgrade', 'intention_write', 'read_intention_write', 'write')
@@ -29,6 +29,7 @@ FAULTS = {
     SPENT: "the session's share of commands is used up",
     LOG_FULL: 'a node made as many moves as it may',
     FORGOTTEN: 'a node has forgotten moves or commands',
+    TOO_MANY: 'the nodes were asked for more than 4,096 commands, and have no journal',
     NOT_HELD: "the client doesn't hold this mode",
     BUSY: 'the client whose locks should be dropped waits',
 }
@@ -40,16 +41,16 @@ class Handle(ctypes.Structure):
 
 
 AT = POINTER(Handle)
-BYTES, COUNT, SIZE = POINTER(c_uint8), POINTER(c_uint32), POINTER(c_size_t)
+BYTES, COUNT, SIZE = POINTER(c_uint8), POINTER(c_uint64), POINTER(c_size_t)
 EXPORTS = {
-    'lockrun_open': (c_uint32, BYTES, c_size_t, c_uint32, c_uint32, AT),
+    'lockrun_open': (c_uint32, BYTES, c_size_t, c_uint64, c_uint32, AT),
     'lockrun_take_station': (c_uint32, AT, AT),
     'lockrun_take_session': (c_uint32, AT, AT),
     'lockrun_turn': (c_uint32, AT),
     'lockrun_forget': (c_uint32, AT),
     'lockrun_submit': (c_uint32, AT, c_uint32, c_uint8, c_uint32, c_uint32),
     'lockrun_poll': (c_uint32, AT, COUNT),
-    'lockrun_left': (c_uint32, AT),
+    'lockrun_left': (c_uint64, AT),
     'lockrun_client': (c_uint32, AT),
     'lockrun_home': (c_uint32, AT),
     'lockrun_give': (c_uint32, AT, AT),
@@ -98,7 +99,7 @@ def named(script, word):
 class Nodes:
     """The nodes of an open script, with a session for each client."""
 
-    def __init__(self, script, limit=1 << 20, library=None):
+    def __init__(self, script, limit=1 << 40, library=None):
         self.library = load(library or os.environ['LOCKRUN_LIBRARY'])
         self.sets, self.clients = named(script, 'set'), named(script, 'client')
         self.service, text = Handle(), script.encode()
@@ -138,8 +139,8 @@ class Nodes:
         return any([self.turn(node) for node in range(len(self.stations))])
 
     def forget(self):
-        """Lets each node forget its moves and commands, and frees their memory; then they have no journal. Other threads may be
-        in calls. Want of memory loses nothing."""
+        """Lets each node forget its moves and commands: their memory serves further ones. Then they have no journal. Other
+        threads may be in calls. Want of memory loses nothing."""
         for station, lock in self.stations:
             with lock:
                 said(self.library.lockrun_forget(station))
@@ -258,7 +259,7 @@ class Session:
 
     def _reply(self, patience):
         end = None if patience is None else time.monotonic() + patience
-        count, tries = c_uint32(), 0
+        count, tries = c_uint64(), 0
         while True:
             self.nodes.turn(self.home) if tries < OWN else self.nodes.turn_all()
             code = self.nodes.library.lockrun_poll(self.handle, count)

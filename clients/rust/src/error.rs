@@ -13,6 +13,8 @@ pub enum Error {
     LogFull,
     /// A node has forgotten moves or commands.
     Forgotten,
+    /// More than 4,096 commands: no script has as many.
+    TooMany,
     /// The client didn't hold the mode that it gives up.
     NotHeld,
     /// The client whose locks should be dropped waits.
@@ -33,6 +35,7 @@ impl Error {
             exports::SPENT => Error::Spent,
             exports::LOG_FULL => Error::LogFull,
             exports::FORGOTTEN => Error::Forgotten,
+            exports::TOO_MANY => Error::TooMany,
             exports::NOT_HELD => Error::NotHeld,
             exports::BUSY => Error::Busy,
             _ => Error::BadArgument,
@@ -49,6 +52,7 @@ impl fmt::Display for Error {
             Error::Spent => "the session's share of commands is used up",
             Error::LogFull => "a node made as many moves as it may",
             Error::Forgotten => "a node has forgotten moves or commands",
+            Error::TooMany => "the nodes were asked for more than 4,096 commands, and have no journal",
             Error::NotHeld => "the client doesn't hold this mode",
             Error::Busy => "the client whose locks should be dropped waits",
             Error::StillWaits => "the client still waits",

@@ -13,14 +13,14 @@ pub struct Handle {
 unsafe impl Send for Handle {}
 
 extern "C" {
-    pub fn lockrun_open(text: *const u8, length: usize, limit: u32, places: u32, service: *mut Handle) -> u32;
+    pub fn lockrun_open(text: *const u8, length: usize, limit: u64, places: u32, service: *mut Handle) -> u32;
     pub fn lockrun_take_station(service: *mut Handle, station: *mut Handle) -> u32;
     pub fn lockrun_take_session(service: *mut Handle, session: *mut Handle) -> u32;
     pub fn lockrun_turn(station: *mut Handle) -> u32;
     pub fn lockrun_forget(station: *mut Handle) -> u32;
     pub fn lockrun_submit(session: *mut Handle, kind: u32, set: u8, first: u32, second: u32) -> u32;
-    pub fn lockrun_poll(session: *mut Handle, count: *mut u32) -> u32;
-    pub fn lockrun_left(session: *mut Handle) -> u32;
+    pub fn lockrun_poll(session: *mut Handle, count: *mut u64) -> u32;
+    pub fn lockrun_left(session: *mut Handle) -> u64;
     pub fn lockrun_client(session: *mut Handle) -> u32;
     pub fn lockrun_home(session: *mut Handle) -> u32;
     pub fn lockrun_give(service: *mut Handle, given: *mut Handle) -> u32;
@@ -59,6 +59,7 @@ pub const SPENT: u32 = 6;
 pub const FULL: u32 = 7;
 pub const LOG_FULL: u32 = 8;
 pub const FORGOTTEN: u32 = 9;
+pub const TOO_MANY: u32 = 10;
 
 pub const LOCK: u32 = 0;
 pub const TRY: u32 = 1;

@@ -38,7 +38,7 @@ type Take = unsafe extern "C" fn(*mut Handle, *mut Handle) -> u32;
 
 /// Opens the script's nodes, sets and clients: its nodes, and a session for each client, in order. Each node makes at most
 /// `limit` moves.
-pub fn open(script: &str, limit: u32) -> Result<(Nodes, Vec<Session>), Error> {
+pub fn open(script: &str, limit: u64) -> Result<(Nodes, Vec<Session>), Error> {
     let mut service = Handle::NONE;
     // SAFETY: the text is borrowed for the call, and the handle stands for nothing.
     check(unsafe { exports::lockrun_open(script.as_ptr(), script.len(), limit, 4, &mut service) })?;
@@ -89,8 +89,8 @@ impl Stations {
 }
 
 impl Nodes {
-    /// Lets each node forget its moves and commands, and frees their memory; then they have no journal. Other threads may be in
-    /// calls. Want of memory loses nothing.
+    /// Lets each node forget its moves and commands: their memory serves further ones. Then they have no journal. Other
+    /// threads may be in calls. Want of memory loses nothing.
     pub fn forget(&self) -> Result<(), Error> {
         self.stations.0.iter().try_for_each(|station| {
             // SAFETY: the lock gives the handle to one call at a time.

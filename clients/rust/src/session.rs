@@ -66,7 +66,7 @@ impl Session {
     }
 
     /// How many commands may still be submitted.
-    pub fn left(&mut self) -> u32 {
+    pub fn left(&mut self) -> u64 {
         // SAFETY: the handle stands for something.
         unsafe { exports::lockrun_left(&mut self.raw) }
     }
@@ -98,7 +98,7 @@ impl Session {
     }
 
     /// Drops the locks of a client of the same node in the set's family: how many they were.
-    pub fn drop_locks(&mut self, set: u8, whose: u32) -> Result<u32, Error> {
+    pub fn drop_locks(&mut self, set: u8, whose: u32) -> Result<u64, Error> {
         match self.call(exports::DROP, set, whose, 0)? {
             (exports::DROPPED, count) => Ok(count),
             (code, _) => Err(Error::of(code)),
@@ -123,7 +123,7 @@ impl Session {
     }
 
     // A call that nobody can go on with later. A turn without memory loses nothing, so it is made again.
-    fn call(&mut self, kind: u32, set: u8, first: u32, second: u32) -> Result<(u32, u32), Error> {
+    fn call(&mut self, kind: u32, set: u8, first: u32, second: u32) -> Result<(u32, u64), Error> {
         self.submit(kind, set, first, second)?;
         loop {
             match self.reply(None) {
@@ -144,7 +144,7 @@ impl Session {
     }
 
     // The next reply, with its count.
-    fn reply(&mut self, patience: Option<Duration>) -> Result<(u32, u32), Error> {
+    fn reply(&mut self, patience: Option<Duration>) -> Result<(u32, u64), Error> {
         let end = patience.map(|patience| Instant::now() + patience);
         for tries in 0.. {
             let turned = self.help(tries);

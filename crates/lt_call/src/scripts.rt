@@ -1,4 +1,5 @@
-ghost use Rattle.std.specs.Prelude.{◌≡◌, ◌<◌, ◌-◌, ◌^◌, length, OnOk, IfErr};
+ghost use Rattle.std.specs.Prelude.{◌≡◌, ◌<◌, ◌-◌, ◌^◌, length, IfOk, OnOk, IfErr};
+ghost use Rattle.lt_spec.specs.Script.{IsShort};
 ghost use Rattle.lt_script.specs.declared.fault.ReadError.TheVariants as errors;
 ghost use Rattle.lt_script.specs.Reading.{Reads, read_of};
 
@@ -10,6 +11,7 @@ use std::alloc::Global;
 pub fn read_script(alloc: Global, bytes: &[u8]) -> Result<Script, ReadError>
     requires { length bytes.now < 2 ^ 32 - 1 }
     ensures read { Reads result (read_of bytes.now) }
+    ensures short { IfOk result IsShort }
     ensures some { OnOk result (0 < length bytes.now) }
     ensures memory { IfErr result (λ error. error ≡ errors.Memory → 0 < length bytes.now) }
 {

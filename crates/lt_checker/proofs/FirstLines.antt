@@ -33,9 +33,9 @@ pub no_digits : (bytes : List ℕ) → AreFirstDigits bytes 0 0
 no_digits [] = record { digits = refl; number_is = refl; few = omega arith; inside = omega arith }
 no_digits (x ∷ bytes) = record { digits = refl; number_is = refl; few = omega arith; inside = omega arith }
 
-pub small_value : (bytes : List ℕ) (k value : ℕ) → AreFirstDigits bytes k value → k < 9 → value < 10 ^ 8
+pub small_value : (bytes : List ℕ) (k value : ℕ) → AreFirstDigits bytes k value → k < 19 → value < 10 ^ 18
 small_value bytes k value is few =
-    omega (arith, is.number_is, few_digits (take k bytes) 8 is.digits (omega (arith, few, length-take-le k bytes is.inside)))
+    omega (arith, is.number_is, few_digits (take k bytes) 18 is.digits (omega (arith, few, length-take-le k bytes is.inside)))
 
 record IsDigit (byte : ℕ) : Type 0 where
   from : 48 ≤ byte
@@ -46,7 +46,7 @@ digit_range byte digit =
     let parts = and_parts (nat_le 48 byte) (nat_le byte 57) digit in
     record { from = leb-true 48 byte parts.0; to = leb-true byte 57 parts.1 }
 
-pub digit_more : (bytes : List ℕ) (k value : ℕ) → AreFirstDigits bytes k value → k < length bytes → k < 9 → is_ascii_digit (get_or bytes k 0) ≡ true
+pub digit_more : (bytes : List ℕ) (k value : ℕ) → AreFirstDigits bytes k value → k < length bytes → k < 19 → is_ascii_digit (get_or bytes k 0) ≡ true
     → AreFirstDigits bytes (k + 1) (value * 10 + (get_or bytes k 0 - 48))
 digit_more bytes k value is inside few digit =
     let range = digit_range (get_or bytes k 0) digit in
@@ -86,6 +86,7 @@ clock_parts bytes k number later is inside some other space rest =
     let size = length-take-le k bytes is.inside in
     let word : take k bytes ≡ decimal number =
     decimal_value (take k bytes) (ne_eqb (length (take k bytes)) 0 (λ e. some (omega (arith, e, size)))) (omega (arith, size, is.few)) is.digits (none_leads bytes k other)
+    (omega (arith, few_digits (take k bytes) 19 is.digits (omega (arith, size, is.few))))
     ∙ ap decimal (sym is.number_is) in
     parts_at bytes k 32 inside space
     ∙ (ap (λ (w : List ℕ). w ++ 32 ∷ drop (k + 1) bytes) word ∙ ap (λ (t : List ℕ). decimal number ++ 32 ∷ t) (sym rest))

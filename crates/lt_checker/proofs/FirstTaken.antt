@@ -73,7 +73,7 @@ begins_written script bytes later x is_script fits parts =
 due_fits : (script : ScriptData) (world : WorldData) (x : Line) (due : List Line) → IsPlace script world (x ∷ due) → FitsLine script x
 due_fits script world x due place =
     let begins = place.come.1 in
-    let all = all_so_far script place.come.0 (record { run = world.run; due = x ∷ due }) place.is_script begins in
+    let all = all_so_far script place.come.0 (record { run = world.run; due = x ∷ due }) place.is_script place.is_short begins in
     (fit_right (FitsLine script) begins.told (x ∷ due) (subst (AllByRecursion (FitsLine script)) (sym begins.parts) all)).0
 
 pub begins_due : (script : ScriptData) (world : WorldData) (all due : List Line) (x : Line) (bytes later : List ℕ) → all ≡ x ∷ due → IsPlace script world all

@@ -6,7 +6,7 @@ use Rattle.lt_io.specs.declared.whole.ReadFailure.{ReadFailure}
 use Rattle.lt_io.specs.declared.whole.ReadFailure.TheVariants.{Memory, Failed, TooLong as Long}
 use Rattle.lt_io.proofs.Pieces.{read_out, fails_later, some_given}
 use Rattle.lt_modes.specs.Script.{ScriptData}
-use Rattle.lt_spec.specs.Script.{IsScript}
+use Rattle.lt_spec.specs.Script.{IsScript, IsShort}
 use Rattle.lt_text.specs.Text.{cut_at, lines, words}
 use Rattle.lt_script.specs.Reading.{read_of, script_body, read_from}
 use Rattle.lt_journal.specs.declared.splitting.Parts.{Parts}
@@ -25,10 +25,10 @@ use Rattle.lt_checker.specs.declared.input.EndedRun.{EndedRun}
 use Rattle.lt_checker.proofs.Wanting.{ended_good}
 
 -- the first bad line of the journal in an input is that of the input
-pub bad_input : (script : ScriptData) (bytes : List ℕ) (before k : ℕ) → IsScript script → read_of (take (input_parts bytes).script bytes) ≡ Ok script
+pub bad_input : (script : ScriptData) (bytes : List ℕ) (before k : ℕ) → IsScript script → IsShort script → read_of (take (input_parts bytes).script bytes) ≡ Ok script
     → before ≡ (input_parts bytes).lines → checked script (lines (drop (input_parts bytes).journal bytes)) ≡ Err k → IsBad (Some bytes) (before + k)
-bad_input script bytes before k is_script read count e =
-    (script, is_script, read, (k, ap (λ (n : ℕ). n + k) count, first_bad script (lines (drop (input_parts bytes).journal bytes)) k is_script e))
+bad_input script bytes before k is_script short read count e =
+    (script, is_script, read, (k, ap (λ (n : ℕ). n + k) count, first_bad script (lines (drop (input_parts bytes).journal bytes)) k is_script short e))
 
 -- the first bytes of an input and those that come after them are all of it
 pub read_all : (first rest : List ℕ) (room : Option ℕ) (x y z : SourceState) → IsReadTo first room x y → IsRest room rest y z → ReadsOut (first ++ rest) x z
@@ -102,9 +102,9 @@ wants_whole first rest room x y z some head tail h =
 
 -- of an input that was accepted
 pub ended_wants : (first rest : List ℕ) (room : Option ℕ) (x y z : SourceState) (script : ScriptData) (world : WorldData) → 0 < length first → IsReadTo first room x y
-    → IsRest room rest y z → IsScript script → IsEndedRun (Some (first ++ rest)) script world → WantsMemory x z
-ended_wants first rest room x y z script world some head tail is_script ended =
-    wants_whole first rest room x y z some head tail (inr (ended_good (first ++ rest) script world is_script ended))
+    → IsRest room rest y z → IsScript script → IsShort script → IsEndedRun (Some (first ++ rest)) script world → WantsMemory x z
+ended_wants first rest room x y z script world some head tail is_script short ended =
+    wants_whole first rest room x y z some head tail (inr (ended_good (first ++ rest) script world is_script short ended))
 
 -- why the bytes say nothing is why the input does
 pub fails_whole : (first rest : List ℕ) (room : Option ℕ) (error : InputError) (x y z : SourceState) → 0 < length first → length first ≤ MAX_JOURNAL
@@ -188,9 +188,9 @@ whole_ok first rest room x y z (Err error) few head tail = tt
 whole_ok first rest room x y z (Ok ended) few head tail = read_whole first rest room x y z few head tail
 
 pub wants_ok : (first rest : List ℕ) (room : Option ℕ) (x y z : SourceState) (answer : Result EndedRun InputError) → 0 < length first → IsReadTo first room x y
-    → IsRest room rest y z → IfOk answer (λ ended. IsScript ended.script) → AnswersInput (first ++ rest) answer → OnOk answer (WantsMemory x z)
-wants_ok first rest room x y z (Err error) some head tail kept h = tt
-wants_ok first rest room x y z (Ok ended) some head tail kept h = ended_wants first rest room x y z ended.script ended.world some head tail kept h
+    → IsRest room rest y z → IfOk answer (λ ended. IsScript ended.script) → IfOk answer (λ ended. IsShort ended.script) → AnswersInput (first ++ rest) answer → OnOk answer (WantsMemory x z)
+wants_ok first rest room x y z (Err error) some head tail kept short h = tt
+wants_ok first rest room x y z (Ok ended) some head tail kept short h = ended_wants first rest room x y z ended.script ended.world some head tail kept short h
 
 pub fails_err : (first rest : List ℕ) (room : Option ℕ) (x y z : SourceState) (answer : Result EndedRun InputError) → 0 < length first → length first ≤ MAX_JOURNAL
     → IsReadTo first room x y → IsRest room rest y z → AnswersInput (first ++ rest) answer → IfErr answer (λ error. FailsInput error x z)

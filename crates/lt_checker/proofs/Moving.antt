@@ -135,6 +135,7 @@ pub due_place : (script : ScriptData) (world : WorldData) (all due : List Line) 
     → IsPlace script world due
 due_place script world all due x e place = record {
   is_script = place.is_script;
+  is_short = place.is_short;
   script_is = place.script_is;
   limit = place.limit;
   come = come_due script world.run x due (subst (λ (d : List Line). HasCome script (record { run = world.run; due = d })) e place.come);
@@ -151,7 +152,7 @@ pub record IsStepped (script : ScriptData) (world : WorldData) (node : ℕ) (ste
 -- no node has made 2^30 moves
 pub room_for_move : (script : ScriptData) (world : WorldData) (node : ℕ) → IsPlace script world [] → moves_of node world.run < world.limit
 room_for_move script world node place =
-    omega (arith, runs_are_short script world.run place.is_script place.come.1.is_run, count_by-le-length (is_of_node node) world.run, place.limit)
+    omega (arith, runs_are_short script world.run place.is_script place.is_short place.come.1.is_run, count_by-le-length (is_of_node node) world.run, place.limit)
 
 pub stepped : (script : ScriptData) (world : WorldData) (node : ℕ) (step : Step) (next : WorldData) → IsPlace script world []
     → is_enabled world.script (world_of world) node step ≡ true
@@ -219,6 +220,7 @@ next_is_place script world node step next line due s led =
     let entry = logged script (world_after script world.run) node step in
     record {
       is_script = s.place.is_script;
+      is_short = s.place.is_short;
       script_is = ap (λ (w : WorldData). w.script) s.next_is ∙ s.place.script_is;
       limit = ap (λ (w : WorldData). w.limit) s.next_is ∙ s.place.limit;
       come = come_moved script world.run line (record { run = next.run; due = due }) s.place.come led;

@@ -3,7 +3,7 @@ use Rattle.std.proofs.Common.{◌≡◌, ◌≢◌, ◌∙◌, ℕ, suc, ◌+◌
 use Rattle.std.proofs.lemmas.List.{length-map}
 use Rattle.lt_modes.specs.Script.{ScriptData}
 use Rattle.lt_spec.specs.World.{Logged}
-use Rattle.lt_spec.specs.Script.{IsScript}
+use Rattle.lt_spec.specs.Script.{IsScript, IsShort}
 use Rattle.lt_text.specs.Text.{cut_at, lines, put_front, is_filled, is_line_end, without_return}
 use Rattle.lt_journal.specs.Split.{input_parts}
 use Rattle.lt_law_journals.specs.Checking.{Place, Reader, Feed, led_to, read_at, read_on, place_after, is_complete, verdict, verdict_at, checked, new_feed, fed, fed_piece, line_ended, last_ended, ended}
@@ -83,11 +83,11 @@ bad_later script good k (Some place) e = by_end (is_complete script place.run pl
     by_end false at = let same : suc good ≡ k = cc in omega (arith, same)
 
 -- the lines before the last were read, and none of them was bad
-pub good_to_last : (script : ScriptData) (bytes : List ℕ) (feed : Feed) → IsScript script → feed ≡ fed_piece script (new_feed script) bytes → MayReadLast feed
+pub good_to_last : (script : ScriptData) (bytes : List ℕ) (feed : Feed) → IsScript script → IsShort script → feed ≡ fed_piece script (new_feed script) bytes → MayReadLast feed
     → AreGoodToLast script (lines bytes)
 unfolding lines
-good_to_last script bytes feed is_script is may k bad =
-    let told : ended script (fed_piece script (new_feed script) bytes) ≡ Err k = fed_all script bytes is_script ∙ refused script (lines bytes) k is_script bad in
+good_to_last script bytes feed is_script short is may k bad =
+    let told : ended script (fed_piece script (new_feed script) bytes) ≡ Err k = fed_all script bytes is_script short ∙ refused script (lines bytes) k is_script short bad in
     let last : verdict script (last_ended script feed).reader ≡ Err k = ap (ended script) is ∙ told in
     let later : suc feed.reader.good ≤ k = by_rest feed.rest refl last in
     let good : (fed_piece script (new_feed script) bytes).reader.place ≢ None = subst (λ (f : Feed). f.reader.place ≢ None) is may.good in
@@ -103,15 +103,15 @@ good_to_last script bytes feed is_script is may k bad =
         omega (arith, more, bad_later script after.good k after.place read)
 
 -- of a journal that was accepted no line is bad
-pub ended_good : (bytes : List ℕ) (script : ScriptData) (world : WorldData) → IsScript script → IsEndedRun (Some bytes) script world → IsGoodToLast bytes
-ended_good bytes script world is_script ended = record {
+pub ended_good : (bytes : List ℕ) (script : ScriptData) (world : WorldData) → IsScript script → IsShort script → IsEndedRun (Some bytes) script world → IsGoodToLast bytes
+ended_good bytes script world is_script short ended = record {
   script = script;
   is_script = is_script;
   denoted = ended.denoted;
   last = λ k bad.
       let all = lines (drop (input_parts bytes).journal bytes) in
-      let good : checked script all ≡ Ok world.run = ap (checked script) ended.accepted ∙ accepts script world.run is_script ended.finished in
-      absurd (not_both (checked script all) k world.run (refused script all k is_script bad) good);
+      let good : checked script all ≡ Ok world.run = ap (checked script) ended.accepted ∙ accepts script world.run is_script short ended.finished in
+      absurd (not_both (checked script all) k world.run (refused script all k is_script short bad) good);
 }
   where
     not_both : (told : Result (List Logged) ℕ) (k : ℕ) (run : List Logged) → told ≡ Err k → told ≡ Ok run → ⊥

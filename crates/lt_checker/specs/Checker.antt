@@ -2,7 +2,7 @@
 use Rattle.std.specs.Prelude.{◌≡◌, ◌≤◌, ℕ, length, List, Result, Ok, Err, Bool, true, false, Option, Some, None, ◌≢◌, [], option_map}
 use Rattle.lt_modes.specs.Script.{ScriptData}
 use Rattle.lt_spec.specs.World.{Logged}
-use Rattle.lt_spec.specs.Script.{IsScript}
+use Rattle.lt_spec.specs.Script.{IsScript, IsShort}
 use Rattle.lt_spec.specs.declared.moves.TheConstants.{MAX_MOVES}
 use Rattle.lt_text.specs.Text.{is_line_end, HasNone}
 use Rattle.lt_merge.specs.Merging.{RunData}
@@ -29,6 +29,7 @@ IsWorldAnswer script told (Err (Bad line)) = told ≡ Err line
 -- the world and the lines that are due are those of a place that a reader has come to
 pub record IsPlace (script : ScriptData) (world : WorldData) (due : List Line) : Type 0 where
   pub is_script : IsScript script
+  pub is_short : IsShort script
   pub script_is : world.script ≡ script
   pub limit : world.limit ≡ MAX_MOVES
   pub come : HasCome script (record { run = world.run; due = due })

@@ -1,6 +1,7 @@
 ghost use Rattle.std.specs.Prelude.{◌≡◌, ◌≢◌, [], ◌∷◌, ◌++◌, ◌≤◌, ℕ, List, length, take, Some, None, Err, IsNone, IsErr, IfOk, IfSome, OnOk, OnErr};
 ghost use Rattle.lt_text.specs.Text.{lines, without_return, is_line_end, HasNone};
 ghost use Rattle.lt_modes.specs.Script.{ScriptData};
+ghost use Rattle.lt_spec.specs.Script.{IsShort};
 ghost use Rattle.lt_law_journals.specs.Checking.{Reader as AnyReader, checked, read_on, Feed, new_feed, fed_piece, last_ended, ended};
 ghost use Rattle.lt_checker.specs.Checker.{AreGoodToLast, CheckerData, StandsFor, IsAnswer, IsMemory, MayReadOn, MayReadLast, with_piece, spent, IsWorldAnswer};
 ghost use Rattle.lt_checker.specs.First.{FeedsLine};
@@ -39,7 +40,7 @@ impl Model for Checker {
 }
 
 impl Checker {
-    /// A checker that has no bytes yet.
+    /// A checker that has no bytes yet. A script with more commands than a text may have is refused as memory is.
     pub fn new(alloc: Global, script: &Script) -> Result<Checker, AllocError>
         ensures checker { IfOk result (λ checker. checker ≡ record { script = script.now; feed = Some (new_feed script.now) }) }
         ensures stands { IfOk result (λ checker. StandsFor checker []) }
@@ -110,6 +111,7 @@ impl Checker {
 // Ends a last line that has no line end.
 fn end_last_line(mut reader: Reader, rest: &mut ArrayVec<u8, 201>) -> Result<Reader, AllocError>
     ensures script { IfOk result (λ after. after.script ≡ reader.script) }
+    ensures short { IsShort reader.script }
     ensures ended { IfOk result (λ after. after.reader
         ≡ (last_ended reader.script (record { reader = reader.reader; rest = rest.old.items })).reader) }
     ensures cause { IsErr result → MayReadLast (record { reader = reader.reader; rest = rest.old.items }) }

@@ -1,7 +1,7 @@
 ghost use Rattle.std.specs.Prelude.{◌≡◌, ◌*◌, ◌≤◌, ◌++◌, ℕ, List, Ok, take, drop, length, IfOk, OnOk, IfErr};
 ghost use Rattle.lt_io.specs.Streams.{IsReadWhole};
 ghost use Rattle.lt_text.specs.Text.{lines};
-ghost use Rattle.lt_spec.specs.Script.{IsScript};
+ghost use Rattle.lt_spec.specs.Script.{IsScript, IsShort};
 ghost use Rattle.lt_script.specs.Reading.{read_of};
 ghost use Rattle.lt_journal.specs.Split.{ArePassed, input_parts};
 ghost use Rattle.lt_checker.specs.declared.limits.TheConstants.{MAX_JOURNAL};
@@ -32,6 +32,7 @@ pub struct EndedRun {
 pub fn check_input<S: Source>(alloc: Global, source: &mut S) -> Result<EndedRun, InputError>
     ensures told { IfOk result (λ ended. IsEndedRun (S.state source.old).left ended.script ended.world) }
     ensures kept { IfOk result (λ ended. IsScript ended.script) }
+    ensures short { IfOk result (λ ended. IsShort ended.script) }
     ensures whole { OnOk result (IsReadWhole MAX_JOURNAL (S.state source.old) (S.state source.new)) }
     ensures err { IfErr result (λ error. FailsInput error (S.state source.old) (S.state source.new)) }
     ensures memory { OnOk result (WantsMemory (S.state source.old) (S.state source.new)) }
@@ -61,6 +62,7 @@ fn judged<S: Source>(
     requires room { IsRoom room }
     ensures answer { IfOk result (λ answer. (rest : List ℕ) × AnswersInput (bytes.now ++ rest) answer × IsRest room rest (S.state source.old) (S.state source.new)) }
     ensures kept { IfOk result (λ answer. IfOk answer (λ ended. IsScript ended.script)) }
+    ensures short { IfOk result (λ answer. IfOk answer (λ ended. IsShort ended.script)) }
     ensures err { IfErr result (λ why. FailsRest room why (S.state source.old) (S.state source.new)) }
 {
     let parts = split_from(bytes, last.place, last.before);
@@ -114,6 +116,7 @@ fn answered(
     requires few { before ≤ MAX_JOURNAL }
     requires line { IsLineOf (2 * MAX_JOURNAL) told }
     requires kept { IsScript script }
+    requires short { IsShort script }
     ensures answer { (bytes : List ℕ) → read_of (take (input_parts bytes).script bytes) ≡ Ok script → before ≡ (input_parts bytes).lines
         → IsJournalAnswer script (lines (drop (input_parts bytes).journal bytes)) told → AnswersInput bytes result }
     ensures script { IfOk result (λ ended. ended.script ≡ script) }

@@ -15,7 +15,7 @@ use lt_script::Script;
 const LONG: usize = 64;
 
 /// What the line says that the bytes begin with, if it is found as that of a move, and what stands after its line end.
-/// One whose clock has ten digits isn't, nor one near the end of the bytes.
+/// One whose clock has twenty digits isn't, nor one near the end of the bytes.
 #[inline(always)]
 #[tactic(auto, using(crate::proofs::FirstLines::move_parts))]
 pub(crate) fn first_move<'a>(script: &Script, bytes: &'a [u8]) -> Option<(Line, &'a [u8])>
@@ -35,19 +35,15 @@ pub(crate) fn first_move<'a>(script: &Script, bytes: &'a [u8]) -> Option<(Line, 
     let (clock, words) = first_clock(words)?;
     let (node, words) = first_node(script, words, b' ')?;
     let (step, later) = first_step(script, words)?;
-    let line = Line::Move {
-        clock: u64::from(clock),
-        node,
-        step,
-    };
+    let line = Line::Move { clock, node, step };
     Some((line, later))
 }
 
 // The number of a clock that the bytes begin with, and what stands after the space behind it.
 #[inline(always)]
 #[tactic(auto, using(crate::proofs::FirstLines::clock_parts))]
-fn first_clock(bytes: &[u8]) -> Option<(u32, &[u8])>
-    requires { 10 ≤ length bytes.now }
+fn first_clock(bytes: &[u8]) -> Option<(u64, &[u8])>
+    requires { 20 ≤ length bytes.now }
     ensures { IfSome result (λ found. bytes.now ≡ decimal found.0 ++ 32 ∷ found.1.now) }
 {
     let (number, count) = clock_digits(bytes);
@@ -58,16 +54,16 @@ fn first_clock(bytes: &[u8]) -> Option<(u32, &[u8])>
     Some((number, later))
 }
 
-// The number of the first digits, nine at most, and how many they are.
+// The number of the first digits, nineteen at most, and how many they are.
 #[inline(always)]
-fn clock_digits(bytes: &[u8]) -> (u32, usize)
-    requires { 10 ≤ length bytes.now }
+fn clock_digits(bytes: &[u8]) -> (u64, usize)
+    requires { 20 ≤ length bytes.now }
     ensures { AreFirstDigits bytes.now result.1 result.0 }
 {
-    let mut number: u32 = 0;
+    let mut number: u64 = 0;
     let mut count = 0;
-    while count < 9 && bytes[count].is_ascii_digit() {
-        number = number * 10 + u32::from(bytes[count] - b'0');
+    while count < 19 && bytes[count].is_ascii_digit() {
+        number = number * 10 + u64::from(bytes[count] - b'0');
         count += 1;
     }
     (number, count)

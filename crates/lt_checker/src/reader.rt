@@ -1,7 +1,7 @@
 mod first;
 
 ghost use Rattle.std.specs.Prelude.{◌≡◌, ◌≢◌, None, IfOk, OnOk, IsTrue, IsFalse, IsErr};
-ghost use Rattle.lt_spec.specs.Script.{IsScript};
+ghost use Rattle.lt_spec.specs.Script.{IsScript, IsShort};
 ghost use Rattle.lt_law_journals.specs.Checking.{first_reader, read_on, verdict};
 ghost use Rattle.lt_checker.specs.Checker.{IsAnswer, IsMemory, IsWorldAnswer};
 
@@ -11,7 +11,7 @@ use crate::following::follow;
 use lt_journal::{Text, Wording};
 use lt_merge::Run;
 use lt_script::Script;
-use lt_spec::MAX_MOVES;
+use lt_spec::{MAX_COMMANDS, MAX_MOVES};
 use lt_world::World;
 use std::alloc::{AllocError, Global};
 use std::collections::VecDeque;
@@ -33,7 +33,7 @@ pub(crate) struct Reader {
 
 impl Model for Reader {
     ghost use Rattle.std.specs.Prelude.{◌<◌, ◌+◌, ◌^◌};
-    ghost use Rattle.lt_spec.specs.Script.{IsScript};
+    ghost use Rattle.lt_spec.specs.Script.{IsScript, IsShort};
     ghost use Rattle.lt_checker.specs.Checker.{ReaderData, KeepsPlace, place_now};
     ghost use Rattle.lt_checker.specs.Due.{due_lines};
 
@@ -47,15 +47,18 @@ impl Model for Reader {
       };
     } };
 
-    ghost invariant = { λ r. IsScript r.wording × (r.good + 1 < 2 ^ 32)
+    ghost invariant = { λ r. IsScript r.wording × IsShort r.wording × (r.good + 1 < 2 ^ 32)
         × KeepsPlace r.bad r.wording r.world (due_lines r.wording r.world.run r.due.told r.due.later.items) };
 }
 
 impl Reader {
-    /// Before the first line.
+    /// Before the first line. A script with more commands than a text may have is refused as memory is.
     pub(crate) fn new(alloc: Global, script: &Script) -> Result<Reader, AllocError>
         ensures { IfOk result (λ reader. reader ≡ record { script = script.now; reader = first_reader script.now }) }
     {
+        if script.commands() > u64::from(MAX_COMMANDS) {
+            return Err(AllocError);
+        }
         let world = World::new(alloc, script, MAX_MOVES)?;
         let mut later = VecDeque::new(alloc);
         push_first(&mut later, script)?;
@@ -116,6 +119,7 @@ impl Reader {
     pub(crate) fn finish(self) -> Result<Run, ReplayError>
         ensures answers { IsAnswer (verdict self.script self.reader) result }
         ensures is_script { IsScript self.script }
+        ensures is_short { IsShort self.script }
     {
         Ok(self.finish_world()?.into_run())
     }
@@ -125,6 +129,7 @@ impl Reader {
         ensures answers { IsWorldAnswer self.script (verdict self.script self.reader) result }
         ensures told { ¬ IsMemory result }
         ensures is_script { IsScript self.script }
+        ensures is_short { IsShort self.script }
     {
         if self.bad || !self.due.is_none(self.world.run()) || !self.world.at_rest() {
             return Err(ReplayError::Bad {

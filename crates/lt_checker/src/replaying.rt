@@ -10,7 +10,8 @@ use lt_merge::Run;
 use lt_script::Script;
 use std::alloc::{AllocError, Global};
 
-/// The run whose journal this is, or the first bad line of the journal.
+/// The run whose journal this is, or the first bad line of the journal. A script with more commands than a text may have
+/// is refused as memory is.
 pub fn replay(alloc: Global, script: &Script, journal: &Journal) -> Result<Run, ReplayError>
     ensures said { IsAnswer (checked_said script.now journal.now) result }
     ensures read { (all : List (List ℕ)) → journal.now ≡ map (read_line script.now) all

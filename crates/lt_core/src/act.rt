@@ -166,7 +166,7 @@ impl Core {
     }
 
     // All locks of the client go; answers how many.
-    fn drop_all(&mut self, client: u16, stamp: Stamp) -> u32
+    fn drop_all(&mut self, client: u16, stamp: Stamp) -> u64
         requires room { HasRoom 1 stamp.clock self.old }
         ensures count { result ≡ locks_of self.old.state.held client }
         ensures state { self.new.state ≡ dropped client self.old.state }

@@ -13,7 +13,7 @@ use lt_modes::Ask;
 use std::collections::VecDeque;
 
 /// The greatest clock: no move is made at it, and no letter of it is taken.
-pub const LAST_CLOCK: u64 = 4_294_967_295;
+pub const LAST_CLOCK: u64 = (1 << 62) - 1;
 
 impl Core {
     /// Whether the node, with this clock, can be sent the letter. Takes no memory.
@@ -155,7 +155,7 @@ fn head_fits(clock: u64, letter: &Letter, numbers: &Numbers) -> bool
 }
 
 fn is_early(clock: u64) -> bool
-    ensures { result ≡ nat_lt (clock + 1) (2 ^ 32) }
+    ensures { result ≡ nat_lt (clock + 1) (2 ^ 62) }
 {
     clock < LAST_CLOCK
 }

@@ -12,7 +12,7 @@ use std::collections::VecDeque;
 
 impl Core {
     /// Whether no more locks than that are held.
-    pub fn holds_at_most(&self, locks: u32) -> bool
+    pub fn holds_at_most(&self, locks: u64) -> bool
         ensures { result ≡ nat_le (locks_in self.now.state.held) locks }
     {
         self.held.holds_at_most(locks)

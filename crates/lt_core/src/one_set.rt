@@ -168,7 +168,7 @@ impl Core {
     }
 
     /// How many locks the client holds.
-    pub fn held_count(&self, client: u16) -> u32
+    pub fn held_count(&self, client: u16) -> u64
         ensures { result ≡ locks_of self.now.state.held client }
     {
         self.held.locks_of(client)

@@ -23,7 +23,7 @@ pub enum Answer {
     NotHeld,
     Changed,
     /// So many locks were dropped.
-    Dropped(u32),
+    Dropped(u64),
     /// The client whose locks were to be dropped waits.
     Busy,
 }

@@ -13,7 +13,7 @@ use lt_modes::{Ask, Mode};
 // What a client of the set holds and waits for, and behind whose asks.
 impl Core {
     /// How many locks of the mode the client holds.
-    pub fn count(&self, client: u16, mode: Mode) -> u32
+    pub fn count(&self, client: u16, mode: Mode) -> u64
         ensures { result ≡ count_of self.now.state.held client mode }
     {
         self.held.count(client, mode)

@@ -14,7 +14,7 @@ use Rattle.rand_pcg.specs.Lcg.{Lcg}
 use Rattle.lt_modes.specs.Script.{ScriptData, ClientData, SetData}
 use Rattle.lt_modes.specs.declared.command.Command.{Command}
 use Rattle.lt_lists.proofs.AllLemmas.{all_append, all_map}
-use Rattle.lt_spec.specs.Script.{is_name, is_name_byte, is_declared, load_of, IsScript, IsRequest, HasModesOf}
+use Rattle.lt_spec.specs.Script.{is_name, is_name_byte, is_declared, load_of, IsScript, IsShort, IsRequest, HasModesOf}
 use Rattle.lt_text.specs.Number.{are_digits}
 use Rattle.lt_text.proofs.NumberLemmas.{decimal_are_digits}
 use Rattle.lt_script.proofs.NameLemmas.{found_never}
@@ -284,3 +284,8 @@ is_script nodes clients commands seed possible =
       requests = All-from_recursion (IsRequest four_sets (clients_of nodes clients)) _ (all_requests (clients_of nodes clients) commands clients commands 0 (seeded seed) can.some_client (sym (clients_counted nodes clients)));
       modes = All-from_recursion NamesFirstModes _ (all_modes commands clients commands 0 (seeded seed));
     }
+
+pub is_short : (nodes clients commands seed : ℕ) → IsTrue (can_make nodes clients commands) → IsShort (script_of nodes clients commands seed)
+is_short nodes clients commands seed possible =
+    let can = sizes_of nodes clients commands possible in
+    omega (arith, all_of_them clients commands seed, can.few_commands)

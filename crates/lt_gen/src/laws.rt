@@ -1,5 +1,5 @@
 ghost use Rattle.std.specs.Prelude.{◌≡◌, ℕ, Ok, IsTrue};
-ghost use Rattle.lt_spec.specs.Script.{IsScript};
+ghost use Rattle.lt_spec.specs.Script.{IsScript, IsShort};
 ghost use Rattle.lt_script.specs.Printing.{print_of};
 ghost use Rattle.lt_script.specs.Reading.{read_of};
 ghost use Rattle.lt_gen.specs.Sizes.{can_make};
@@ -12,6 +12,8 @@ use lt_script::law_print;
 pub fn law_generated()
     ensures script { (nodes clients commands seed : ℕ) → IsTrue (can_make nodes clients commands)
         → IsScript (script_of nodes clients commands seed) }
+    ensures short { (nodes clients commands seed : ℕ) → IsTrue (can_make nodes clients commands)
+        → IsShort (script_of nodes clients commands seed) }
     ensures sizes { (nodes clients commands seed : ℕ)
         → HasSizes nodes 4 clients commands (script_of nodes clients commands seed) }
     ensures read_back { (nodes clients commands seed : ℕ) → IsTrue (can_make nodes clients commands)

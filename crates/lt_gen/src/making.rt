@@ -1,5 +1,5 @@
 ghost use Rattle.std.specs.Prelude.{◌≡◌, ◌<◌, ◌≤◌, ◌*◌, ◌+◌, ◌++◌, ◌∷◌, [], map, length, All, IfOk, OnOk, IsTrue};
-ghost use Rattle.lt_spec.specs.Script.{IsScript, IsRequest, HasModesOf};
+ghost use Rattle.lt_spec.specs.Script.{IsScript, IsShort, IsRequest, HasModesOf};
 ghost use Rattle.lt_spec.specs.declared.limits.TheConstants.{MAX_CLIENTS_OF_FIRST, MAX_CLIENTS_OF_NODE, MAX_COMMANDS};
 ghost use Rattle.lt_gen.specs.Sizes.{can_make};
 ghost use Rattle.lt_gen.specs.Generator.{four_sets, drawn_client, clients_of, requests_in, script_of, HasSizes};
@@ -26,6 +26,7 @@ pub fn script(
     ensures made { IfOk result (λ s. s ≡ script_of nodes clients commands seed) }
     ensures sizes { IfOk result (HasSizes nodes 4 clients commands) }
     ensures kept { IfOk result IsScript }
+    ensures short { IfOk result IsShort }
 {
     let mut script = Script::new(alloc, nodes)?;
     add_sets(&mut script)?;
@@ -66,7 +67,7 @@ fn client_name(alloc: Global, client: u16) -> Result<Vec<u8>, AllocError>
     ensures { IfOk result (λ name. name.items ≡ drawn_client client) }
 {
     let mut name = Vec::from_slice(alloc, b"c")?;
-    push_number(&mut name, u32::from(client))?;
+    push_number(&mut name, u64::from(client))?;
     Ok(name)
 }
 

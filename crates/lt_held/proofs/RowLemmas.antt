@@ -113,9 +113,9 @@ count_bounded rows client mode h = by_place (row_place rows client mode) refl
 
 -- a client has at most one row of each mode
 pub few_locks : (rows : List Row) (client : ℕ) → AreRows rows → locks_of rows client ≤ length modes_in_order * most_locks
-few_locks rows client h = omega (arith, locks_by_mode rows client, sum_by-most (λ (mode : Mode). total rows client mode) 65536 modes_in_order in_mode)
+few_locks rows client h = omega (arith, locks_by_mode rows client, sum_by-most (λ (mode : Mode). total rows client mode) most_locks modes_in_order in_mode)
   where
-    in_mode : (mode : Mode) → total rows client mode ≤ 65536
+    in_mode : (mode : Mode) → total rows client mode ≤ most_locks
     in_mode mode = omega (arith, total_counted rows client mode h, count_bounded rows client mode h)
 
 -- the locks in the rows from place k on

@@ -1,5 +1,5 @@
 -- What a node keeps of held locks.
-use Rattle.std.specs.Prelude.{◌≤◌, ℕ, List, All, count_by}
+use Rattle.std.specs.Prelude.{◌≤◌, ◌^◌, ℕ, List, All, count_by}
 use Rattle.lt_modes.specs.declared.mode.Mode.{Mode}
 use Rattle.lt_modes.specs.declared.parts.Row.{Row}
 use Rattle.lt_modes.specs.Modes.{is_row_of, count_of, locks_of, locks_in}
@@ -9,9 +9,9 @@ pub record HeldData : Type 0 where
   -- for how many rows more there is room, at least
   pub spare : ℕ
 
--- the most locks of one mode that a client may hold in a set
+-- the most locks of one mode that a client may hold in a set: those of all modes and of eight sets are counted in 64 bits
 abbrev pub most_locks : ℕ
-most_locks = 65536
+most_locks = 2 ^ 60
 
 -- the row holds some lock, and not too many
 pub record IsCounted (row : Row) : Type 0 where

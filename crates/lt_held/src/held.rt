@@ -49,7 +49,7 @@ impl Held {
     }
 
     /// How many locks of the mode the client holds.
-    pub fn count(&self, client: u16, mode: Mode) -> u32
+    pub fn count(&self, client: u16, mode: Mode) -> u64
         ensures count { result ≡ count_of self.now.rows client mode }
         ensures within { result ≤ locks_in self.now.rows }
         ensures bounded { result ≤ most_locks }
@@ -62,14 +62,14 @@ impl Held {
     }
 
     /// How many locks the client holds.
-    pub fn locks_of(&self, client: u16) -> u32
+    pub fn locks_of(&self, client: u16) -> u64
         ensures { result ≡ locks_of self.now.rows client }
     {
         rows::locks(&self.rows, client)
     }
 
     /// Whether no more locks than that are held.
-    pub fn holds_at_most(&self, locks: u32) -> bool
+    pub fn holds_at_most(&self, locks: u64) -> bool
         ensures { result ≡ nat_le (locks_in self.now.rows) locks }
     {
         rows::hold_at_most(&self.rows, locks)
@@ -170,7 +170,7 @@ impl Held {
     }
 
     /// Drops all locks of the client, and answers how many.
-    pub fn drop_all(&mut self, client: u16) -> u32
+    pub fn drop_all(&mut self, client: u16) -> u64
         ensures dropped { result ≡ locks_of self.old.rows client }
         ensures rows { self.new.rows ≡ without_client self.old.rows client }
         ensures total { locks_in self.old.rows ≡ locks_in self.new.rows + result }

@@ -49,7 +49,7 @@ pub(crate) fn other_modes(rows: &[Row], client: u16) -> ModeSet
 
 /// How many locks the client holds.
 #[tactic(auto, using(crate::proofs::RowLemmas::few_locks, crate::proofs::RowLemmas::locks_more))]
-pub(crate) fn locks(rows: &[Row], client: u16) -> u32
+pub(crate) fn locks(rows: &[Row], client: u16) -> u64
     requires { AreRows rows.now }
     ensures { result ≡ locks_of rows.now client }
 {
@@ -63,7 +63,7 @@ pub(crate) fn locks(rows: &[Row], client: u16) -> u32
 }
 
 /// Whether no more locks than that are held.
-pub(crate) fn hold_at_most(rows: &[Row], locks: u32) -> bool
+pub(crate) fn hold_at_most(rows: &[Row], locks: u64) -> bool
     ensures { result ≡ nat_le (locks_in rows.now) locks }
 {
     let mut left = locks;

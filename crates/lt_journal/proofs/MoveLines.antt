@@ -60,11 +60,11 @@ pub no_digits : (words : List ℕ) → AreFirstDigits words 0 0
 no_digits [] = record { digits = refl; number_is = refl; few = omega arith; inside = omega arith }
 no_digits (x ∷ words) = record { digits = refl; number_is = refl; few = omega arith; inside = omega arith }
 
-pub small_value : (words : List ℕ) (k value : ℕ) → AreFirstDigits words k value → k < 9 → value < 10 ^ 8
+pub small_value : (words : List ℕ) (k value : ℕ) → AreFirstDigits words k value → k < 19 → value < 10 ^ 18
 small_value words k value is few =
-    omega (arith, is.number_is, few_digits (take k words) 8 is.digits (omega (arith, few, length-take-le k words is.inside)))
+    omega (arith, is.number_is, few_digits (take k words) 18 is.digits (omega (arith, few, length-take-le k words is.inside)))
 
-pub digit_more : (words : List ℕ) (k value : ℕ) → AreFirstDigits words k value → k < length words → k < 9 → is_ascii_digit (get_or words k 0) ≡ true
+pub digit_more : (words : List ℕ) (k value : ℕ) → AreFirstDigits words k value → k < length words → k < 19 → is_ascii_digit (get_or words k 0) ≡ true
     → AreFirstDigits words (k + 1) (value * 10 + (get_or words k 0 - 48))
 digit_more words k value is inside few digit =
     let parts = and_parts (nat_le 48 (get_or words k 0)) (nat_le (get_or words k 0) 57) digit in
@@ -91,15 +91,15 @@ leading (x ∷ words) (suc (suc k)) other = rw (ne_eqb x 48 (other (omega arith)
     and_false true = refl
     and_false false = refl
 
-exact_short : (word : List ℕ) → 0 < length word → length word ≤ 9 → are_digits word ≡ true → has_leading_zero word ≡ false
+exact_short : (word : List ℕ) → 0 < length word → length word ≤ 19 → are_digits word ≡ true → has_leading_zero word ≡ false
     → exact_number word ≡ Some (digits_value 10 word)
 exact_short word some few digits none =
     rw (
       lt-ltb 0 (length word) some,
-      le-leb (length word) 10 (omega (arith, few)),
+      le-leb (length word) 20 (omega (arith, few)),
       digits,
       none,
-      lt-ltb (digits_value 10 word) (2 ^ 32) (omega (arith, few_digits word 9 digits few)),
+      lt-ltb (digits_value 10 word) (2 ^ 64) (omega (arith, few_digits word 19 digits few)),
     ) refl
 
 -- the number ends at a space

@@ -42,15 +42,15 @@ by_word P word other x y f g = elim (cases_Bool (bytes_eq word other)) [
 ]
 
 pub number_found : (word : List ℕ) (n : ℕ) → exact_number word ≡ Some n → decimal n ≡ word
-number_found word n e = elim (cases_Bool (is_numeral word 10 && not (has_leading_zero word) && nat_lt (digits_value 10 word) (2 ^ 32))) [
+number_found word n e = elim (cases_Bool (is_numeral word 20 && not (has_leading_zero word) && nat_lt (digits_value 10 word) (2 ^ 64))) [
   | inl is ↦
       let value : digits_value 10 word ≡ n = let h = rw is at e in cc in
-      let outer = and_parts (is_numeral word 10 && not (has_leading_zero word)) (nat_lt (digits_value 10 word) (2 ^ 32)) is in
-      let numeral = and_parts (is_numeral word 10) (not (has_leading_zero word)) outer.0 in
-      let parts = and_parts (nat_lt 0 (length word) && nat_le (length word) 10) (are_digits word) numeral.0 in
-      let sizes = and_parts (nat_lt 0 (length word)) (nat_le (length word) 10) parts.0 in
+      let outer = and_parts (is_numeral word 20 && not (has_leading_zero word)) (nat_lt (digits_value 10 word) (2 ^ 64)) is in
+      let numeral = and_parts (is_numeral word 20) (not (has_leading_zero word)) outer.0 in
+      let parts = and_parts (nat_lt 0 (length word) && nat_le (length word) 20) (are_digits word) numeral.0 in
+      let sizes = and_parts (nat_lt 0 (length word)) (nat_le (length word) 20) parts.0 in
       let some = ltb-true 0 (length word) sizes.0 in
-      sym (decimal_value word (ne_eqb (length word) 0 (λ h. omega (arith, h, some))) (leb-true (length word) 10 sizes.1) parts.1 (not-true (has_leading_zero word) numeral.1)
+      sym (decimal_value word (ne_eqb (length word) 0 (λ h. omega (arith, h, some))) (leb-true (length word) 20 sizes.1) parts.1 (not-true (has_leading_zero word) numeral.1) (ltb-true (digits_value 10 word) (2 ^ 64) outer.1)
       ∙ ap decimal value)
   | inr other ↦ absurd (let h = rw other at e in cc)
 ]
@@ -154,7 +154,7 @@ few_nodes script is_script = omega (arith, is_script.few_nodes)
 
 -- a node or another small number is plain
 plain_number : (n : ℕ) → IsNumber n → IsPlain (decimal n)
-plain_number n small = plain_decimal n (omega arith)
+plain_number n small = plain_decimal n small
 
 plain_set : (script : ScriptData) (set : ℕ) → IsNamed script → set < length script.sets → IsPlain (set_name script set)
 plain_set script set named has_set = plain (set_name script set) (named.plain_sets set has_set)

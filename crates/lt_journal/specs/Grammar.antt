@@ -155,11 +155,11 @@ abbrev pub client_told : ScriptData → List (List ℕ) → Option ℕ
 client_told script (word ∷ []) = client_number script word
 client_told script words = None
 
--- the first bytes, so many and nine at most, are the digits of this number
+-- the first bytes, so many and nineteen at most, are the digits of this number
 pub record AreFirstDigits (bytes : List ℕ) (count number : ℕ) : Type 0 where
   pub digits : are_digits (take count bytes) ≡ true
   pub number_is : number ≡ digits_value 10 (take count bytes)
-  pub few : count ≤ 9
+  pub few : count ≤ 19
   pub inside : count ≤ length bytes
 
 -- the first of these words is this number, and further ones follow, which these bytes have; or that isn't so

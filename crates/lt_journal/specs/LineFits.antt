@@ -10,7 +10,7 @@ use Rattle.lt_journal.specs.declared.line.Line.TheVariants.{Version, Move as Mov
 
 -- what a number in a line is below
 abbrev pub IsNumber : ℕ → Type 0
-IsNumber n = n < 2 ^ 32
+IsNumber n = n < 2 ^ 64
 
 -- the set is of the script
 abbrev pub HasSet : ScriptData → ℕ → Type 0

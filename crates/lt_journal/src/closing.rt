@@ -34,7 +34,8 @@ pub(crate) fn lines_at_rest(
     held_lines(&mut lines, script, tally)?;
     waiting_lines(&mut lines, script, tally)?;
     owner_lines(&mut lines, script, tally)?;
-    push_line(&mut lines, Line::End { count: run.len() })?;
+    let moves = u64::from(run.len());
+    push_line(&mut lines, Line::End { count: moves })?;
     Ok(lines)
 }
 

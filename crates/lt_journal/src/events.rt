@@ -78,7 +78,7 @@ fn further_words(text: &mut Text, script: &Script, event: Event) -> Result<(), A
     match event {
         Event::Try { got, .. } => text.word(if got { b"true" } else { b"false" }),
         Event::Change { mode, .. } => text.word(mode.word().as_bytes()),
-        Event::DropAll { count, .. } => text.number(u64::from(count)),
+        Event::DropAll { count, .. } => text.number(count),
         Event::Copy { client, mode, .. } => {
             text.word(client_name(script, client))?;
             text.word(mode.word().as_bytes())

@@ -77,12 +77,12 @@ fn line_of_four(script: &Script, word: &[u8], a: &[u8], b: &[u8], c: &[u8]) -> O
     } else if is(word, "token") {
         let set = script.set_number(a)?;
         let to = node(script, b)?;
-        let epoch = u64::from(exact_number(c)?);
+        let epoch = exact_number(c)?;
         Some(Line::Event(Event::Token { set, to, epoch }))
     } else if is(word, "owner") {
         let set = script.set_number(a)?;
         let node = node(script, b)?;
-        let epoch = u64::from(exact_number(c)?);
+        let epoch = exact_number(c)?;
         Some(Line::Owner { set, node, epoch })
     } else {
         lock_line(word, lock(script, a, b, c)?)
@@ -121,7 +121,7 @@ fn line_of_five(
     ensures { unwrap_or result Bad ≡ line_of_five script.now word.now a.now b.now c.now d.now }
 {
     if is(word, "move") {
-        let clock = u64::from(exact_number(a)?);
+        let clock = exact_number(a)?;
         let node = node(script, b)?;
         let step = step(script, c, d)?;
         Some(Line::Move { clock, node, step })
@@ -181,7 +181,7 @@ fn lock_and_line(word: &[u8], lock: Holding, d: &[u8]) -> Option<Line>
             mode: to,
         }))
     } else if is(word, "held") {
-        let count = u64::from(exact_number(d)?);
+        let count = exact_number(d)?;
         Some(Line::Held {
             client,
             set,
@@ -199,7 +199,7 @@ fn freeze(script: &Script, a: &[u8], b: &[u8], c: &[u8], words: &[u8]) -> Option
 {
     let set = script.set_number(a)?;
     let to = node(script, b)?;
-    let number = u64::from(exact_number(c)?);
+    let number = exact_number(c)?;
     let modes = modes(words)?;
     Some(Line::Event(Event::Freeze {
         set,

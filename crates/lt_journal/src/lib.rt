@@ -31,7 +31,7 @@
 //!
 //! The journal of a script of version 2 has the line `version 2` before all others.
 //!
-//! Names are those of the script, numbers are below 2^32, and node numbers are below the script's number of
+//! Names are those of the script, numbers are below 2^64, and node numbers are below the script's number of
 //! nodes. A line that has none of these forms is bad. An input may hold a script and its journal, with the
 //! line `journal` between them.
 #![tactic(auto)]

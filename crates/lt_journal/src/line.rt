@@ -37,7 +37,7 @@ pub enum Line {
     },
     /// The number of moves of a run that came to rest.
     End {
-        count: u32,
+        count: u64,
     },
     /// The node at which the run was cut.
     Cut {

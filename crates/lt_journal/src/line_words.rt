@@ -47,7 +47,7 @@ pub fn write_words(text: &mut Text, script: &Script, line: Line) -> Result<(), A
         }
         Line::End { count } => {
             text.first_word("end")?;
-            text.number(u64::from(count))
+            text.number(count)
         }
         Line::Cut { node } => {
             text.first_word("cut")?;

@@ -18,10 +18,10 @@ pub(crate) fn node(script: &Script, word: &[u8]) -> Option<u8>
 
 /// The node of this number, if the script has it.
 #[inline(always)]
-pub(crate) fn node_below(script: &Script, node: u32) -> Option<u8>
+pub(crate) fn node_below(script: &Script, node: u64) -> Option<u8>
     ensures { result ≡ below script.now.nodes (Some node) }
 {
-    if node < u32::from(script.nodes()) {
+    if node < u64::from(script.nodes()) {
         Some(node as u8)
     } else {
         None

@@ -76,15 +76,15 @@ pub(crate) fn move_line(script: &Script, words: &[u8]) -> Option<Line>
 // The line of a move with this clock and this node that does what these words say.
 #[inline(always)]
 #[tactic(auto, using(crate::proofs::MoveLines::by_step))]
-fn step_line(script: &Script, clock: u32, node: u32, words: &[u8]) -> Option<Line>
+fn step_line(script: &Script, clock: u64, node: u64, words: &[u8]) -> Option<Line>
     ensures { unwrap_or result Bad ≡ step_line script.now clock node (fields words.now) }
 {
-    if node >= u32::from(script.nodes()) {
+    if node >= u64::from(script.nodes()) {
         return None;
     }
     let step = step_told(script, words)?;
     Some(Line::Move {
-        clock: u64::from(clock),
+        clock,
         node: node as u8,
         step,
     })
@@ -137,7 +137,7 @@ fn client_told(script: &Script, words: &[u8]) -> Option<u16>
 
 // The number that the first field is, and what stands after it; none where it is no number, or the last field.
 #[inline(always)]
-fn number_field(words: &[u8]) -> Option<(u32, &[u8])>
+fn number_field(words: &[u8]) -> Option<(u64, &[u8])>
     ensures { BeginsWithNumber (fields words.now) result }
 {
     let (number, count) = first_digits(words);
@@ -149,7 +149,7 @@ fn number_field(words: &[u8]) -> Option<(u32, &[u8])>
 }
 
 // The same of a number of any length.
-fn any_number_field(words: &[u8]) -> Option<(u32, &[u8])>
+fn any_number_field(words: &[u8]) -> Option<(u64, &[u8])>
     ensures { BeginsWithNumber (fields words.now) result }
 {
     let (word, rest) = next_field(words);
@@ -170,16 +170,16 @@ fn is_numeral(words: &[u8], count: usize) -> bool
     count == 1 || words[0] != b'0'
 }
 
-// The number of the first digits, nine at most, and how many they are.
+// The number of the first digits, nineteen at most, and how many they are.
 #[inline(always)]
-fn first_digits(words: &[u8]) -> (u32, usize)
+fn first_digits(words: &[u8]) -> (u64, usize)
     ensures { AreFirstDigits words.now result.1 result.0 }
 {
-    let end = words.len().min(9);
-    let mut number: u32 = 0;
+    let end = words.len().min(19);
+    let mut number: u64 = 0;
     let mut count = 0;
     while count < end && words[count].is_ascii_digit() {
-        number = number * 10 + u32::from(words[count] - b'0');
+        number = number * 10 + u64::from(words[count] - b'0');
         count += 1;
     }
     (number, count)

@@ -19,7 +19,7 @@ use Rattle.lt_lists.proofs.Members.{contains_first, contains_later}
 use Rattle.lt_lists.proofs.Sums.{sum_below-add, sum_below-at, sum_below-most, sum_below-same, sum_below-one, sum_below-none}
 use Rattle.lt_lists.proofs.Searches.{any_below_none}
 use Rattle.lt_spec.specs.Script.{IsScript, load_of, IsRequest}
-use Rattle.lt_spec.specs.declared.limits.TheConstants.{MAX_CLIENTS, MAX_CLIENTS_OF_NODE, MAX_COMMANDS}
+use Rattle.lt_spec.specs.declared.limits.TheConstants.{MAX_CLIENTS, MAX_CLIENTS_OF_NODE, MAX_COMMANDS_OF_SERVICE}
 use Rattle.lt_spec.specs.NodeMove.{home, NodeState, command_if, commands_of, node_waits, IsWhole, HasTargetsAt, desk_within, set_within, leaves_ask}
 use Rattle.lt_spec.specs.Script as of_script
 use Rattle.lt_spec.specs.World.{Logged, world_after, IsRun}
@@ -179,7 +179,7 @@ all_commands n ((client, command) ∷ rest) =
 
 pub few_locks : (script : ScriptData) (q s : ℕ) (n : NodeState) → IsScript script → ClientsKept script n
     → ((c : ℕ) → n.made c ≤ length (commands_of script c)) → All (IsRowAtHome script q) (n.set s).held
-    → s < length script.sets → locks_in (n.set s).held ≤ MAX_COMMANDS
+    → s < length script.sets → locks_in (n.set s).held ≤ MAX_COMMANDS_OF_SERVICE
 few_locks script q s n is_script clients made rows within =
     let held = (n.set s).held in
     let count = length script.clients in

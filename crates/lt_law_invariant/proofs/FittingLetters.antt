@@ -269,5 +269,5 @@ letters_fit script w p q letter whole h hp hq among sent_before now_before =
     (and_from _ _ (lt-ltb letter.link.node script.nodes
     (link_named script.nodes (w.went letter.set) letter.link (record { some = whole.some_node; known = kept.paths.went }) on_path.link))
     (and_from _ _ (le-leb letter.link.epoch letter.stamp.clock (kept.letters p q letter hp hq on).epoch)
-    (and_from _ _ (lt-ltb (letter.stamp.clock + 1) (2 ^ 32) sent_before) (lt-ltb ((w.node q).clock + 1) (2 ^ 32) now_before)))))
+    (and_from _ _ (lt-ltb (letter.stamp.clock + 1) (2 ^ 62) sent_before) (lt-ltb ((w.node q).clock + 1) (2 ^ 62) now_before)))))
     (said_fits script w p q letter facts)

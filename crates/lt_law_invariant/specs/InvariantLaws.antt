@@ -58,7 +58,7 @@ KeptStays = (script : ScriptData) (w : World) (q : ℕ) (step : Step) → IsWhol
 abbrev pub LettersFit : Type 0
 LettersFit = (script : ScriptData) (w : World) (p q : ℕ) (letter : Letter) → IsWhole script → WorldInvariant script w
     → p < script.nodes → q < script.nodes → Contains (w.mail p q) letter
-    → letter.stamp.clock + 1 < 2 ^ 32 → (w.node q).clock + 1 < 2 ^ 32
+    → letter.stamp.clock + 1 < 2 ^ 62 → (w.node q).clock + 1 < 2 ^ 62
     → IsTrue (fits (numbers_of script) q (w.node q).clock (state_at w letter.set q) letter)
 
 -- One effect of a node on a set, in the world.
@@ -168,10 +168,10 @@ LocksNeverConflict = (script : ScriptData) (run : List Logged) → IsWhole scrip
     → Contains (state_at (world_after script (take k run)) s x).held a → Contains (state_at (world_after script (take k run)) s y).held b
     → (x ≢ y) ⊎ (a.client ≢ b.client) → IsFalse (conflicts a.mode b.mode)
 
--- after fewer than 2^32 - 1 moves each letter that is on its way fits its receiver
+-- after fewer than 2^62 - 1 moves each letter that is on its way fits its receiver
 abbrev pub LettersFitInRuns : Type 0
 LettersFitInRuns = (script : ScriptData) (run : List Logged) → IsWhole script → IsRun script run → (k p q : ℕ) (letter : Letter)
-    → k + 1 < 2 ^ 32 → p < script.nodes → q < script.nodes → Contains ((world_after script (take k run)).mail p q) letter
+    → k + 1 < 2 ^ 62 → p < script.nodes → q < script.nodes → Contains ((world_after script (take k run)).mail p q) letter
     → IsTrue (fits (numbers_of script) q ((world_after script (take k run)).node q).clock (state_at (world_after script (take k run)) letter.set q) letter)
 
 -- at rest another client holds a lock with which the first waiter of a set conflicts

@@ -7,7 +7,7 @@ use Rattle.std.proofs.lemmas.List.Sums.{fold-append}
 use Rattle.std.proofs.lemmas.Slice.Eq.{bytes_eq-Decides}
 use Rattle.lt_modes.specs.Script.{ScriptData}
 use Rattle.lt_spec.specs.World.{Logged, IsRun, World, start, world_after, is_enabled, is_at_rest, move_stamp, logged, IsMove, IsRunFrom}
-use Rattle.lt_spec.specs.Script.{IsScript}
+use Rattle.lt_spec.specs.Script.{IsScript, IsShort}
 use Rattle.lt_text.specs.Text.{lines, cut_at}
 use Rattle.lt_journal.specs.declared.line.Line.{Line}
 use Rattle.lt_journal.specs.LineFits.{FitsLine}
@@ -22,14 +22,14 @@ use Rattle.lt_law_journals.proofs.Short.{fits_in_runs}
 use Rattle.lt_law_journals.specs.Checking.{written, journal_lines, first_reader, Place, Reader, closing_at_rest, first_place, moved, is_next, by_move, by_due, place_after, read_on, reader_after, led_to, verdict, verdict_at, checked, IsFinished, lines_so_far, BeginsWith}
 use Rattle.lt_law_journals.proofs.Places.{not_at_rest, first_begins, begins_after}
 
-few_in_all : (script : ScriptData) (run : List Logged) → IsScript script → IsRun script run → length run < 2 ^ 32
-few_in_all script run is_script is_run = omega (arith, runs_are_short script run is_script is_run)
+few_in_all : (script : ScriptData) (run : List Logged) → IsScript script → IsShort script → IsRun script run → length run < 2 ^ 64
+few_in_all script run is_script is_short is_run = omega (arith, runs_are_short script run is_script is_short is_run)
 
 -- the lines of the run fit, and those that follow it at rest
-pub all_fit : (script : ScriptData) (run : List Logged) → IsScript script → IsRun script run
+pub all_fit : (script : ScriptData) (run : List Logged) → IsScript script → IsShort script → IsRun script run
     → AllByRecursion (FitsLine script) (run_lines script run None)
-all_fit script run is_script is_run =
-    lines_fit script run None (fits_in_runs script run None is_script is_run (few_in_all script run is_script is_run) tt)
+all_fit script run is_script is_short is_run =
+    lines_fit script run None (fits_in_runs script run None is_script is_run (few_in_all script run is_script is_short is_run) tt)
 
 pub fit_left : {X : Type 0} (P : X → Type 0) (xs ys : List X) → AllByRecursion P (xs ++ ys) → AllByRecursion P xs
 fit_left P [] ys all = tt
@@ -47,10 +47,10 @@ written_lines script (x ∷ xs) is_script fits =
     lines_line (line_words script x) (lines_text script xs) (plain_line script x (named script is_script) (few_nodes script is_script) fits.0)
     ∙ ap (λ (ls : List (List ℕ)). written script x ∷ ls) (written_lines script xs is_script fits.1)
 
-pub journal_written : (script : ScriptData) (run : List Logged) → IsScript script → IsRun script run
+pub journal_written : (script : ScriptData) (run : List Logged) → IsScript script → IsShort script → IsRun script run
     → journal_lines script run ≡ map (written script) (run_lines script run None)
-journal_written script run is_script is_run =
-    written_lines script (run_lines script run None) is_script (all_fit script run is_script is_run)
+journal_written script run is_script is_short is_run =
+    written_lines script (run_lines script run None) is_script (all_fit script run is_script is_short is_run)
 
 -- The journal of a finished run is accepted, and what is accepted is the journal of a finished run.
 
@@ -110,14 +110,14 @@ accepted_at script reader run e = by_place reader.place refl e
 pub all_lines : (script : ScriptData) (run : List Logged) → is_at_rest script (world_after script run) ≡ true → lines_so_far script run ≡ run_lines script run None
 all_lines script run rest = rw rest refl
 
-pub means : (script : ScriptData) (all : List (List ℕ)) (run : List Logged) → IsScript script → checked script all ≡ Ok run
+pub means : (script : ScriptData) (all : List (List ℕ)) (run : List Logged) → IsScript script → IsShort script → checked script all ≡ Ok run
     → IsFinished script run × (all ≡ journal_lines script run)
-means script all run is_script e =
+means script all run is_script is_short e =
     let end = accepted_at script (reader_after script all) run e in
     let b = begins_all script [] (first_place script) 0 all (record { run = run; due = [] }) (first_begins script) end.place in
     let told : b.told ≡ run_lines script run None = sym (append-nil b.told) ∙ (b.parts ∙ all_lines script run end.at_rest) in (
       record { is_run = b.is_run; at_rest = end.at_rest },
-      b.lines ∙ (ap (map (written script)) told ∙ sym (journal_written script run is_script b.is_run)),
+      b.lines ∙ (ap (map (written script)) told ∙ sym (journal_written script run is_script is_short b.is_run)),
     )
 
 -- lines that are due are read
@@ -193,33 +193,33 @@ reads_run script (entry ∷ later) run xs n is_script is_run fits =
     )
 
 -- all lines so far of a run are read
-reads_so_far : (script : ScriptData) (run : List Logged) → IsScript script → IsRun script run
+reads_so_far : (script : ScriptData) (run : List Logged) → IsScript script → IsShort script → IsRun script run
     → (m : ℕ) × (reader_after script (map (written script) (lines_so_far script run)) ≡ at_place (record { run = run; due = [] }) m)
-reads_so_far script run is_script is_run =
+reads_so_far script run is_script is_short is_run =
     let first = first_lines script.version in
     reads_run script run [] first 0 is_script is_run
     (fit_left (FitsLine script) (moves_lines script.version run) (closing_lines script run None)
-    (fit_right (FitsLine script) first (moves_lines script.version run ++ closing_lines script run None) (all_fit script run is_script is_run)))
+    (fit_right (FitsLine script) first (moves_lines script.version run ++ closing_lines script run None) (all_fit script run is_script is_short is_run)))
 
-pub accepts : (script : ScriptData) (run : List Logged) → IsScript script → IsFinished script run → checked script (journal_lines script run) ≡ Ok run
-accepts script run is_script done =
-    let read = reads_so_far script run is_script done.is_run in
-    ap (checked script) (journal_written script run is_script done.is_run ∙ ap (map (written script)) (sym (all_lines script run done.at_rest)))
+pub accepts : (script : ScriptData) (run : List Logged) → IsScript script → IsShort script → IsFinished script run → checked script (journal_lines script run) ≡ Ok run
+accepts script run is_script is_short done =
+    let read = reads_so_far script run is_script is_short done.is_run in
+    ap (checked script) (journal_written script run is_script is_short done.is_run ∙ ap (map (written script)) (sym (all_lines script run done.at_rest)))
     ∙ (ap (verdict script) read.1 ∙ ap (λ (b : Bool). cond b (Ok run) (Err (suc read.0))) done.at_rest)
 
 pub none_is_some : {A : Type 0} (place : Place) → None ≡ Some place → A
 none_is_some place e = absurd (cc)
 
 -- where lines begin those of a run, none is bad
-pub begun : (script : ScriptData) (read : List (List ℕ)) (place : Place) → IsScript script → BeginsWith script read place → (here : Place) × ((reader_after script read).place ≡ Some here)
-begun script read place is_script b = by_place (reader_after script read).place refl
+pub begun : (script : ScriptData) (read : List (List ℕ)) (place : Place) → IsScript script → IsShort script → BeginsWith script read place → (here : Place) × ((reader_after script read).place ≡ Some here)
+begun script read place is_script is_short b = by_place (reader_after script read).place refl
   where
     all : map (written script) (lines_so_far script place.run) ≡ read ++ map (written script) place.due
     all = ap (map (written script)) (sym b.parts) ∙ (map-append (written script) b.told place.due ∙ ap (λ (ls : List (List ℕ)). ls ++ map (written script) place.due) (sym b.lines))
 
     whole : (m : ℕ) × (fold (read_on script) (reader_after script read) (map (written script) place.due) ≡ at_place (record { run = place.run; due = [] }) m)
     whole =
-        let read_all = reads_so_far script place.run is_script b.is_run in
+        let read_all = reads_so_far script place.run is_script is_short b.is_run in
         (read_all.0, sym (fold-append (read_on script) (first_reader script) read (map (written script) place.due)) ∙ (ap (reader_after script) (sym all) ∙ read_all.1))
 
     by_place : (o : Option Place) → (reader_after script read).place ≡ o → (here : Place) × ((reader_after script read).place ≡ Some here)
@@ -231,7 +231,7 @@ begun script read place is_script b = by_place (reader_after script read).place 
     by_place (Some here) e = (here, e)
 
 -- a journal is that of one run
-pub one_run : (script : ScriptData) (one other : List Logged) → IsScript script → IsFinished script one → IsFinished script other → journal_lines script one ≡ journal_lines script other → one ≡ other
-one_run script one other is_script first second same =
-    let both : Ok one ≡ Ok other = sym (accepts script one is_script first) ∙ (ap (checked script) same ∙ accepts script other is_script second) in
+pub one_run : (script : ScriptData) (one other : List Logged) → IsScript script → IsShort script → IsFinished script one → IsFinished script other → journal_lines script one ≡ journal_lines script other → one ≡ other
+one_run script one other is_script is_short first second same =
+    let both : Ok one ≡ Ok other = sym (accepts script one is_script is_short first) ∙ (ap (checked script) same ∙ accepts script other is_script is_short second) in
     cc

@@ -7,7 +7,7 @@ use Rattle.std.proofs.lemmas.List.Sums.{fold-append}
 use Rattle.std.proofs.lemmas.Slice.Eq.{bytes_eq-Decides}
 use Rattle.lt_modes.specs.Script.{ScriptData}
 use Rattle.lt_spec.specs.World.{world_after, is_at_rest, Logged}
-use Rattle.lt_spec.specs.Script.{IsScript}
+use Rattle.lt_spec.specs.Script.{IsScript, IsShort}
 use Rattle.lt_text.specs.Text.{lines, cut_at, is_line_end, without_return, HasNone, before_space, later_fields}
 use Rattle.lt_text.proofs.TextLemmas.{cut_piece, cut_last}
 use Rattle.lt_journal.specs.declared.line.Line.{Line}
@@ -36,9 +36,9 @@ sound_on : (script : ScriptData) (place : Option Place) (n : ℕ) (line : List �
 sound_on script None n line sound = tt
 sound_on script (Some place) n line sound = sound_next script place line n (place_after script place line) sound refl
 
-pub all_so_far : (script : ScriptData) (read : List (List ℕ)) (place : Place) → IsScript script → BeginsWith script read place → AllByRecursion (FitsLine script) (lines_so_far script place.run)
-all_so_far script read place is_script b =
-    let fits = all_fit script place.run is_script b.is_run in
+pub all_so_far : (script : ScriptData) (read : List (List ℕ)) (place : Place) → IsScript script → IsShort script → BeginsWith script read place → AllByRecursion (FitsLine script) (lines_so_far script place.run)
+all_so_far script read place is_script is_short b =
+    let fits = all_fit script place.run is_script is_short b.is_run in
     let first = first_lines script.version in
     let moves = moves_lines script.version place.run in
     let closing = closing_lines script place.run None in
@@ -64,25 +64,25 @@ all_short script [] is_script fits = tt
 all_short script (x ∷ xs) is_script fits = (short_line script x is_script fits.0, all_short script xs is_script fits.1)
 
 -- a line that isn't bad is short
-short_after : (script : ScriptData) (place : Place) (line : List ℕ) (next : Place) → IsScript script → HasCome script place → place_after script place line ≡ Some next → length line < 200
-short_after script place line next is_script come e =
+short_after : (script : ScriptData) (place : Place) (line : List ℕ) (next : Place) → IsScript script → IsShort script → HasCome script place → place_after script place line ≡ Some next → length line < 200
+short_after script place line next is_script is_short come e =
     let b = begins_after script come.0 place line next come.1 e in
-    let fits = fit_left (FitsLine script) b.told next.due (subst (AllByRecursion (FitsLine script)) (sym b.parts) (all_so_far script (come.0 ++ line ∷ []) next is_script b)) in
+    let fits = fit_left (FitsLine script) b.told next.due (subst (AllByRecursion (FitsLine script)) (sym b.parts) (all_so_far script (come.0 ++ line ∷ []) next is_script is_short b)) in
     last_of (λ (l : List ℕ). length l < 200) (written script) come.0 line b.told b.lines (all_short script b.told is_script fits)
 
-bad_after : (script : ScriptData) (place : Place) (line : List ℕ) → IsScript script → HasCome script place → 200 ≤ length line → place_after script place line ≡ None
-bad_after script place line is_script come long = by_next (place_after script place line) refl
+bad_after : (script : ScriptData) (place : Place) (line : List ℕ) → IsScript script → IsShort script → HasCome script place → 200 ≤ length line → place_after script place line ≡ None
+bad_after script place line is_script is_short come long = by_next (place_after script place line) refl
   where
     by_next : (next : Option Place) → place_after script place line ≡ next → place_after script place line ≡ None
     by_next None e = e
-    by_next (Some next) e = absurd (omega (arith, long, short_after script place line next is_script come e))
+    by_next (Some next) e = absurd (omega (arith, long, short_after script place line next is_script is_short come e))
 
 -- two long lines are bad alike
-long_alike : (script : ScriptData) (place : Option Place) (n : ℕ) (a b : List ℕ) → IsScript script → IsSound script place → 200 ≤ length a → 200 ≤ length b
+long_alike : (script : ScriptData) (place : Option Place) (n : ℕ) (a b : List ℕ) → IsScript script → IsShort script → IsSound script place → 200 ≤ length a → 200 ≤ length b
     → read_on script (record { place = place; good = n }) a ≡ read_on script (record { place = place; good = n }) b
-long_alike script None n a b is_script sound la lb = refl
-long_alike script (Some place) n a b is_script sound la lb =
-    ap (led_to (record { place = Some place; good = n })) (bad_after script place a is_script sound la ∙ sym (bad_after script place b is_script sound lb))
+long_alike script None n a b is_script is_short sound la lb = refl
+long_alike script (Some place) n a b is_script is_short sound la lb =
+    ap (led_to (record { place = Some place; good = n })) (bad_after script place a is_script is_short sound la ∙ sym (bad_after script place b is_script is_short sound lb))
 
 length_without : (line : List ℕ) → length line ≤ length (without_return line) + 1
 length_without line = elim (cases_Bool (nat_lt 0 (length line) && slice_index line (length line - 1) == 13)) [
@@ -91,10 +91,10 @@ length_without line = elim (cases_Bool (nat_lt 0 (length line) && slice_index li
 ]
 
 -- of a longer line the first 201 bytes are enough
-alike : (script : ScriptData) (place : Option Place) (n : ℕ) (r : List ℕ) → IsScript script → IsSound script place
+alike : (script : ScriptData) (place : Option Place) (n : ℕ) (r : List ℕ) → IsScript script → IsShort script → IsSound script place
     → read_on script (record { place = place; good = n }) (without_return (take 201 r)) ≡ read_on script (record { place = place; good = n }) (without_return r)
-alike script place n r is_script sound = elim (cases_lt 201 (length r)) [
-  | inl long ↦ long_alike script place n (without_return (take 201 r)) (without_return r) is_script sound
+alike script place n r is_script is_short sound = elim (cases_lt 201 (length r)) [
+  | inl long ↦ long_alike script place n (without_return (take 201 r)) (without_return r) is_script is_short sound
       (omega (arith, length_without (take 201 r), length-take 201 r, long)) (omega (arith, length_without r, long))
   | inr short ↦ ap (λ (l : List ℕ). read_on script (record { place = place; good = n }) (without_return l)) (take_all 201 r short)
 ]
@@ -122,34 +122,34 @@ none_push : (ends : ℕ → Bool) (r : List ℕ) (byte : ℕ) → HasNone ends r
 none_push ends [] byte none e = (e, tt)
 none_push ends (x ∷ r) byte none e = (none.0, none_push ends r byte none.1 e)
 
-fed_so : (script : ScriptData) (bytes r : List ℕ) (place : Option Place) (n : ℕ) → IsScript script → IsSound script place → HasNone is_line_end r
+fed_so : (script : ScriptData) (bytes r : List ℕ) (place : Option Place) (n : ℕ) → IsScript script → IsShort script → IsSound script place → HasNone is_line_end r
     → ended script (fold (fed script) (record { reader = record { place = place; good = n }; rest = take 201 r }) bytes)
     ≡ verdict script (fold (read_on script) (record { place = place; good = n }) (lines (r ++ bytes)))
-fed_so script [] [] place n is_script sound none = sym (ap (λ (ls : List (List ℕ)). verdict script (fold (read_on script) (record { place = place; good = n }) ls)) no_lines)
-fed_so script [] (x ∷ r) place n is_script sound none =
-    ap (verdict script) (alike script place n (x ∷ r) is_script sound)
+fed_so script [] [] place n is_script is_short sound none = sym (ap (λ (ls : List (List ℕ)). verdict script (fold (read_on script) (record { place = place; good = n }) ls)) no_lines)
+fed_so script [] (x ∷ r) place n is_script is_short sound none =
+    ap (verdict script) (alike script place n (x ∷ r) is_script is_short sound)
     ∙ sym (ap (λ (ls : List (List ℕ)). verdict script (fold (read_on script) (record { place = place; good = n }) ls))
     (ap lines (append-nil (x ∷ r)) ∙ lines_end x r none))
-fed_so script (byte ∷ bytes) r place n is_script sound none = elim (cases_Bool (is_line_end byte)) [
+fed_so script (byte ∷ bytes) r place n is_script is_short sound none = elim (cases_Bool (is_line_end byte)) [
   | inl ends ↦
       let reader : Reader = record { place = place; good = n } in
       let next = read_on script reader (without_return r) in
       let kept : Feed = record { reader = reader; rest = take 201 r } in
       ap (λ (b : Bool). ended script (fold (fed script) (cond b (line_ended script kept) (record { reader = reader; rest = take 201 (take 201 r ++ byte ∷ []) })) bytes)) ends
-      ∙ (ap (λ (now : Reader). ended script (fold (fed script) (record { reader = now; rest = [] }) bytes)) (alike script place n r is_script sound)
-      ∙ (fed_so script bytes [] next.place next.good is_script (sound_on script place n (without_return r) sound) tt
+      ∙ (ap (λ (now : Reader). ended script (fold (fed script) (record { reader = now; rest = [] }) bytes)) (alike script place n r is_script is_short sound)
+      ∙ (fed_so script bytes [] next.place next.good is_script is_short (sound_on script place n (without_return r) sound) tt
       ∙ sym (ap (λ (ls : List (List ℕ)). verdict script (fold (read_on script) reader ls)) (lines_piece r bytes byte none ends))))
   | inr other ↦
       let reader : Reader = record { place = place; good = n } in
       let kept : Feed = record { reader = reader; rest = take 201 r } in
       ap (λ (b : Bool). ended script (fold (fed script) (cond b (line_ended script kept) (record { reader = reader; rest = take 201 (take 201 r ++ byte ∷ []) })) bytes)) other
       ∙ (ap (λ (now : List ℕ). ended script (fold (fed script) (record { reader = reader; rest = now }) bytes)) (kept_more 201 r byte)
-      ∙ (fed_so script bytes (r ++ byte ∷ []) place n is_script sound (none_push is_line_end r byte none other)
+      ∙ (fed_so script bytes (r ++ byte ∷ []) place n is_script is_short sound (none_push is_line_end r byte none other)
       ∙ ap (λ (all : List ℕ). verdict script (fold (read_on script) reader (lines all))) (append_assoc r (byte ∷ []) bytes)))
 ]
 
-pub fed_all : (script : ScriptData) (bytes : List ℕ) → IsScript script → ended script (fed_piece script (new_feed script) bytes) ≡ checked script (lines bytes)
-fed_all script bytes is_script = fed_so script bytes [] (Some (first_place script)) 0 is_script ([], first_begins script) tt
+pub fed_all : (script : ScriptData) (bytes : List ℕ) → IsScript script → IsShort script → ended script (fed_piece script (new_feed script) bytes) ≡ checked script (lines bytes)
+fed_all script bytes is_script is_short = fed_so script bytes [] (Some (first_place script)) 0 is_script is_short ([], first_begins script) tt
 
 -- pieces are fed as their bytes
 pub fed_pieces : (script : ScriptData) (pieces : List (List ℕ)) (feed : Feed) → fold (fed_piece script) feed pieces ≡ fed_piece script feed (flat_map (λ (piece : List ℕ). piece) pieces)
@@ -190,9 +190,9 @@ same_test script line x is_script fits = by_case (as_written script line)
         ∙ (not_written script [] x is_script fits (empty_bad script) ∙ sym (not_written script line x is_script fits bad))
     by_case (inr same) = ap (λ (l : List ℕ). bytes_eq l (written script x)) same
 
-pub due_fits : (script : ScriptData) (place : Place) → IsScript script → HasCome script place → AllByRecursion (FitsLine script) place.due
-due_fits script place is_script come =
-    fit_right (FitsLine script) come.1.told place.due (subst (AllByRecursion (FitsLine script)) (sym come.1.parts) (all_so_far script come.0 place is_script come.1))
+pub due_fits : (script : ScriptData) (place : Place) → IsScript script → IsShort script → HasCome script place → AllByRecursion (FitsLine script) place.due
+due_fits script place is_script is_short come =
+    fit_right (FitsLine script) come.1.told place.due (subst (AllByRecursion (FitsLine script)) (sym come.1.parts) (all_so_far script come.0 place is_script is_short come.1))
 
 -- what a line says is read again from how it is written
 same_said : (script : ScriptData) (line : List ℕ) → read_line script (written script (read_line script line)) ≡ read_line script line
@@ -229,13 +229,13 @@ stays_bad : (script : ScriptData) (n : ℕ) (ls : List (List ℕ)) → fold (rea
 stays_bad script n [] = refl
 stays_bad script n (line ∷ ls) = stays_bad script n ls
 
-heard_all : (script : ScriptData) (ls : List (List ℕ)) (place : Place) (n : ℕ) → IsScript script → HasCome script place
+heard_all : (script : ScriptData) (ls : List (List ℕ)) (place : Place) (n : ℕ) → IsScript script → IsShort script → HasCome script place
     → fold (read_on script) (record { place = Some place; good = n }) (map (written script) (map (read_line script) ls)) ≡ fold (read_on script) (record { place = Some place; good = n }) ls
-heard_all script [] place n is_script come = refl
-heard_all script (line ∷ ls) place n is_script come =
+heard_all script [] place n is_script is_short come = refl
+heard_all script (line ∷ ls) place n is_script is_short come =
     ap (λ (o : Option Place). fold (read_on script) (led_to (record { place = Some place; good = n }) o) (map (written script) (map (read_line script) ls)))
-    (same_place script place.run place.due line is_script (due_fits script place is_script come))
-    ∙ by_next (place_after script place line) (sound_next script place line n (place_after script place line) come refl) (λ next m came. heard_all script ls next m is_script came)
+    (same_place script place.run place.due line is_script (due_fits script place is_script is_short come))
+    ∙ by_next (place_after script place line) (sound_next script place line n (place_after script place line) come refl) (λ next m came. heard_all script ls next m is_script is_short came)
   where
     by_next : (next : Option Place) → IsSound script (led_to (record { place = Some place; good = n }) next).place
         → ((next : Place) (m : ℕ) → HasCome script next → fold (read_on script) (record { place = Some next; good = m }) (map (written script) (map (read_line script) ls)) ≡ fold (read_on script) (record { place = Some next; good = m }) ls)
@@ -243,10 +243,10 @@ heard_all script (line ∷ ls) place n is_script come =
     by_next None sound again = stays_bad script n ls
     by_next (Some next) sound again = again next (suc n) sound
 
-pub said : (script : ScriptData) (all : List (List ℕ)) → IsScript script → checked_said script (map (read_line script) all) ≡ checked script all
-said script all is_script = ap (verdict script) (heard_all script all (first_place script) 0 is_script ([], first_begins script))
+pub said : (script : ScriptData) (all : List (List ℕ)) → IsScript script → IsShort script → checked_said script (map (read_line script) all) ≡ checked script all
+said script all is_script is_short = ap (verdict script) (heard_all script all (first_place script) 0 is_script is_short ([], first_begins script))
 
 -- what is due at a place that a reader has come to
-pub due_fits_after : (script : ScriptData) (read : List (List ℕ)) (place : Place) → IsScript script → (reader_after script read).place ≡ Some place → AllByRecursion (FitsLine script) place.due
-due_fits_after script read place is_script e =
-    due_fits script place is_script (read, begins_all script [] (first_place script) 0 read place (first_begins script) e)
+pub due_fits_after : (script : ScriptData) (read : List (List ℕ)) (place : Place) → IsScript script → IsShort script → (reader_after script read).place ≡ Some place → AllByRecursion (FitsLine script) place.due
+due_fits_after script read place is_script is_short e =
+    due_fits script place is_script is_short (read, begins_all script [] (first_place script) 0 read place (first_begins script) e)

@@ -7,7 +7,7 @@ use Rattle.std.proofs.lemmas.List.Sums.{fold-append}
 use Rattle.lt_modes.specs.Script.{ScriptData}
 use Rattle.lt_spec.specs.World.{Logged, World, start, world_after, after_run, is_at_rest, logged, IsRunFrom}
 use Rattle.lt_spec.specs.World as world
-use Rattle.lt_spec.specs.Script.{IsScript}
+use Rattle.lt_spec.specs.Script.{IsScript, IsShort}
 use Rattle.lt_journal.specs.declared.line.Line.{Line}
 use Rattle.lt_journal.specs.Grammar.{read_line}
 use Rattle.lt_journal.specs.RunLines.{first_lines, entry_lines, moves_lines, closing_lines, run_lines}
@@ -125,8 +125,8 @@ run_from : (script : ScriptData) (w : World) (first later : List Logged) → IsR
 run_from script w [] later h = h
 run_from script w (entry ∷ first) later h = run_from script (world.after script w entry.made.stamp.node entry.made.step) first later h.1
 
-pub continued : (script : ScriptData) (read : List (List ℕ)) (place : Place) → IsScript script → (reader_after script read).place ≡ Some place → IsContinued script read place
-continued script read place is_script e = record { only = only; each = each }
+pub continued : (script : ScriptData) (read : List (List ℕ)) (place : Place) → IsScript script → IsShort script → (reader_after script read).place ≡ Some place → IsContinued script read place
+continued script read place is_script is_short e = record { only = only; each = each }
   where
     b : BeginsWith script read place
     b = begins_all script [] (first_place script) 0 read place (first_begins script) e
@@ -136,7 +136,7 @@ continued script read place is_script e = record { only = only; each = each }
         let end = accepted_at script (reader_after script (read ++ more)) run accepted in
         let split : reader_after script (read ++ more) ≡ fold (read_on script) (at_place place (reader_after script read).good) more =
         fold-append (read_on script) (first_reader script) read more ∙ ap (λ (r : Reader). fold (read_on script) r more) (reader_is (reader_after script read) place e) in (
-          (means script (read ++ more) run is_script accepted).0,
+          (means script (read ++ more) run is_script is_short accepted).0,
           grows script place (reader_after script read).good more (record { run = run; due = [] }) (ap (λ (r : Reader). r.place) (sym split) ∙ end.place),
         )
 
@@ -167,25 +167,25 @@ continued script read place is_script e = record { only = only; each = each }
         let rest = left later done in (
           map (written script) rest.0,
           ap (λ (ls : List (List ℕ)). checked script (ls ++ map (written script) rest.0)) b.lines
-              ∙ (ap (checked script) (sym (map-append (written script) b.told rest.0) ∙ (ap (map (written script)) (sym rest.1) ∙ sym (journal_written script (place.run ++ later) is_script done.is_run)))
-              ∙ accepts script (place.run ++ later) is_script done),
+              ∙ (ap (checked script) (sym (map-append (written script) b.told rest.0) ∙ (ap (map (written script)) (sym rest.1) ∙ sym (journal_written script (place.run ++ later) is_script is_short done.is_run)))
+              ∙ accepts script (place.run ++ later) is_script is_short done),
         )
 
 -- with lines that are right so far a journal begins: the moves so far go on to a finished run
-pub begins_journal : (script : ScriptData) (read : List (List ℕ)) (place : Place) → IsScript script → (reader_after script read).place ≡ Some place → BeginsJournal script read
-begins_journal script read place is_script e =
+pub begins_journal : (script : ScriptData) (read : List (List ℕ)) (place : Place) → IsScript script → IsShort script → (reader_after script read).place ≡ Some place → BeginsJournal script read
+begins_journal script read place is_script is_short e =
     let b = begins_all script [] (first_place script) 0 read place (first_begins script) e in
     let rest = runs_reach_rest script place.run (whole script is_script) b.is_run in
     let done : IsFinished script (place.run ++ rest.0) = record { is_run = rest.1; at_rest = rest.2 } in
-    let told = (continued script read place is_script e).each rest.0 done in
-    (place.run ++ rest.0, told.0, done, sym (means script (read ++ told.0) (place.run ++ rest.0) is_script told.1).1)
+    let told = (continued script read place is_script is_short e).each rest.0 done in
+    (place.run ++ rest.0, told.0, done, sym (means script (read ++ told.0) (place.run ++ rest.0) is_script is_short told.1).1)
 
 -- a journal begins with lines that are right so far, and with no others
-pub begins_where_right : (script : ScriptData) (read : List (List ℕ)) → IsScript script → IsBeginning script read ↔ BeginsJournal script read
-begins_where_right script read is_script = (
+pub begins_where_right : (script : ScriptData) (read : List (List ℕ)) → IsScript script → IsShort script → IsBeginning script read ↔ BeginsJournal script read
+begins_where_right script read is_script is_short = (
   λ beginning.
-      let here = begun script read beginning.0 is_script beginning.1 in
-      begins_journal script read here.0 is_script here.1,
+      let here = begun script read beginning.0 is_script is_short beginning.1 in
+      begins_journal script read here.0 is_script is_short here.1,
   λ begins. right_so_far begins (reader_after script read).place refl,
 )
   where
@@ -196,7 +196,7 @@ begins_where_right script read is_script = (
         let is_bad : reader ≡ record { place = None; good = reader.good } = λ i. record { place = e i; good = reader.good } in
         let read_more = fold-append (read_on script) (first_reader script) read more
         ∙ (ap (λ (r : Reader). fold (read_on script) r more) is_bad ∙ stays_bad script reader.good more) in
-        let clash : Ok run ≡ Err (suc reader.good) = sym (accepts script run is_script done) ∙ (ap (checked script) same ∙ ap (verdict script) read_more) in
+        let clash : Ok run ≡ Err (suc reader.good) = sym (accepts script run is_script is_short done) ∙ (ap (checked script) same ∙ ap (verdict script) read_more) in
         absurd (cc)
 
 -- whatever follows a line that is bad, it stays the first bad one
@@ -207,8 +207,8 @@ bad_stays script all k e le more =
     let k_is : k ≡ suc m.at = omega (arith, m.k_is) in
     ap (λ (n : ℕ). checked script (take n all ++ more)) k_is ∙ m.stays (omega (arith, k_is, le)) more
 
-pub first_bad : (script : ScriptData) (all : List (List ℕ)) (k : ℕ) → IsScript script → checked script all ≡ Err k → IsFirstBad script all k
-first_bad script all k is_script e =
+pub first_bad : (script : ScriptData) (all : List (List ℕ)) (k : ℕ) → IsScript script → IsShort script → checked script all ≡ Err k → IsFirstBad script all k
+first_bad script all k is_script is_short e =
     let m = met script (first_place script) 0 all k e in
     let k_is : k ≡ suc m.at = omega (arith, m.k_is) in
     record {
@@ -216,13 +216,13 @@ first_bad script all k is_script e =
       within = omega (arith, k_is, m.within);
       before = λ j lt.
           let b = m.before j (omega (arith, k_is, lt)) in
-          begins_journal script (take j all) b.0 is_script b.1;
+          begins_journal script (take j all) b.0 is_script is_short b.1;
       not_with = λ le begins.
           let stays : checked script (take k all ++ begins.1) ≡ Err k = bad_stays script all k e le begins.1 in
-          let clash : Ok begins.0 ≡ Err k = sym (accepts script begins.0 is_script begins.2) ∙ (ap (checked script) begins.3 ∙ stays) in
+          let clash : Ok begins.0 ≡ Err k = sym (accepts script begins.0 is_script is_short begins.2) ∙ (ap (checked script) begins.3 ∙ stays) in
           cc;
       missing = λ is_last run done same.
-          let clash : Ok run ≡ Err k = sym (accepts script run is_script done) ∙ (ap (checked script) same ∙ e) in
+          let clash : Ok run ≡ Err k = sym (accepts script run is_script is_short done) ∙ (ap (checked script) same ∙ e) in
           cc;
     }
 
@@ -235,13 +235,13 @@ one_bad script all j k one other = elim (cases_order j k) [
 ]
 
 -- and the lines are refused at it
-pub refused : (script : ScriptData) (all : List (List ℕ)) (k : ℕ) → IsScript script → IsFirstBad script all k → checked script all ≡ Err k
-refused script all k is_script bad = by_answer (checked script all) refl
+pub refused : (script : ScriptData) (all : List (List ℕ)) (k : ℕ) → IsScript script → IsShort script → IsFirstBad script all k → checked script all ≡ Err k
+refused script all k is_script is_short bad = by_answer (checked script all) refl
   where
     by_answer : (answer : Result (List Logged) ℕ) → checked script all ≡ answer → checked script all ≡ Err k
-    by_answer (Err other) e = e ∙ ap Err (one_bad script all other k (first_bad script all other is_script e) bad)
+    by_answer (Err other) e = e ∙ ap Err (one_bad script all other k (first_bad script all other is_script is_short e) bad)
     by_answer (Ok run) e =
-        let m = means script all run is_script e in
+        let m = means script all run is_script is_short e in
         let within : length all < k = not_within (λ le. bad.not_with le (run, drop k all, m.0, sym m.1 ∙ sym (take-append-drop k all))) in
         absurd (bad.missing (omega (arith, within, bad.within)) run m.0 (sym m.1))
       where

@@ -54,7 +54,7 @@ step_fits : (script : ScriptData) (step : Step) → HasMaker script step → Fit
 step_fits script (Act client) h = h
 step_fits script (Take from) h = h
 
-line_fits : (script : ScriptData) (bound : ℕ) (line : Event) → bound < 2 ^ 32 → IsLineWithin script bound line → FitsEvent script line
+line_fits : (script : ScriptData) (bound : ℕ) (line : Event) → bound < 2 ^ 64 → IsLineWithin script bound line → FitsEvent script line
 line_fits script bound (Grant client set mode) few h = h
 line_fits script bound (Wait client set mode) few h = h
 line_fits script bound (Try client set mode got) few h = h
@@ -67,7 +67,7 @@ line_fits script bound (Copy set to client mode) few h = h
 line_fits script bound (Freeze set to number modes) few h = (h.0, h.1, omega (arith, h.2, few))
 line_fits script bound (Token set to epoch) few h = (h.0, h.1, omega (arith, h.2, few))
 
-entry_fits : (script : ScriptData) (bound : ℕ) (entry : Logged) → bound < 2 ^ 32 → IsEntryWithin script bound entry → FitsEntry script entry
+entry_fits : (script : ScriptData) (bound : ℕ) (entry : Logged) → bound < 2 ^ 64 → IsEntryWithin script bound entry → FitsEntry script entry
 entry_fits script bound entry few h = (
   (omega (arith, h.made.clock, few), h.made.node, step_fits script entry.made.step h.made.maker),
   recursion_from_All (FitsEvent script) entry.events
@@ -97,7 +97,7 @@ all_held script (line ∷ rest) held =
     omega (arith, all_held script rest (after_line script held line), more_held script held line, sum_by-cons adds line rest)
 
 pub fits_in_runs : (script : ScriptData) (entries : List Logged) (cut : Option ℕ) → IsScript script → IsRun script entries
-    → length entries < 2 ^ 32 → FitsCut script cut → FitsRun script entries cut
+    → length entries < 2 ^ 64 → FitsCut script cut → FitsRun script entries cut
 fits_in_runs script entries cut is_script is_run few cut_node = record {
   some_node = is_script.some_node;
   few_nodes = few_nodes script is_script;
@@ -151,14 +151,19 @@ short_set script set is_script has_set = short_name (set_name script set) (is_sc
 short_client : (script : ScriptData) (client : ℕ) → IsScript script → HasClient script client → IsShort (client_name script client)
 short_client script client is_script has_client = short_name (client_name script client) (is_script.clients_named client has_client)
 
-number_length : (n : ℕ) → IsNumber n → length (decimal n) ≤ 10
-number_length n small = length-decimal-le 10 n (omega arith) (omega (arith, small)) (omega (arith, small))
+number_length : (n : ℕ) → IsNumber n → length (decimal n) ≤ 20
+number_length n small = length-decimal-le 20 n (omega arith) (omega (arith, small)) small
 
 short_number : (n : ℕ) → IsNumber n → IsShort (decimal n)
 short_number n small = omega (arith, number_length n small)
 
 node_number : (script : ScriptData) (node : ℕ) → IsScript script → HasNode script node → IsNumber node
 node_number script node is_script below = omega (arith, below, few_nodes script is_script)
+
+node_length : (script : ScriptData) (node : ℕ) → IsScript script → HasNode script node → length (decimal node) ≤ 10
+node_length script node is_script below =
+    let small : node < 2 ^ 32 = omega (arith, below, few_nodes script is_script) in
+    length-decimal-le 10 node (omega arith) (omega (arith, small)) (omega (arith, small))
 
 short_node : (script : ScriptData) (node : ℕ) → IsScript script → HasNode script node → IsShort (decimal node)
 short_node script node is_script below = short_number node (node_number script node is_script below)
@@ -191,7 +196,7 @@ short_freeze script set to number modes is_script has_set has_node small = omega
   arith,
   size_spaced (event_words script (Freeze set to number modes)),
   short_set script set is_script has_set,
-  number_length to (node_number script to is_script has_node),
+  node_length script to is_script has_node,
   number_length number small,
   size_words_of_modes modes,
 )

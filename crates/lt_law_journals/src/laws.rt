@@ -6,7 +6,7 @@ ghost use Rattle.lt_journal.specs.LineFits.{FitsLine, FitsCut};
 ghost use Rattle.lt_modes.specs.Script.{ScriptData};
 ghost use Rattle.lt_spec.specs.World.{Logged, IsRun};
 ghost use Rattle.lt_text.specs.Text.{lines};
-ghost use Rattle.lt_spec.specs.Script.{IsScript};
+ghost use Rattle.lt_spec.specs.Script.{IsScript, IsShort};
 ghost use Rattle.lt_law_journals.specs.Checking.{Place, written, reader_after, checked, Feed, new_feed, fed_piece, ended, checked_said, script_in, journal_in, lines_before, counted_from, checked_input, IsFirstBadIn, EndsInLineFeed, EndsLine, HasJournal, IsSettled, IsFinished, BeginsWith, IsBeginning, BeginsJournal, IsFirstBad, IsContinued, journal_lines};
 ghost use Rattle.lt_law_journals.specs.Rows.{EmptyRows, ShortRows};
 ghost use Rattle.lt_journal.specs.Grammar.{read_line, journal_of};
@@ -16,19 +16,19 @@ ghost use Rattle.lt_law_journals.specs.ClosingLaws.{HeldLinesTell, WaitingLinesT
 
 /// The journal of a finished run is accepted, as that of this run.
 pub fn law_accepts()
-    ensures { (script : ScriptData) → (run : List Logged) → IsScript script → IsFinished script run
+    ensures { (script : ScriptData) → (run : List Logged) → IsScript script → IsShort script → IsFinished script run
         → checked script (journal_lines script run) ≡ Ok run }
 {}
 
 /// Lines that are accepted are those of the text of a finished run.
 pub fn law_means()
-    ensures { (script : ScriptData) → (all : List (List ℕ)) → (run : List Logged) → IsScript script
+    ensures { (script : ScriptData) → (all : List (List ℕ)) → (run : List Logged) → IsScript script → IsShort script
         → checked script all ≡ Ok run → IsFinished script run × (all ≡ journal_lines script run) }
 {}
 
 /// Lines are refused at the first bad one, and it stays the first bad one whatever follows it.
 pub fn law_first()
-    ensures exact { (script : ScriptData) → (all : List (List ℕ)) → (k : ℕ) → IsScript script
+    ensures exact { (script : ScriptData) → (all : List (List ℕ)) → (k : ℕ) → IsScript script → IsShort script
         → (checked script all ≡ Err k) ↔ IsFirstBad script all k }
     ensures stays { (script : ScriptData) → (all : List (List ℕ)) → (k : ℕ)
         → checked script all ≡ Err k → k ≤ length all
@@ -37,13 +37,13 @@ pub fn law_first()
 
 /// Lines that are right so far go on to a journal exactly where the moves so far go on to a finished run.
 pub fn law_continues()
-    ensures { (script : ScriptData) → (read : List (List ℕ)) → (place : Place) → IsScript script
+    ensures { (script : ScriptData) → (read : List (List ℕ)) → (place : Place) → IsScript script → IsShort script
         → (reader_after script read).place ≡ Some place → IsContinued script read place }
 {}
 
 /// Bytes that are fed one by one are answered as the lines of all bytes, and at most 201 bytes are kept.
 pub fn law_bytes()
-    ensures all { (script : ScriptData) → (bytes : List ℕ) → IsScript script
+    ensures all { (script : ScriptData) → (bytes : List ℕ) → IsScript script → IsShort script
         → ended script (fed_piece script (new_feed script) bytes) ≡ checked script (lines bytes) }
     ensures kept { (script : ScriptData) → (bytes : List ℕ)
         → length (fed_piece script (new_feed script) bytes).rest ≤ 201 }
@@ -63,9 +63,9 @@ pub fn law_rows()
 
 /// What the lines say is all that counts of them. A line that is due fits, and a line is written as it exactly where it says the same.
 pub fn law_said()
-    ensures all { (script : ScriptData) → (all : List (List ℕ)) → IsScript script
+    ensures all { (script : ScriptData) → (all : List (List ℕ)) → IsScript script → IsShort script
         → checked_said script (map (read_line script) all) ≡ checked script all }
-    ensures due { (script : ScriptData) → (read : List (List ℕ)) → (place : Place) → IsScript script
+    ensures due { (script : ScriptData) → (read : List (List ℕ)) → (place : Place) → IsScript script → IsShort script
         → (reader_after script read).place ≡ Some place → AllByRecursion (FitsLine script) place.due }
     ensures same { (script : ScriptData) → (line : List ℕ) → (x : AnyLine) → IsScript script → FitsLine script x
         → Decides (bytes_eq line (written script x)) (read_line script line ≡ x) }
@@ -77,7 +77,7 @@ pub fn law_input()
     ensures script { (bytes : List ℕ) → lines (take (input_parts bytes).script bytes) ≡ script_in (lines bytes) }
     ensures journal { (bytes : List ℕ) → lines (drop (input_parts bytes).journal bytes) ≡ journal_in (lines bytes) }
     ensures before { (bytes : List ℕ) → (input_parts bytes).lines ≡ lines_before (lines bytes) }
-    ensures answer { (script : ScriptData) → (bytes : List ℕ) → IsScript script
+    ensures answer { (script : ScriptData) → (bytes : List ℕ) → IsScript script → IsShort script
         → counted_from (input_parts bytes).lines (ended script (fed_piece script (new_feed script) (drop (input_parts bytes).journal bytes)))
         ≡ checked_input script (lines bytes) }
 {}
@@ -85,10 +85,10 @@ pub fn law_input()
 /// An input is accepted exactly where the journal in it is that of a finished run, and refused exactly at its first bad
 /// line.
 pub fn law_answers()
-    ensures accepted { (script : ScriptData) → (bytes : List ℕ) → (run : List Logged) → IsScript script
+    ensures accepted { (script : ScriptData) → (bytes : List ℕ) → (run : List Logged) → IsScript script → IsShort script
         → (checked_input script (lines bytes) ≡ Ok run)
         ↔ (IsFinished script run × (lines (drop (input_parts bytes).journal bytes) ≡ journal_lines script run)) }
-    ensures refused { (script : ScriptData) → (bytes : List ℕ) → (line : ℕ) → IsScript script
+    ensures refused { (script : ScriptData) → (bytes : List ℕ) → (line : ℕ) → IsScript script → IsShort script
         → (checked_input script (lines bytes) ≡ Err line) ↔ IsFirstBadIn script line bytes }
 {}
 
@@ -100,7 +100,7 @@ pub fn law_settled()
 
 /// Two finished runs of a script with the same journal are one run.
 pub fn law_one_run()
-    ensures { (script : ScriptData) → (one : List Logged) → (other : List Logged) → IsScript script
+    ensures { (script : ScriptData) → (one : List Logged) → (other : List Logged) → IsScript script → IsShort script
         → IsFinished script one → IsFinished script other → journal_lines script one ≡ journal_lines script other → one ≡ other }
 {}
 
@@ -109,16 +109,16 @@ pub fn law_one_run()
 pub fn law_beginning()
     ensures read { (script : ScriptData) → (read : List (List ℕ)) → (place : Place) → IsScript script
         → (reader_after script read).place ≡ Some place → BeginsWith script read place }
-    ensures begun { (script : ScriptData) → (read : List (List ℕ)) → IsScript script
+    ensures begun { (script : ScriptData) → (read : List (List ℕ)) → IsScript script → IsShort script
         → IsBeginning script read → (place : Place) × ((reader_after script read).place ≡ Some place) }
-    ensures journal { (script : ScriptData) → (read : List (List ℕ)) → IsScript script
+    ensures journal { (script : ScriptData) → (read : List (List ℕ)) → IsScript script → IsShort script
         → IsBeginning script read ↔ BeginsJournal script read }
 {}
 
 /// What is written of a run is read as the run's lines, of every run whose moves can be counted in a line.
 pub fn law_read_text()
     ensures { (script : ScriptData) → (entries : List Logged) → (cut : Option ℕ) → IsScript script
-        → IsRun script entries → length entries < 2 ^ 32 → FitsCut script cut
+        → IsRun script entries → length entries < 2 ^ 64 → FitsCut script cut
         → journal_of script (text_of script entries cut) ≡ run_lines script entries cut }
 {}
 

@@ -1,5 +1,5 @@
 -- The plays of all nodes are a run that ends as they do.
-use Rattle.std.proofs.Common.{◌≡◌, ℕ, List, ◌++◌, length, drop, Option, Some, refl, ap, ◌∙◌, ◌<◌, inl, inr, Bool, false, subst, sym, arith, take, ◌≢◌, zero, suc, ◌+◌, [], ◌∷◌, None, slice_get, ◌&&◌, ◌||◌, ◌==◌, nat_lt, IsTrue, Contains, ◌⊎◌, map, filter, drop_at, take_all, append-nil, eqb-true, ltb-true, eq-eqb}
+use Rattle.std.proofs.Common.{◌≡◌, ℕ, List, ◌++◌, length, drop, Option, Some, refl, ap, ◌∙◌, ◌<◌, inl, inr, Bool, false, subst, sym, arith, take, ◌≢◌, zero, suc, ◌+◌, ◌*◌, ◌≤◌, [], ◌∷◌, None, slice_get, ◌&&◌, ◌||◌, ◌==◌, nat_lt, IsTrue, Contains, ◌⊎◌, map, filter, drop_at, take_all, append-nil, eqb-true, ltb-true, eq-eqb}
 use Rattle.std.proofs.lemmas.Bool.{or_cases, or_left, or_right, and_parts, false_from_ne_true, both_ways, cases_eq}
 use Rattle.std.proofs.lemmas.Option.{slice_get_within}
 use Rattle.std.specs.List.{AllByRecursion}
@@ -9,7 +9,7 @@ use Rattle.lt_modes.specs.State.{Letter}
 use Rattle.lt_modes.specs.declared.moves.Step.{Step}
 use Rattle.lt_modes.specs.declared.moves.Step.TheVariants.{Act, Take}
 use Rattle.lt_modes.specs.Fits.{fits, numbers_of}
-use Rattle.lt_lists.specs.Below.{any_below}
+use Rattle.lt_lists.specs.Below.{any_below, sum_below}
 use Rattle.lt_lists.proofs.Searches.{any_below_at, any_below_same}
 use Rattle.lt_lists.proofs.AllLemmas.{all_weaker}
 use Rattle.lt_spec.specs.World.{World, is_runnable, has_mail, is_enabled, is_at_rest, can_move, Logged, world_after, start, is_of_node}
@@ -26,11 +26,10 @@ use Rattle.lt_law_plays.specs.Merged.{merged, Part, part_or, part_at, logs_of, J
 use Rattle.lt_law_plays.proofs.PlayLemmas.{joined_are_plays, plays_rise}
 use Rattle.lt_law_plays.proofs.MergedLogs.{merged_exists, merged_has_all, IsOwn, none_of_other, head_or}
 use Rattle.lt_law_plays.proofs.MergedRun.{merged_is_run, merged_ends}
-use Rattle.lt_law_plays.proofs.LowClocks.{same_runnable}
+use Rattle.lt_law_plays.proofs.LowClocks.{same_runnable, clocks_are_counted}
 use Rattle.lt_law_ends.proofs.Reach.{any_below_which}
-use Rattle.lt_law_ends.proofs.Short.{plays_are_short}
 use Rattle.lt_law_merged.specs.JoinedRun.{JoinedRuns, JoinedMerges, LogsOfParts}
-use Rattle.lt_law_merged.specs.States.{CanMoveIsSeen, CanMoveIsEnabled, RestIsNoMove, StatesWithin, AsksHavePlace, ClocksBelow, LettersLeftFit}
+use Rattle.lt_law_merged.specs.States.{CanMoveIsSeen, CanMoveIsEnabled, RestIsNoMove, StatesWithin, AsksHavePlace, FewMoves, ClocksBelow, LettersLeftFit}
 
 -- the part at its place
 pub part_is : (script : ScriptData) (parts : List Part) (x : ℕ) (part : Part) → slice_get parts x ≡ Some part → part_at script parts x ≡ part
@@ -139,26 +138,42 @@ asks_have_place script parts is_script joined q client part is_part can =
     let place = asks_placed script _ is_script run.is_run client (ltb-true client _ known.0) at_home.1 in
     subst (λ (n : NodeState). IsTrue (leaves_asks script n)) (ap w.node (eqb-true (home script client) q at_home.0) ∙ run.node q part is_part) place
 
+-- a sum of so many small terms
+few_terms : (n : ℕ) (f : ℕ → ℕ) → ((k : ℕ) → f k ≤ 36028797018963968) → sum_below n f ≤ n * 36028797018963968
+few_terms zero f each = omega arith
+few_terms (suc n) f each = omega (arith, each n, few_terms n f each)
+
+-- all nodes together made fewer moves than clocks have numbers
+few_in_all : (script : ScriptData) (parts : List Part) → script.nodes ≤ 64 → FewMoves parts
+    → sum_below script.nodes (λ x. length ((logs_of script parts).log x)) ≤ 2305843009213693952
+few_in_all script parts nodes few =
+    omega (arith, nodes, few_terms script.nodes (λ x. length ((logs_of script parts).log x)) (λ x. of_part x (slice_get parts x) refl))
+  where
+    of_part : (x : ℕ) (o : Option Part) → slice_get parts x ≡ o → length (part_or script x o).log ≤ 36028797018963968
+    of_part x None e = omega arith
+    of_part x (Some part) e = few x part e
+
 pub clocks_below : ClocksBelow
-clocks_below script parts is_script joined q part is_part =
+clocks_below script parts is_script joined few q part is_part =
     omega (
       arith,
       ap (λ (p : Part). p.last.clock) (part_is script parts q part is_part),
-      (plays_are_short script (logs_of script parts) is_script (joined_are_plays script parts joined)).1 q,
+      clocks_are_counted script (logs_of script parts) (joined_are_plays script parts joined) q,
+      few_in_all script parts is_script.few_nodes few,
     )
 
 pub letters_left_fit : LettersLeftFit
-letters_left_fit script parts is_script joined p q a b rest letter is_a is_b e among =
+letters_left_fit script parts is_script joined few p q a b rest letter is_a is_b e among =
     let run = merged script.nodes (logs_of script parts).log in
     let is_joined = joined_merges script parts joined in
     let all : take (length run) run ≡ run = take_all (length run) run (omega arith) in
-    let few = (plays_are_short script (logs_of script parts) is_script (joined_are_plays script parts joined)).0 in
+    let few_moves = few_in_all script parts is_script.few_nodes few in
     let here = subst (λ (letters : List Letter). Contains letters letter)
     (sym (ap (λ (r : List Logged). (world_after script r).mail p q) all ∙ is_joined.mail p q a b rest is_a is_b e)) among in
     subst (λ (n : NodeState). IsTrue (fits (numbers_of script) q n.clock (n.set letter.set) letter))
     (ap (λ (r : List Logged). (world_after script r).node q) all ∙ is_joined.node q b is_b)
     (letters_fit_in_runs script run (whole script is_script) is_joined.is_run (length run) p q letter
-    (omega (arith, is_joined.count, few, is_script.few_nodes)) (below script parts joined p a is_a) (below script parts joined q b is_b) here)
+    (omega (arith, is_joined.count, few_moves)) (below script parts joined p a is_a) (below script parts joined q b is_b) here)
 
 -- The logs of joined plays can be merged, and are then their run.
 

@@ -1,5 +1,5 @@
 -- Which nodes can make a move.
-use Rattle.std.specs.Prelude.{◌≡◌, ◌<◌, ◌↔◌, false, ◌||◌, ℕ, length, IsTrue, ◌+◌, ◌^◌, List, ◌++◌, Some, slice_get, Contains}
+use Rattle.std.specs.Prelude.{◌≡◌, ◌<◌, ◌≤◌, ◌↔◌, false, ◌||◌, ℕ, length, IsTrue, ◌+◌, ◌^◌, List, ◌++◌, Some, slice_get, Contains}
 use Rattle.lt_modes.specs.declared.moves.Step.{Step}
 use Rattle.lt_modes.specs.Script.{ScriptData}
 use Rattle.lt_modes.specs.State.{Letter}
@@ -7,6 +7,7 @@ use Rattle.lt_modes.specs.Fits.{fits, numbers_of}
 use Rattle.lt_lists.specs.Below.{any_below}
 use Rattle.lt_spec.specs.World.{World, has_mail, is_enabled, is_at_rest, can_move}
 use Rattle.lt_spec.specs.Script.{IsScript}
+use Rattle.lt_spec.specs.declared.moves.TheConstants.{MAX_MOVES_OF_SERVICE}
 use Rattle.lt_spec.specs.FixedOrder.{can_act}
 use Rattle.lt_spec.specs.NodeMove.{node_within, leaves_asks}
 use Rattle.lt_law_plays.specs.Merged.{Part, Joined}
@@ -38,14 +39,18 @@ abbrev pub AsksHavePlace : Type 0
 AsksHavePlace = (script : ScriptData) (parts : List Part) → IsScript script → Joined script parts
     → (q client : ℕ) (part : Part) → slice_get parts q ≡ Some part → IsTrue (can_act script q part.last client) → IsTrue (leaves_asks script part.last)
 
--- no clock is at its bound
-abbrev pub ClocksBelow : Type 0
-ClocksBelow = (script : ScriptData) (parts : List Part) → IsScript script → Joined script parts
-    → (q : ℕ) (part : Part) → slice_get parts q ≡ Some part → part.last.clock + 1 < 2 ^ 32
+-- no node made more moves than one of a service may
+abbrev pub FewMoves : List Part → Type 0
+FewMoves parts = (q : ℕ) (part : Part) → slice_get parts q ≡ Some part → length part.log ≤ MAX_MOVES_OF_SERVICE
 
--- each letter that was sent and not used fits its receiver
+-- then no clock is at its bound
+abbrev pub ClocksBelow : Type 0
+ClocksBelow = (script : ScriptData) (parts : List Part) → IsScript script → Joined script parts → FewMoves parts
+    → (q : ℕ) (part : Part) → slice_get parts q ≡ Some part → part.last.clock + 1 < 2 ^ 62
+
+-- and each letter that was sent and not used fits its receiver
 abbrev pub LettersLeftFit : Type 0
-LettersLeftFit = (script : ScriptData) (parts : List Part) → IsScript script → Joined script parts
+LettersLeftFit = (script : ScriptData) (parts : List Part) → IsScript script → Joined script parts → FewMoves parts
     → (p q : ℕ) (a b : Part) (rest : List Letter) (letter : Letter) → slice_get parts p ≡ Some a → slice_get parts q ≡ Some b
     → a.sent q ≡ b.used p ++ rest → Contains rest letter
     → IsTrue (fits (numbers_of script) q b.last.clock (b.last.set letter.set) letter)

@@ -11,8 +11,8 @@ pub fn law_joined()
     ensures logs { LogsOfParts }
 {}
 
-/// After it each node keeps what leaves room for a move more, no clock meets its bound, and each letter that is left
-/// fits its receiver, so also the one that is in its hand.
+/// After it each node keeps what leaves room for a move more. Where no node made more moves than one of a service may, no
+/// clock meets its bound, and each letter that is left fits its receiver, so also the one that is in its hand.
 pub fn law_hand_fits()
     ensures within { StatesWithin }
     ensures asks { AsksHavePlace }

@@ -12,6 +12,7 @@ use Rattle.lt_text.specs.Text.{lines}
 use Rattle.lt_script.specs.declared.fault.ScriptFault.{ScriptFault}
 use Rattle.lt_script.specs.declared.fault.Fault.TheVariants as faults
 use Rattle.lt_script.specs.Reading.{read_of}
+use Rattle.lt_script.proofs.ShortScripts.{read_is_short}
 use Rattle.lt_words.specs.declared.command.Command.{Command}
 use Rattle.lt_words.specs.declared.command.Command.TheVariants.{Run, SimFirst, Sim, Check, Make, Order}
 use Rattle.lt_journal.specs.Split as split
@@ -92,22 +93,25 @@ answered input script answer before denoted e =
     subst (λ (s : ScriptData). checked_input s (lines input) ≡ answer) (one_script input script before denoted) e
 
 -- what is told of the journal in an input is what it is answered
-accepted_run : (input : List ℕ) (script : ScriptData) (run : List Logged) → IsScript script → IsFinished script run → IsJournalOf (Some input) script run
-    → checked_input script (lines input) ≡ Ok run
-accepted_run input script run is_script finished journal = (accepted_input script input run is_script).1 (finished, journal)
+accepted_run : (input : List ℕ) (script : ScriptData) (run : List Logged) → IsScript script → read_of (take (input_parts input).script input) ≡ Ok script
+    → IsFinished script run → IsJournalOf (Some input) script run → checked_input script (lines input) ≡ Ok run
+accepted_run input script run is_script denoted finished journal =
+    (accepted_input script input run is_script (read_is_short (take (input_parts input).script input) script denoted)).1 (finished, journal)
 
-refused_line : (input : List ℕ) (script : ScriptData) (line : ℕ) → IsScript script → IsFirstBadIn script line input → checked_input script (lines input) ≡ Err line
-refused_line input script line is_script bad = (refused_input script input line is_script).1 bad
+refused_line : (input : List ℕ) (script : ScriptData) (line : ℕ) → IsScript script → read_of (take (input_parts input).script input) ≡ Ok script
+    → IsFirstBadIn script line input → checked_input script (lines input) ≡ Err line
+refused_line input script line is_script denoted bad =
+    (refused_input script input line is_script (read_is_short (take (input_parts input).script input) script denoted)).1 bad
 
 right_run : (run : List Logged) (text : List ℕ) → Checks Done (Some checked_lock) run text → run ≡ the_move ∷ []
 right_run run text k =
     same_run run (the_move ∷ []) (checked_input one_lock_script (lines checked_lock))
-    (answered checked_lock k.script (Ok run) right_before k.denoted (accepted_run checked_lock k.script run k.is_script k.finished k.accepted)) right_answer
+    (answered checked_lock k.script (Ok run) right_before k.denoted (accepted_run checked_lock k.script run k.is_script k.denoted k.finished k.accepted)) right_answer
 
 pub never_bad : (line : ℕ) → IsBad (Some checked_lock) line → ⊥
 never_bad line is =
     run_or_line (the_move ∷ []) line (checked_input one_lock_script (lines checked_lock)) right_answer
-    (answered checked_lock is.0 (Err line) right_before is.2 (refused_line checked_lock is.0 line is.1 is.3))
+    (answered checked_lock is.0 (Err line) right_before is.2 (refused_line checked_lock is.0 line is.1 is.2 is.3))
 
 pub without_fault : (fault : ScriptFault) → HasFaultBefore (Some checked_lock) fault → ⊥
 without_fault fault h =
@@ -126,9 +130,9 @@ check_says = record {
   never_bad = λ line h. never_bad line (h.bad_journal line refl).1;
   bad = λ line h.
       let is = (h.bad_journal line refl).1 in
-      same_line line 7 (checked_input one_lock_script (lines wrong_mode)) (answered wrong_mode is.0 (Err line) wrong_before is.2 (refused_line wrong_mode is.0 line is.1 is.3)) wrong_answer;
+      same_line line 7 (checked_input one_lock_script (lines wrong_mode)) (answered wrong_mode is.0 (Err line) wrong_before is.2 (refused_line wrong_mode is.0 line is.1 is.2 is.3)) wrong_answer;
   never_done = λ run old new t.
-      let accepted = accepted_run wrong_mode t.1.script run t.1.is_script t.1.finished t.1.accepted in
+      let accepted = accepted_run wrong_mode t.1.script run t.1.is_script t.1.denoted t.1.finished t.1.accepted in
       run_or_line run 7 (checked_input one_lock_script (lines wrong_mode)) (answered wrong_mode t.1.script (Ok run) wrong_before t.1.denoted accepted) wrong_answer;
   fault = λ fault h.
       same_fault fault (record { line = 4; fault = faults.Mode }) (read_of no_mode)
@@ -245,7 +249,7 @@ five_lines = ap (λ (all : List (List ℕ)). length all) (journal_part wrong_mod
 -- the second line of its journal is the first bad one
 second_bad : (script : ScriptData) → IsScript script → read_of (take (input_parts wrong_mode).script wrong_mode) ≡ Ok script → IsFirstBadIn script 7 wrong_mode
 second_bad script is_script denoted =
-    (refused_input script wrong_mode 7 is_script).0
+    (refused_input script wrong_mode 7 is_script (read_is_short (take (input_parts wrong_mode).script wrong_mode) script denoted)).0
     (subst (λ (s : ScriptData). checked_input s (lines wrong_mode) ≡ Err 7) (sym (one_script wrong_mode script wrong_before denoted)) wrong_answer)
 
 not_good : IsGoodToLast wrong_mode → ⊥

@@ -7,7 +7,7 @@ use Rattle.rand_core.specs.Steps as steps
 use Rattle.lt_modes.specs.Script.{ScriptData}
 use Rattle.lt_modes.specs.Modes.{conflicts}
 use Rattle.lt_spec.specs.World.{Logged, world_after, can_move, is_some_letter, is_of_node, IsRun}
-use Rattle.lt_spec.specs.Script.{IsScript}
+use Rattle.lt_spec.specs.Script.{IsScript, IsShort}
 use Rattle.lt_text.specs.Text as text
 use Rattle.lt_script.specs.Printing.{print_of}
 use Rattle.lt_script.specs.Printing as printing
@@ -249,16 +249,17 @@ writers_before : take (input_parts checked_writers).script checked_writers ≡ t
 unfolding text.lines text.cut_at text.words split.after_first_line
 writers_before = refl
 
-few_moves : RunsAreShort → (script : ScriptData) (run : List Logged) → IsScript script → IsRun script run → (node : ℕ)
+few_moves : RunsAreShort → (script : ScriptData) (run : List Logged) → IsScript script → IsShort script → IsRun script run → (node : ℕ)
     → count_by (is_of_node node) run ≤ 1073741824
-few_moves short script run is_script is_run node = omega (arith, short script run is_script is_run, count_by-le-length (is_of_node node) run)
+few_moves short script run is_script is_short is_run node =
+    omega (arith, short script run is_script is_short is_run, count_by-le-length (is_of_node node) run)
 
 -- what `check` says of some script
 checked_so : RunsAreShort → (input : Option (List ℕ)) (run : List Logged) (text : List ℕ) → (k : Checks Done input run text) → CheckedRun k.script run
 checked_so short input run text k = record {
   is_run = k.finished.is_run;
   rest = k.finished.at_rest;
-  few = few_moves short k.script run k.is_script k.finished.is_run;
+  few = few_moves short k.script run k.is_script k.is_short k.finished.is_run;
   promised = k.promised;
 }
 

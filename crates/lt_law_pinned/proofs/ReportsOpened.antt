@@ -10,6 +10,7 @@ use Rattle.lt_text.specs.Text.{lines}
 use Rattle.lt_call.specs.Outcomes.{IsRefused}
 use Rattle.lt_script.specs.declared.fault.ScriptFault.{ScriptFault}
 use Rattle.lt_script.specs.Reading.{read_of}
+use Rattle.lt_script.proofs.ShortScripts.{read_is_short}
 use Rattle.lt_journal.specs.Split.{input_parts}
 use Rattle.lt_law_journals.specs.Checking.{checked_input, IsFinished, IsFirstBadIn}
 use Rattle.lt_law_journals.proofs.Answers.{accepted_input, refused_input}
@@ -70,12 +71,15 @@ run_or_line : (run : List Logged) (line : ℕ) (answer : Result (List Logged) �
 run_or_line run line answer e f = cc
 
 -- what is told of the journal in an input is what it is answered
-accepted_run : (bytes : List ℕ) (script : ScriptData) (run : List Logged) → IsScript script → IsFinished script run → IsJournalOf (Some bytes) script run
-    → checked_input script (lines bytes) ≡ Ok run
-accepted_run bytes script run is_script finished journal = (accepted_input script bytes run is_script).1 (finished, journal)
+accepted_run : (bytes : List ℕ) (script : ScriptData) (run : List Logged) → IsScript script → read_of (take (input_parts bytes).script bytes) ≡ Ok script
+    → IsFinished script run → IsJournalOf (Some bytes) script run → checked_input script (lines bytes) ≡ Ok run
+accepted_run bytes script run is_script denoted finished journal =
+    (accepted_input script bytes run is_script (read_is_short (take (input_parts bytes).script bytes) script denoted)).1 (finished, journal)
 
-refused_line : (bytes : List ℕ) (script : ScriptData) (line : ℕ) → IsScript script → IsFirstBadIn script line bytes → checked_input script (lines bytes) ≡ Err line
-refused_line bytes script line is_script bad = (refused_input script bytes line is_script).1 bad
+refused_line : (bytes : List ℕ) (script : ScriptData) (line : ℕ) → IsScript script → read_of (take (input_parts bytes).script bytes) ≡ Ok script
+    → IsFirstBadIn script line bytes → checked_input script (lines bytes) ≡ Err line
+refused_line bytes script line is_script denoted bad =
+    (refused_input script bytes line is_script (read_is_short (take (input_parts bytes).script bytes) script denoted)).1 bad
 
 -- the run that is told is the one that the input says
 pub run_so : (bytes : List ℕ) (script : ScriptData) (answer : Result (List Logged) ℕ) (told : ScriptData) (run : List Logged)
@@ -85,7 +89,7 @@ run_so bytes script answer told run is_script is denoted accepted finished =
     let same = same_script told script (read_of (take (input_parts bytes).script bytes)) denoted is.denoted in
     sym is.answered
     ∙ ap (λ (s : ScriptData). checked_input s (lines bytes)) (sym same)
-    ∙ accepted_run bytes told run (subst IsScript (sym same) is_script) finished accepted
+    ∙ accepted_run bytes told run (subst IsScript (sym same) is_script) denoted finished accepted
 
 text_so : (bytes : List ℕ) (script : ScriptData) (run : List Logged) (text : List ℕ) → IsScript script → InputIs bytes script (Ok run) → IsReportOf (Some bytes) text
     → text ≡ waits_text script (waits_report script (world_after script run))
@@ -121,7 +125,7 @@ pub bad_so : (bytes : List ℕ) (script : ScriptData) (answer : Result (List Log
 bad_so bytes script answer line is bad =
     sym is.answered
     ∙ ap (λ (s : ScriptData). checked_input s (lines bytes)) (same_script script bad.0 (read_of (take (input_parts bytes).script bytes)) is.denoted bad.2)
-    ∙ refused_line bytes bad.0 line bad.1 bad.3
+    ∙ refused_line bytes bad.0 line bad.1 bad.2 bad.3
 
 pub reports_told : ReportsTold
 reports_told = record {

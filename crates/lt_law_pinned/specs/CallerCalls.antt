@@ -1,5 +1,5 @@
 -- What callers that were served are told, of any callers, and how their runs end, of small runs.
-use Rattle.std.specs.Prelude.{◌≡◌, ◌<◌, ◌++◌, ◌∷◌, [], ℕ, List, Option, Some, codes, length, take, slice_get}
+use Rattle.std.specs.Prelude.{◌≡◌, ◌<◌, ◌≤◌, ◌++◌, ◌∷◌, [], ℕ, List, Option, Some, codes, length, take, slice_get}
 use mathlib.Core.List.{IsPrefix}
 use Rattle.lt_modes.specs.declared.command.Command.{Command}
 use Rattle.lt_modes.specs.declared.command.Command.TheVariants.{Lock, Unlock}
@@ -73,6 +73,7 @@ module _ {C : Type 0} (goes : C → Option Reply → Option Command → C → Ty
 
   pub record CallersTold : Type 0 where
     pub is_script : OfServed (λ first callers served. IsScript served.script)
+    pub is_short : OfServed (λ first callers served. length served.script.commands ≤ 4096)
     pub same : OfServed (λ first callers served. served.script ≡ with_commands first served.script.commands)
     pub is_run : OfServed (λ first callers served. IsRun served.script served.run.entries)
     pub rising : OfServed (λ first callers served. AreRising served.run.entries)

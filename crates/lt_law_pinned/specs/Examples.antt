@@ -25,20 +25,24 @@ Says moves command status input run old new = Did moves (Some command) status (S
 
 -- with this answer to the command, this text is written
 abbrev pub Writes : ℕ → Command → Status → List ℕ → List ℕ → Type 0
-Writes moves command status input text = (run : List Logged) (old new : List ℕ) → Says moves command status input run old new → new ≡ old ++ text
+Writes moves command status input text = (run : List Logged) (old new : List ℕ)
+    → Says moves command status input run old new → new ≡ old ++ text
 
 -- after a write fault a first part of this text is written, and not all of it
 abbrev pub WritesPart : ℕ → Command → List ℕ → List ℕ → Type 0
-WritesPart moves command input text = (run : List Logged) (old new : List ℕ) → Says moves command WriteFault input run old new
+WritesPart moves command input text = (run : List Logged) (old new : List ℕ)
+    → Says moves command WriteFault input run old new
     → (n : ℕ) × (n < length text) × (new ≡ old ++ take n text)
 
 -- with this answer to the command no run is told, and nothing was written
 abbrev pub SaysNothing : Command → Status → List ℕ → Type 0
-SaysNothing command status input = (run : List Logged) (old new : List ℕ) → Says MAX_MOVES command status input run old new → (run ≡ []) × (new ≡ old)
+SaysNothing command status input = (run : List Logged) (old new : List ℕ)
+    → Says MAX_MOVES command status input run old new → (run ≡ []) × (new ≡ old)
 
 -- the command never has this answer
 abbrev pub IsNever : ℕ → Command → Status → List ℕ → Type 0
-IsNever moves command status input = (run : List Logged) (old new : List ℕ) → Says moves command status input run old new → ⊥
+IsNever moves command status input = (run : List Logged) (old new : List ℕ)
+    → Says moves command status input run old new → ⊥
 
 -- a client takes one lock
 abbrev pub one_lock : List ℕ

@@ -115,7 +115,8 @@ pub record LiveWordsTold : Type 0 where
 
 -- why there is no run
 pub record LiveRefusalsTold : Type 0 where
-  pub fault : (c : LiveCall) (fault : ScriptFault) → ReadsBytes [] c → c.answer.status ≡ Refused fault → fault ≡ no_nodes
+  pub fault : (c : LiveCall) (fault : ScriptFault) → ReadsBytes [] c → c.answer.status ≡ Refused fault
+      → fault ≡ no_nodes
   pub no_fault : (c : LiveCall) (fault : ScriptFault) → ReadsBytes two_writers c → c.answer.status ≢ Refused fault
   pub no_share : (c : LiveCall) (client : ℕ) → ReadsBytes two_writers c → c.answer.status ≢ Share client
   -- nothing was done then
@@ -147,7 +148,8 @@ pub record LiveCountsTold : Type 0 where
 -- which end comes where nothing fails
 pub record LiveEndsTold : Type 0 where
   pub never_cut : (c : LiveCall) (node : ℕ) → IsCall c → c.answer.status ≢ Cut node
-  pub done_or_stuck : (c : LiveCall) → ReadsBytes two_writers c → IsUntroubled c → (c.answer.status ≡ Done) ⊎ (c.answer.status ≡ Stuck)
+  pub done_or_stuck : (c : LiveCall) → ReadsBytes two_writers c → IsUntroubled c
+      → (c.answer.status ≡ Done) ⊎ (c.answer.status ≡ Stuck)
   pub ordered : (c : LiveCall) → ReadsBytes one_lock c → IsUntroubled c → c.answer.status ≡ Done
   pub never_stuck : (c : LiveCall) → ReadsBytes one_lock c → c.answer.status ≢ Stuck
 
@@ -156,12 +158,14 @@ pub record LiveEndsTold : Type 0 where
 
 -- with this answer the run is one of the two writers that ended so
 abbrev pub LiveEndIs : Status → Bool → Type 0
-LiveEndIs status waiting = (c : LiveCall) → ReadsBytes two_writers c → c.answer.status ≡ status → EndedRun two_writers_script c.answer.run.entries waiting
+LiveEndIs status waiting = (c : LiveCall) → ReadsBytes two_writers c → c.answer.status ≡ status
+    → EndedRun two_writers_script c.answer.run.entries waiting
 
 -- with this answer the journal of the run was appended
 abbrev pub WritesJournal : Status → Type 0
 WritesJournal status = (c : LiveCall) (old new : List ℕ) → ReadsBytes two_writers c → c.answer.status ≡ status
-    → c.sink.held ≡ Some old → c.sink_after.held ≡ Some new → new ≡ old ++ text_of two_writers_script c.answer.run.entries None
+    → c.sink.held ≡ Some old → c.sink_after.held ≡ Some new
+    → new ≡ old ++ text_of two_writers_script c.answer.run.entries None
 
 -- a first part of the journal of a run of the two writers
 pub record JournalPart (run : List Logged) (old new : List ℕ) : Type 0 where
@@ -176,8 +180,10 @@ pub record IsLiveRun (script : ScriptData) (run : List Logged) : Type 0 where
   pub is_run : IsRun script run
   pub promised : Promised script run
   pub few : (node : ℕ) → node < script.nodes → count_by (is_of_node node) run ≤ 1073741824
-  pub far : (node : ℕ) → node < script.nodes → can_move script (world_after script run) node ≡ true → count_by (is_of_node node) run ≡ 1073741824
-  pub shared : (client : ℕ) → client < length script.clients → length (commands_of script client) ≤ 4096 / length script.clients
+  pub far : (node : ℕ) → node < script.nodes → can_move script (world_after script run) node ≡ true
+      → count_by (is_of_node node) run ≡ 1073741824
+  pub shared : (client : ℕ) → client < length script.clients
+      → length (commands_of script client) ≤ 4096 / length script.clients
 
 -- the run in which the lock is taken and given back
 abbrev pub two_moves : List Logged
@@ -187,12 +193,14 @@ pub record LiveRunsTold : Type 0 where
   pub done : LiveEndIs Done false
   pub stuck : LiveEndIs Stuck true
   -- where the input isn't known, the run is one of some script
-  pub some : (c : LiveCall) → IsCall c → c.answer.status ≡ Stuck → (script : ScriptData) × IsLiveRun script c.answer.run.entries
+  pub some : (c : LiveCall) → IsCall c → c.answer.status ≡ Stuck
+      → (script : ScriptData) × IsLiveRun script c.answer.run.entries
   -- its moves stand in the order of their stamps
   pub not_falling : (c : LiveCall) → IsCall c → c.answer.status ≡ Done → c.answer.run.entries ≡ falling → ⊥
   pub not_crossed : (c : LiveCall) → IsCall c → c.answer.status ≡ Stuck → c.answer.run.entries ≡ crossed → ⊥
   -- the replies that were polled
-  pub stuck_replies : (c : LiveCall) → ReadsBytes two_writers c → c.answer.status ≡ Stuck → c.answer.run.entries ≡ both_moves
+  pub stuck_replies : (c : LiveCall) → ReadsBytes two_writers c → c.answer.status ≡ Stuck
+      → c.answer.run.entries ≡ both_moves
       → c.answer.polled.items ≡ (0, reply.Granted) ∷ []
   pub done_replies : (c : LiveCall) → ReadsBytes one_lock c → c.answer.status ≡ Done → c.answer.run.entries ≡ two_moves
       → c.answer.polled.items ≡ (0, reply.Granted) ∷ (0, reply.Unlocked) ∷ []

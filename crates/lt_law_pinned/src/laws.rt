@@ -7,8 +7,8 @@ use lt_law_ends::law_never_cut;
 
 /// Runs with one fault each, none of which is promised.
 ///
-/// In most of them a line names a client or a set that the script doesn't have, or a client is on a node that it doesn't
-/// have: so all else that is promised holds of them, and no other part of the promise rules them out.
+/// In most of them a line names a client or a set that the script doesn't have, or a client is on a node that it
+/// doesn't have: so all else that is promised holds of them, and no other part of the promise rules them out.
 pub fn law_excluded()
     ensures locks { LocksExcluded }
     ensures places { PlacesExcluded }
@@ -26,8 +26,8 @@ pub fn law_worlds_excluded()
     ensures opens { PromisedOpens }
 {}
 
-/// A script of version 2, its run and its journal, which have each form of a line, each command, each event and each mode;
-/// and a script of twenty commands that is made from a seed.
+/// A script of version 2, its run and its journal, which have each form of a line, each command, each event and each
+/// mode; and a script of twenty commands that is made from a seed.
 pub fn law_texts()
     ensures whole { WholeIs }
     ensures drawn { DrawnIs }

@@ -78,5 +78,5 @@ heads_fit script l whole h few p q letter below among =
     and_from (nat_lt letter.set (length script.sets)) _ (lt-ltb letter.set (length script.sets) home.set)
     (and_from (nat_lt letter.link.node script.nodes) _ (lt-ltb letter.link.node script.nodes (subst (λ x. x < script.nodes) link.node named))
     (and_from (nat_le letter.link.epoch letter.stamp.clock) _ (le-leb letter.link.epoch letter.stamp.clock timed.epoch)
-    (and_from (nat_lt (letter.stamp.clock + 1) 4294967296) _ (lt-ltb (letter.stamp.clock + 1) 4294967296 (omega (arith, low, few)))
-    (lt-ltb ((l.last q).clock + 1) 4294967296 (omega (arith, clock, few))))))
+    (and_from (nat_lt (letter.stamp.clock + 1) 4611686018427387904) _ (lt-ltb (letter.stamp.clock + 1) 4611686018427387904 (omega (arith, low, few)))
+    (lt-ltb ((l.last q).clock + 1) 4611686018427387904 (omega (arith, clock, few))))))

@@ -90,10 +90,10 @@ abbrev pub LettersAreCounted : Type 0
 LettersAreCounted = (script : ScriptData) (l : Logs) → ArePlays script l
     → (p q : ℕ) (letter : Letter) → Contains (l.sent p q) letter → letter.stamp.clock ≤ sum_below script.nodes (λ y. length (l.log y))
 
--- so where all nodes together make fewer than 2^32 - 1 moves, what each node tests first of a letter holds of every letter that was
+-- so where all nodes together make fewer than 2^62 - 1 moves, what each node tests first of a letter holds of every letter that was
 -- sent to it: its set, its link and the clocks
 abbrev pub HeadsFit : Type 0
-HeadsFit = (script : ScriptData) (l : Logs) → IsWhole script → ArePlays script l → sum_below script.nodes (λ y. length (l.log y)) + 1 < 2 ^ 32
+HeadsFit = (script : ScriptData) (l : Logs) → IsWhole script → ArePlays script l → sum_below script.nodes (λ y. length (l.log y)) + 1 < 2 ^ 62
     → (p q : ℕ) (letter : Letter) → p < script.nodes → Contains (l.sent p q) letter → IsTrue (head_fits (numbers_of script) (l.last q).clock letter)
 
 -- what nodes log in a run, where they use and send these letters

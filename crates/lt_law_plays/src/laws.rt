@@ -38,7 +38,7 @@ pub fn law_tokens()
     ensures came { TokenCame }
 {}
 
-/// Clocks are no greater than the number of moves, so no letter is refused for its numbers in plays of fewer than 2^32 - 1 moves.
+/// Clocks are no greater than the number of moves, so no letter is refused for its numbers in plays of fewer than 2^62 - 1 moves.
 pub fn law_low_clocks()
     ensures counted { ClocksAreCounted }
     ensures letters { LettersAreCounted }

@@ -1,8 +1,8 @@
 ghost use Rattle.lt_law_upgrades.specs.UpgradeLaws.{UpgradingFinish, UpgradingRelease, HolderHasDesk, ChangeIsNext, OrderedIsUpgrading, UpgradeInTurnRow, ReadToUpgradeRow, ChangedWhileLaterRow, TriedAgainRow, ChangedTwiceRow};
 
-/// A run of a script whose clients ask for sets in the order of their ranks, and change locks that exclude themselves, has no
-/// waiting client at rest, and nothing is held then. Meanwhile the desk stays where such a lock is held, and a change is
-/// served next. An ordered script is one of these.
+/// A run of a script whose clients ask for sets in the order of their ranks, and change locks that exclude themselves,
+/// has no waiting client at rest, and nothing is held then. Meanwhile the desk stays where such a lock is held, and a
+/// change is served next. An ordered script is one of these.
 pub fn law_upgrades()
     ensures finish { UpgradingFinish }
     ensures release { UpgradingRelease }

@@ -1,5 +1,5 @@
-//! Scripts whose clients ask for sets in order and change locks that exclude themselves, as `upgrade` to `write`: at rest
-//! nobody waits, and nothing is held.
+//! Scripts whose clients ask for sets in order and change locks that exclude themselves, as `upgrade` to `write`: at
+//! rest nobody waits, and nothing is held.
 #![tactic(auto)]
 
 mod laws;

@@ -11,8 +11,9 @@ use Rattle.lt_modes.specs.Script.{ScriptData}
 use Rattle.lt_lists.specs.Below.{sum_below}
 use Rattle.lt_spec.specs.Holdings.{lines_of}
 use Rattle.lt_spec.specs.World.{is_reply_to, replies_of, Logged, is_of_node}
-use Rattle.lt_spec.specs.declared.limits.TheConstants.{MAX_COMMANDS}
+use Rattle.lt_spec.specs.declared.limits.TheConstants.{MAX_COMMANDS, MAX_COMMANDS_OF_SERVICE}
 use Rattle.lt_spec.specs.NodeMove.{commands_of, home, with_commands}
+use Rattle.lt_spec.specs.Script.{IsScript}
 use Rattle.lt_script.proofs.NameLemmas.{element_at}
 use Rattle.lt_law_invariant.proofs.FewAsks.{whole}
 use Rattle.lt_law_own_lines.proofs.OwnRuns.{replies_of_log}
@@ -22,8 +23,8 @@ use Rattle.lt_law_merged.proofs.PartLogs.{joined_merges, part_is}
 use Rattle.lt_mail.specs.Words.{Alike}
 use Rattle.lt_runner.specs.declared.parts.Parts.{Parts}
 use Rattle.lt_runner.specs.Kept.{SameRunner, AsSeen}
-use Rattle.lt_threads.specs.Meeting.{AreShares, ShareScript, AreTooMany, HaveAll, IsSharedRun, commands_in, part_of, IsCrew, crew_run, IsJoined}
-use Rattle.lt_threads.proofs.Shares.{same_in_joined, joined_crew}
+use Rattle.lt_threads.specs.Meeting.{AreShares, ShareScript, AreTooMany, IsSharedRun, commands_in, command_count, part_of, IsCrew, crew_run}
+use Rattle.lt_threads.proofs.Shares.{same_in_joined}
 use Rattle.lt_threads.proofs.Each.{each_weaker}
 use Rattle.lt_threads.proofs.Logs.{crew_last, SameLog, same_run}
 use Rattle.lt_threads.proofs.Joined.{joined}
@@ -31,10 +32,10 @@ use Rattle.lt_threads.proofs.Shown.{part_here}
 use Rattle.lt_live.specs.declared.reply.Reply.{Reply}
 use Rattle.lt_live.specs.declared.reply.Reply.TheVariants.{Granted, True, False, Unlocked, NotHeld, Changed, Dropped, Busy}
 use Rattle.lt_live.specs.Seats.{told_if, reply_to, replies_in, IsServedSession}
-use Rattle.lt_live.specs.Live.{RepliesOfLines, RepliesInLog, AreLive, LiveScript, IsServedRun, ServedBy, SaysSame, Settled, SharedNow, ServedNow}
+use Rattle.lt_live.specs.Live.{RepliesOfLines, RepliesInLog, AreLive, LiveScript, IsServedRun, IsRunOfAll, ServedBy, SaysSame, Settled, SharedNow, ServedNow}
 use Rattle.lt_live.specs.declared.ends.Session.{Session}
 use Rattle.lt_live.specs.Words.{submitted, polled}
-use Rattle.lt_live.specs.Stations.{StationData, equal_share, runner_of}
+use Rattle.lt_live.specs.Stations.{StationData, most_share, equal_share, HaveEqualShares, runner_of}
 use Rattle.lt_live.proofs.SeatLists.{alike_after, alike_len}
 
 -- the line is no reply to the client, and says nothing to it; or it is one, and says this
@@ -112,7 +113,6 @@ record At (script : ScriptData) (rs : List Parts) (sessions : List Session) (cli
   runner : Parts
   was : slice_get sessions client ≡ Some before
   says : SaysSame before now
-  share : now.share ≡ equal_share script
   here : slice_get rs (home script client) ≡ Some runner
   served : ServedBy runner client now
 
@@ -130,7 +130,6 @@ module _ (script : ScriptData) (stations later : List StationData) (sessions aft
         runner = live.station.runner;
         was = e;
         says = now.2;
-        share = live.share;
         here = ap (λ (ps : List Parts). slice_get ps (home script client)) taken ∙ there;
         served = settled.served client now.0 (slice_get_within sessions client s e) now.1 live.station.runner
             (ap (λ (ps : List Parts). slice_get ps (home script client)) (sym settled.runners) ∙ there);
@@ -139,9 +138,22 @@ module _ (script : ScriptData) (stations later : List StationData) (sessions aft
   shares : AreShares script rs
   shares = subst (λ (ps : List Parts). AreShares script ps) (sym taken) settled.live.runners
 
-  -- no client has more commands than its share
-  few_of : (client : ℕ) → client < length script.clients → length (commands_of (with_commands script (commands_in rs)) client) ≤ equal_share script
-  few_of client below =
+  -- the session's script is this one, and its share no more than all may have
+  of_script : (client : ℕ) (s : Session) → slice_get sessions client ≡ Some s → (s.script ≡ script) × (s.share ≤ most_share script)
+  of_script client s e =
+      let now = alike_after SaysSame sessions after settled.each client s e in
+      let says : SaysSame s now.0 = now.2 in
+      let live = settled.live.each client now.0 now.1 in
+      (sym says.same.script ∙ live.script_is, omega (arith, says.same.share, live.share))
+
+  -- where no share is more than this
+  abbrev AreWithin : ℕ → Type 0
+  AreWithin most = (client : ℕ) (s : Session) → slice_get sessions client ≡ Some s → s.share ≤ most
+
+  -- no client has more commands
+  few_of : (most : ℕ) → AreWithin most → (client : ℕ) → client < length script.clients
+      → length (commands_of (with_commands script (commands_in rs)) client) ≤ most
+  few_of most within client below =
       let (s, e) = element_at sessions client (omega (arith, below, settled.live.count, alike_len SaysSame sessions after settled.each)) in
       let at = at_end client s e in
       let p = at.runner in
@@ -150,20 +162,32 @@ module _ (script : ScriptData) (stations later : List StationData) (sessions aft
       (same_in_joined script rs shares (home script client) p at.here).own client (ap (λ (x : ScriptData). home x client) own) in
       let served = first_few (commands_of p.node.script client) (submitted at.now) at.served.commands in
       let spent = at.now.spent in
-      let share = at.share in
+      let share = at.says.same.share in
+      let own = within client at.before at.was in
       let same = ap (λ (list : List Command). length list) joined in
-      omega (arith, same, served, spent, share)
+      omega (arith, same, served, spent, share, own)
 
-  pub not_many : ¬ AreTooMany rs
-  not_many many =
+  -- and all have no more together
+  together : (most : ℕ) → AreWithin most → command_count (with_commands script (commands_in rs)) ≤ length script.clients * most
+  together most within =
+      sum_few (length script.clients) most (λ client. length (commands_of (with_commands script (commands_in rs)) client)) (few_of most within)
+
+  pub few_for_service : command_count (with_commands script (commands_in rs)) ≤ MAX_COMMANDS_OF_SERVICE
+  few_for_service =
+      let few = together (most_share script) (λ client s e. (of_script client s e).1) in
+      let all = mul-div-le MAX_COMMANDS_OF_SERVICE (length script.clients) in
+      omega (arith, few, all)
+
+  pub not_many : HaveEqualShares sessions → ¬ AreTooMany rs
+  not_many equal many =
       let past = many script shares in
-      let few = sum_few (length script.clients) (equal_share script) (λ client. length (commands_of (with_commands script (commands_in rs)) client)) few_of in
+      let few = together (equal_share script) (λ client s e. subst (λ (x : ScriptData). s.share ≤ equal_share x) (of_script client s e).0 (equal client s e)) in
       let all = mul-div-le MAX_COMMANDS (length script.clients) in
       omega (arith, past, few, all)
 
-  pub served_run : (made : ScriptData) (run : List Logged) → IsSharedRun rs made run → IsServedRun script sessions made run
+  pub served_run : (made : ScriptData) (run : List Logged) → IsRunOfAll rs made run → IsServedRun script sessions made run
   served_run made run shared = record {
-    is_script = shared.joined.crew.is_script;
+    is_script = shared.crew.is_script;
     same = same;
     is_run = shared.is_run;
     rising = shared.rising;
@@ -173,7 +197,7 @@ module _ (script : ScriptData) (stations later : List StationData) (sessions aft
       same : made ≡ with_commands script made.commands
       same =
           let (p, here) = element_at rs 0 (omega (arith, shares.some, shares.count)) in
-          (shared.joined.crew.each 0 p here).script_is.rest ∙ ap (λ (x : ScriptData). with_commands x made.commands) (shares.each 0 p here).script_is
+          (shared.crew.each 0 p here).script_is.rest ∙ ap (λ (x : ScriptData). with_commands x made.commands) (shares.each 0 p here).script_is
 
       each : (client : ℕ) (s : Session) → slice_get sessions client ≡ Some s → IsServedSession (commands_of made client) (lines_of run) client s
       each client s e =
@@ -182,11 +206,11 @@ module _ (script : ScriptData) (stations later : List StationData) (sessions aft
           let k = home script client in
           let own = (shares.each k p at.here).script_is in
           let listed : commands_of made client ≡ commands_of p.node.script client =
-          (shared.joined.crew.each k p at.here).script_is.own client (ap (λ (x : ScriptData). home x client) own) in
+          (shared.crew.each k p at.here).script_is.own client (ap (λ (x : ScriptData). home x client) own) in
           let logged : filter (is_of_node (home made client)) run ≡ p.log.entries =
           ap (λ (x : ScriptData). filter (is_of_node (home x client)) run) same ∙ shared.moves k p at.here in
           let told : replies_in client (lines_of run) ≡ replies_in client (lines_of p.log.entries) =
-          replies_in_log made run p.log.entries (whole made shared.joined.crew.is_script) shared.is_run client logged in
+          replies_in_log made run p.log.entries (whole made shared.crew.is_script) shared.is_run client logged in
           let is : at.before ≡ s = same_Some at.before s (sym at.was ∙ e) in
           subst (λ (u : Session). IsServedSession (commands_of made client) (lines_of run) client u) is
           (record {
@@ -195,6 +219,16 @@ module _ (script : ScriptData) (stations later : List StationData) (sessions aft
             replies = subst (λ (list : List Reply). IsPrefix (polled at.before) list) (sym told)
                 (subst (λ (list : List Reply). IsPrefix list (replies_in client (lines_of p.log.entries))) at.says.polled at.served.replies);
           })
+
+run_of_all : (rs : List Parts) (made : ScriptData) (run : List Logged) → IsSharedRun rs made run → IsRunOfAll rs made run
+run_of_all rs made run shared = record {
+  crew = shared.joined.crew;
+  commands = shared.joined.commands;
+  is_run = shared.is_run;
+  rising = shared.rising;
+  is_crew_run = shared.is_crew_run;
+  moves = shared.moves;
+}
 
 -- what is known once all looked at their rings
 abbrev pub AllSettled : List StationData → List Session → List StationData → List Session → Type 0
@@ -206,27 +240,39 @@ are_shares stations later sessions after rs live settled taken =
     (live.0, shares live.0 stations later sessions after rs (settled live.0 live.1) taken)
 
 pub never_many : (stations later : List StationData) (sessions after : List Session) (rs : List Parts) → LiveScript stations sessions
-    → AllSettled stations sessions later after → rs ≡ map runner_of later → ¬ AreTooMany rs
+    → AllSettled stations sessions later after → rs ≡ map runner_of later → HaveEqualShares sessions → ¬ AreTooMany rs
 never_many stations later sessions after rs live settled taken =
     not_many live.0 stations later sessions after rs (settled live.0 live.1) taken
 
--- a station that has forgotten moves had before
-pub not_all : (stations later : List StationData) (sessions after : List Session) (rs : List Parts) → LiveScript stations sessions
-    → AllSettled stations sessions later after → rs ≡ map runner_of later → ¬ HaveAll rs → ¬ HaveAll (map runner_of stations)
-not_all stations later sessions after rs live settled taken none all =
-    none (subst HaveAll (sym (taken ∙ (settled live.0 live.1).runners)) all)
+-- the runners that were taken are those that were there before
+pub same_taken : (stations later : List StationData) (sessions after : List Session) (rs : List Parts) → LiveScript stations sessions
+    → AllSettled stations sessions later after → rs ≡ map runner_of later → rs ≡ map runner_of stations
+same_taken stations later sessions after rs live settled taken = taken ∙ (settled live.0 live.1).runners
 
 pub finishes : (stations later : List StationData) (sessions after : List Session) (rs : List Parts) (made : ScriptData) (run : List Logged)
     → AllSettled stations sessions later after → rs ≡ map runner_of later → IsSharedRun rs made run
     → (script : ScriptData) → AreLive script stations sessions → IsServedRun script sessions made run
 finishes stations later sessions after rs made run settled taken shared script live =
-    served_run script stations later sessions after rs (settled script live) taken made run shared
+    served_run script stations later sessions after rs (settled script live) taken made run (run_of_all rs made run shared)
 
 -- The run that stations have made so far, though nobody merged their logs.
 
+-- runners that each appended commands are a crew of the script with all of them, however many these are
+all_crew : (script : ScriptData) (rs : List Parts) → AreShares script rs → IsScript (with_commands script (commands_in rs))
+    → IsCrew (with_commands script (commands_in rs)) rs
+all_crew script rs shares is_script = record {
+  is_script = is_script;
+  count = shares.count;
+  each = λ k p here.
+      let own = shares.each k p here in
+      record { script_is = same_in_joined script rs shares k p here; me = own.me; limit = own.limit };
+  links = shares.links;
+}
+
 pub shared_now : SharedNow
 shared_now script rs looked shares is_script seen met kept = record {
-  joined = whole;
+  crew = whole;
+  commands = refl;
   is_run = run.is_run;
   rising = run.is_merged.rising;
   is_crew_run = same_run made rs looked (each_weaker AsSeen SameLog (λ a b s. s.log) rs looked seen);
@@ -236,11 +282,11 @@ shared_now script rs looked shares is_script seen met kept = record {
     made : ScriptData
     made = with_commands script (commands_in rs)
 
-    whole : IsJoined rs made
-    whole = joined_crew script made rs shares refl is_script
+    whole : IsCrew made rs
+    whole = all_crew script rs shares is_script
 
     crew : IsCrew made looked
-    crew = crew_last made rs looked (each_weaker AsSeen SameRunner (λ a b s. s.same) rs looked seen) whole.crew
+    crew = crew_last made rs looked (each_weaker AsSeen SameRunner (λ a b s. s.same) rs looked seen) whole
 
     run : IsJoinedRun made (map part_of looked) (merged made.nodes (logs_of made (map part_of looked)).log)
     run = joined_merges made (map part_of looked) (joined made looked crew kept met)

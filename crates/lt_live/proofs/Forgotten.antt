@@ -51,7 +51,7 @@ seat_of_read p s t h reads =
     })
 
 pub station_read : (p : Parts) (old new : List Seat) → IsStation p old → EachSeat (HasReadOn p.log.entries) old new → IsStation p new
-station_read p old new h each = station_from p p old new h h.own refl (λ k seat e.
+station_read p old new h each = station_from p p old new h h.own (λ k seat e.
     let (was, here, reads) = each_before (HasReadOn p.log.entries) old new each k seat e in
     record { was = was; here = here; client = ap (λ (x : Seat). x.client) reads.seat; now = seat_of_read p was seat (h.each k was here) reads })
 
@@ -72,7 +72,7 @@ pub station_forgot : (a b : Parts) (seats : List Seat) → b ≡ record a { log 
     → HaveRead a.log.entries seats → IsStation a seats → IsStation b seats
 station_forgot a b seats is entries gone read h =
     subst (λ (p : Parts). IsStation p seats) (sym is)
-    (record { each = λ k seat e. each k seat e (h.each k seat e); apart = h.apart; own = h.own; few = h.few })
+    (record { each = λ k seat e. each k seat e (h.each k seat e); apart = h.apart; own = h.own })
   where
     each : (k : ℕ) (seat : Seat) → slice_get seats k ≡ Some seat → IsSeatOf a seat → IsSeatOf (record a { log = b.log }) seat
     each k seat e of = record {
@@ -94,7 +94,6 @@ station_without p gone seats h = record {
   each = λ k seat e. let of = h.each k seat e in record { client = of.client; home = of.home; kept = of.kept; places = of.places; gone = of.gone };
   apart = h.apart;
   own = h.own;
-  few = h.few;
 }
 
 pub goes_without : (p : Parts) (gone : ℕ) (seats : List Seat)

@@ -1,5 +1,5 @@
 -- A station gets its seats.
-use Rattle.std.proofs.Common.{◌≡◌, ℕ, List, [], ◌∷◌, ◌++◌, length, Some, sym, ap, subst, ◌∙◌, inl, inr, ◌<◌, ◌≤◌, ◌^◌, zero, suc, take, refl, arith, ◌≢◌, None, Bool, if◌then◌else◌, ◌⊎◌, slice_get, slice_set, append_assoc, append-nil, eq-eqb, ne_eqb}
+use Rattle.std.proofs.Common.{◌≡◌, ℕ, List, [], ◌∷◌, ◌++◌, length, Some, sym, ap, subst, ◌∙◌, inl, inr, ◌<◌, ◌≤◌, zero, suc, take, refl, arith, ◌≢◌, None, Bool, if◌then◌else◌, ◌⊎◌, slice_get, slice_set, append_assoc, append-nil, eq-eqb, ne_eqb}
 use Rattle.std.proofs.lemmas.Bool.{cases_eq}
 use Rattle.std.proofs.lemmas.Option.{same_Some, slice_get_within}
 use mathlib.Core.List.{IsPrefix}
@@ -21,12 +21,11 @@ use Rattle.lt_live.specs.Words.{told_to, outbox_replies, command_held}
 use Rattle.lt_live.specs.declared.reply.Reply.{Reply}
 
 -- before the first seat
-pub station_first : (p : Parts) → AreAt p.node.script p.node.me p.node.script.commands → p.limit < 2 ^ 32 → IsStation p []
-station_first p own few = record {
+pub station_first : (p : Parts) → AreAt p.node.script p.node.me p.node.script.commands → IsStation p []
+station_first p own = record {
   each = λ k seat e. none_here k seat e;
   apart = λ j k x y e f same. none_here j x e;
   own = own;
-  few = few;
 }
 
 -- one seat more
@@ -35,7 +34,6 @@ station_more p seats seat h here others = record {
   each = λ k x e. each k x (pushed seats seat k x e);
   apart = λ j k x y e f same. apart j k x y (pushed seats seat j x e) (pushed seats seat k y f) same;
   own = h.own;
-  few = h.few;
 }
   where
     each : (k : ℕ) (x : Seat) → (slice_get seats k ≡ Some x) ⊎ ((k ≡ length seats) × (seat ≡ x)) → IsSeatOf p x
@@ -132,29 +130,28 @@ pub record Stays (a b : Parts) (old : List Seat) (k : ℕ) (seat : Seat) : Type 
   pub now : IsSeatOf b seat
 
 pub station_from : (a b : Parts) (old new : List Seat) → IsStation a old → AreAt b.node.script b.node.me b.node.script.commands
-    → b.limit ≡ a.limit → ((k : ℕ) (seat : Seat) → slice_get new k ≡ Some seat → Stays a b old k seat) → IsStation b new
-station_from a b old new h own limit each = record {
+    → ((k : ℕ) (seat : Seat) → slice_get new k ≡ Some seat → Stays a b old k seat) → IsStation b new
+station_from a b old new h own each = record {
   each = λ k seat e. (each k seat e).now;
   apart = λ j k x y e f same.
       let one = each j x e in
       let two = each k y f in
       h.apart j k one.was two.was one.here two.here (sym one.client ∙ same ∙ two.client);
   own = own;
-  few = subst (λ (n : ℕ). n < 2 ^ 32) (sym limit) h.few;
 }
 
 pub station_taken : (p : Parts) (old new : List Seat) → IsStation p old → EachSeat TakesIn old new → IsStation p new
-station_taken p old new h each = station_from p p old new h h.own refl (λ k seat e.
+station_taken p old new h each = station_from p p old new h h.own (λ k seat e.
     let (was, here, takes) = each_before TakesIn old new each k seat e in
     record { was = was; here = here; client = takes.same.client; now = seat_of_taken p was seat (h.each k was here) takes })
 
 pub station_told : (p : Parts) (old new : List Seat) → IsStation p old → EachSeat (TellsSeat p.log.entries) old new → IsStation p new
-station_told p old new h each = station_from p p old new h h.own refl (λ k seat e.
+station_told p old new h each = station_from p p old new h h.own (λ k seat e.
     let (was, here, tells) = each_before (TellsSeat p.log.entries) old new each k seat e in
     record { was = was; here = here; client = tells.on.rest.same.client; now = seat_of_told p was seat (h.each k was here) tells })
 
 pub station_grew : (a b : Parts) (seats : List Seat) → IsStation a seats → Grew a b → IsStation b seats
-station_grew a b seats h grew = station_from a b seats seats h own grew.same.limit (λ k seat e.
+station_grew a b seats h grew = station_from a b seats seats h own (λ k seat e.
     record { was = seat; here = e; client = refl; now = seat_of_grew a b seat grew.same.script grew.same.me grew.same.gone grew.log (h.each k seat e) })
   where
     own : AreAt b.node.script b.node.me b.node.script.commands
@@ -212,7 +209,7 @@ other_handed a client z command apart h = record {
 handed : (a : Parts) (seats : List Seat) (place : ℕ) (x : Seat) (command : Command) → IsStation a seats → slice_get seats place ≡ Some x → x.hand ≡ Some command
     → IsStation (with_appended a x.client command) (slice_set seats place (record x { hand = None }))
 handed a seats place x command h here hand =
-    station_from a (with_appended a x.client command) seats (slice_set seats place (record x { hand = None })) h own refl (λ k seat e. by_place k seat e)
+    station_from a (with_appended a x.client command) seats (slice_set seats place (record x { hand = None })) h own (λ k seat e. by_place k seat e)
   where
     inside : place < length seats
     inside = slice_get_within seats place x here
@@ -256,7 +253,7 @@ set_same seats place x here k = elim (cases_eq k place) [
 ]
 
 unhanded : (a : Parts) (seats : List Seat) (place : ℕ) (x : Seat) → IsStation a seats → slice_get seats place ≡ Some x → IsStation a (slice_set seats place x)
-unhanded a seats place x h here = station_from a a seats (slice_set seats place x) h h.own refl (λ k seat e.
+unhanded a seats place x h here = station_from a a seats (slice_set seats place x) h h.own (λ k seat e.
     let was : slice_get seats k ≡ Some seat = sym (set_same seats place x here k) ∙ e in
     record { was = seat; here = was; client = refl; now = h.each k seat was })
 

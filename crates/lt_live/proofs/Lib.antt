@@ -10,3 +10,4 @@ pub mod LiveShares
 pub mod Settling
 pub mod StationPairs
 pub mod Moments
+pub mod EqualShares

@@ -3,7 +3,7 @@ use Rattle.std.proofs.Common.{◌≡◌, ◌≤◌, ℕ, List, [], Option, Some,
 use Rattle.lt_modes.specs.declared.command.Command.{Command}
 use Rattle.lt_modes.specs.Script.{ScriptData}
 use Rattle.lt_spec.specs.NodeMove.{with_commands, AreAt}
-use Rattle.lt_spec.specs.declared.moves.TheConstants.{MAX_MOVES}
+use Rattle.lt_spec.specs.declared.moves.TheConstants.{MAX_MOVES_OF_SERVICE}
 use Rattle.lt_mail.specs.Words.{OutLane, out_at, in_at, Alike, Both, IsOpenLink, SameOut, SameIn}
 use Rattle.lt_mail.specs.declared.lane.InLane.{InLane}
 use Rattle.lt_mail.proofs.LookLemmas.{ends_join}
@@ -89,5 +89,5 @@ shares_last script old new on shares = record {
           own = subst (λ (q : ℕ). AreAt script q commands) before.me
               (subst (λ (s : ScriptData). AreAt s was.0.node.me commands) before.script_is (is.own own));
           me = is.me ∙ before.me;
-          limit = subst (λ (n : ℕ). n ≤ MAX_MOVES) (sym is.limit) before.limit;
+          limit = subst (λ (n : ℕ). n ≤ MAX_MOVES_OF_SERVICE) (sym is.limit) before.limit;
         }

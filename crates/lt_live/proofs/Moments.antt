@@ -1,23 +1,22 @@
 -- At a moment at which all are in one thread there is a run in which all were served.
-use Rattle.std.proofs.Common.{◌≡◌, ◌≢◌, ◌≤◌, ℕ, suc, List, [], ◌∷◌, ◌++◌, map, length, Option, Some, None, refl, sym, ap, subst, arith, ◌∙◌, inl, inr, slice_get, option_map, append_assoc}
+use Rattle.std.proofs.Common.{◌≡◌, ◌≢◌, ◌<◌, ◌≤◌, ℕ, suc, List, [], ◌∷◌, ◌++◌, map, length, Option, Some, None, refl, sym, ap, subst, arith, ◌∙◌, inl, inr, slice_get, option_map, append_assoc}
 use Rattle.std.specs.List.{AllByRecursion}
-use Rattle.std.proofs.lemmas.Bool.{cases_lt}
 use Rattle.std.proofs.lemmas.List.Elements.{recursion_from_All, All-from_recursion}
 use Rattle.std.proofs.lemmas.Option.{slice_get-map, slice_get_within}
 use mathlib.Core.List.{IsPrefix}
 use Rattle.lt_modes.specs.declared.command.Command.{Command}
 use Rattle.lt_modes.specs.Script.{ScriptData}
-use Rattle.lt_lists.proofs.AllLemmas.{all_append}
+use Rattle.lt_lists.proofs.AllLemmas.{all_append, all_weaker}
 use Rattle.lt_spec.specs.NodeMove.{with_commands, AreAt, commands_of}
 use Rattle.lt_spec.specs.Holdings.{lines_of}
 use Rattle.lt_spec.specs.Script.{IsScript, IsRequest, HasModesOf}
-use Rattle.lt_spec.specs.declared.limits.TheConstants.{MAX_COMMANDS}
+use Rattle.lt_spec.specs.declared.limits.TheConstants.{MAX_COMMANDS_OF_SERVICE}
 use Rattle.lt_script.proofs.NameLemmas.{element_at}
 use Rattle.lt_mail.specs.Words.{Alike}
 use Rattle.lt_runner.specs.declared.parts.Parts.{Parts}
 use Rattle.lt_runner.specs.Kept.{AsSeen, RunnerInvariant}
-use Rattle.lt_threads.specs.Meeting.{AreShares, AreScripts, AreKept, RunnersLinked, EachIs, commands_in}
-use Rattle.lt_threads.proofs.Shares.{too_many}
+use Rattle.lt_threads.specs.Meeting.{AreShares, AreScripts, AreKept, RunnersLinked, EachIs, commands_in, command_count}
+use Rattle.lt_threads.proofs.Shares.{counted}
 use Rattle.lt_live.specs.declared.ends.Session.{Session}
 use Rattle.lt_live.specs.declared.ends.Seat.{Seat}
 use Rattle.lt_live.specs.Seats.{replies_in}
@@ -29,7 +28,7 @@ use Rattle.lt_live.proofs.SeatLists.{alike_self, alike_join, alike_after, alike_
 use Rattle.lt_live.proofs.LiveShares.{goes_itself}
 use Rattle.lt_live.proofs.Settling.{live_lasts, says_itself, session_itself, same_sessions}
 use Rattle.lt_live.proofs.Telling.{polled_in_turn}
-use Rattle.lt_live.proofs.Finished.{AllSettled, served_now, not_many}
+use Rattle.lt_live.proofs.Finished.{AllSettled, served_now, few_for_service}
 
 -- Stations whose runners looked go on, and make no move.
 
@@ -140,7 +139,16 @@ module _ (script : ScriptData) (rs : List Parts) (shares : AreShares script rs) 
   own : (k : ℕ) (p : Parts) → slice_get rs k ≡ Some p → IsScript (with_commands script p.node.script.commands)
   own k p e = subst (λ (s : ScriptData). IsScript s) (shares.each k p e).script_is (scripts k p e)
 
-  pub joined_is_script : length (commands_in rs) ≤ MAX_COMMANDS → IsScript (with_commands script (commands_in rs))
+  abbrev Known : ℕ × Command → Type 0
+  Known request = request.0 < length script.clients
+
+  -- counted by clients they are as many
+  pub by_clients : command_count (with_commands script (commands_in rs)) ≡ length (commands_in rs)
+  by_clients = counted (length script.clients) (commands_in rs) (all_in Known rs (λ k q here.
+      all_weaker (IsRequest script.sets script.clients) Known (λ (request : ℕ × Command) is. is.0) q.node.script.commands
+      (recursion_from_All (IsRequest script.sets script.clients) q.node.script.commands (own k q here).requests)))
+
+  pub joined_is_script : length (commands_in rs) ≤ MAX_COMMANDS_OF_SERVICE → IsScript (with_commands script (commands_in rs))
   joined_is_script few =
       let (p, e) = element_at rs 0 (omega (arith, shares.some, shares.count)) in
       let good = own 0 p e in record {
@@ -181,13 +189,13 @@ settled_itself script stations later sessions after count h = record {
       subst (λ (rs : List Parts). ServedAt script rs client t) (sym h.runners) (h.served client t (omega (arith, below, count)) e);
 }
 
--- no script has more commands than it may have
+-- all together have no more commands than a service may have
 few_commands : (script : ScriptData) (stations later : List StationData) (sessions after : List Session) → Settled script stations sessions later after
-    → AreScripts (map runner_of later) → length (commands_in (map runner_of later)) ≤ MAX_COMMANDS
-few_commands script stations later sessions after settled scripts = elim (cases_lt MAX_COMMANDS (length (commands_in (map runner_of later)))) [
-  | inl past ↦ absurd (not_many script stations later sessions after (map runner_of later) settled refl (too_many (map runner_of later) scripts past))
-  | inr few ↦ few
-]
+    → AreScripts (map runner_of later) → length (commands_in (map runner_of later)) ≤ MAX_COMMANDS_OF_SERVICE
+few_commands script stations later sessions after settled scripts =
+    let all = by_clients script (map runner_of later) settled.live.runners scripts in
+    let few = few_for_service script stations later sessions after (map runner_of later) settled refl in
+    omega (arith, all, few)
 
 pub all_served : (script : ScriptData) (stations later new : List StationData) (sessions after : List Session) → Settled script stations sessions later after
     → StationsMet later new → HaveKeptRunners (length new) new → IsServedNow script after

@@ -1,5 +1,5 @@
 -- What is known of the runners as stations are opened.
-use Rattle.std.proofs.Common.{◌≡◌, ◌<◌, ◌≤◌, ◌^◌, ℕ, List, [], length, filter_map, Some, sym, ap, subst, ◌∙◌, ◌+◌, ◌∷◌, ◌++◌, map, arith, inl, inr, get_or, refl, slice_get, ◌⊎◌, slice_set, slice_index_or, option_map, length-append}
+use Rattle.std.proofs.Common.{◌≡◌, ◌<◌, ℕ, List, [], length, filter_map, Some, sym, ap, subst, ◌∙◌, ◌+◌, ◌∷◌, ◌++◌, map, arith, inl, inr, get_or, refl, slice_get, ◌⊎◌, slice_set, slice_index_or, option_map, length-append}
 use Rattle.std.proofs.lemmas.Bool.{cases_eq}
 use Rattle.std.proofs.lemmas.List.{length-map, map-append}
 use Rattle.std.proofs.lemmas.Option.{same_Some, slice_get-get_or, slice_get-map, slice_get_within}
@@ -9,12 +9,11 @@ use Rattle.lt_modes.specs.declared.command.Command.{Command}
 use Rattle.lt_modes.specs.Script.{ScriptData}
 use Rattle.lt_spec.specs.NodeMove.{commands_of, command_if, home, AreAt}
 use Rattle.lt_spec.specs.World.{Logged}
-use Rattle.lt_spec.specs.declared.moves.TheConstants.{MAX_MOVES}
 use Rattle.lt_runner.specs.declared.parts.Parts.{Parts}
 use Rattle.lt_threads.specs.Pushes.{IsFirstCrew}
 use Rattle.lt_live.specs.declared.ends.Seat.{Seat}
 use Rattle.lt_live.specs.Seats.{IsSeat, KnowAll, LooksBeside, HasToldAll}
-use Rattle.lt_live.specs.Stations.{IsSeatOf, StationData, AreOthers, IsNewSession, HasSeat, runner_of, SeatsBefore, Opens, AreSeatless, HaveNoCommands, MakeFew, IsStation, IsSeated, SeatLooks}
+use Rattle.lt_live.specs.Stations.{IsSeatOf, StationData, AreOthers, IsNewSession, HasSeat, runner_of, SeatsBefore, Opens, AreSeatless, HaveNoCommands, IsStation, IsSeated, SeatLooks}
 use Rattle.lt_live.specs.declared.ends.Session.{Session}
 use Rattle.lt_live.specs.declared.limits.TheConstants.{LETTER_PLACES}
 use Rattle.lt_live.specs.Words.{known_commands, outbox_replies, IsLink, command_held, known_replies}
@@ -50,30 +49,23 @@ pub first_commands : (script : ScriptData) (letters limit : ℕ) (rs : List Part
     → (k : ℕ) (p : Parts) → slice_get rs k ≡ Some p → p.node.script.commands ≡ []
 first_commands script letters limit rs first empty k p here = ap (λ (s : ScriptData). s.commands) (script_at script letters limit k rs p first here) ∙ empty
 
--- and they make few moves
-pub few_moves : (script : ScriptData) (letters limit : ℕ) (rs : List Parts) → IsFirstCrew script letters limit rs → limit ≤ MAX_MOVES → MakeFew rs
-few_moves script letters limit rs first few k p here = omega (arith, first.limits k p here, few)
-
-pub few_made : (runners : List Parts) (k : ℕ) (p : Parts) → MakeFew runners → k < length runners → p ≡ get_or runners k p → p.limit < 2 ^ 32
-few_made runners k p few inside here = few k p (slice_get-get_or runners k p inside ∙ ap Some (sym here))
-
 -- One session more, with its seat.
 
 -- the new session, its seat, and the station that it is put to
-pub record Adds (script : ScriptData) (capacity n place : ℕ) (x y : StationData) (s : Session) (seat : Seat) : Type 0 where
+pub record Adds (script : ScriptData) (capacity share n place : ℕ) (x y : StationData) (s : Session) (seat : Seat) : Type 0 where
   pub at_home : place ≡ home script n
   pub runner : y.runner ≡ x.runner
   pub seats : y.seats ≡ x.seats ++ seat ∷ []
-  pub new : IsNewSession script capacity n s
+  pub new : IsNewSession script capacity share n s
   pub place_is : s.place ≡ length x.seats
   pub link : IsLink s seat
   pub places : producer_capacity seat.replies ≡ capacity
   pub commands : known_commands seat ≡ []
   pub waits : outbox_replies seat ≡ []
 
-module _ (script : ScriptData) (limit capacity n place : ℕ) (stations : List StationData) (sessions : List Session) (d y : StationData) (s : Session) (seat : Seat)
-    (h : Opens script limit capacity n stations sessions) (inside : place < length stations)
-    (adds : Adds script capacity n place (slice_index_or stations place d) y s seat) where
+module _ (script : ScriptData) (limit capacity share n place : ℕ) (stations : List StationData) (sessions : List Session) (d y : StationData) (s : Session) (seat : Seat)
+    (h : Opens script limit capacity share n stations sessions) (inside : place < length stations)
+    (adds : Adds script capacity share n place (slice_index_or stations place d) y s seat) where
   abbrev x : StationData
   x = slice_index_or stations place d
 
@@ -125,12 +117,12 @@ module _ (script : ScriptData) (limit capacity n place : ℕ) (stations : List S
   }
 
   each_session : (client : ℕ) (t : Session) → (slice_get sessions client ≡ Some t) ⊎ ((client ≡ length sessions) × (s ≡ t))
-      → IsNewSession script capacity client t × HasSeat script capacity (slice_set stations place y) t
+      → IsNewSession script capacity share client t × HasSeat script capacity (slice_set stations place y) t
   each_session client t (inl old) = let both = h.each client t old in (both.0, old_seat t both.1)
   each_session client t (inr new) =
       let at : n ≡ client = sym (new.0 ∙ h.count) in
-      subst (λ (u : Session). IsNewSession script capacity client u × HasSeat script capacity (slice_set stations place y) u) new.1
-      (subst (λ (k : ℕ). IsNewSession script capacity k s) at adds.new, new_seat)
+      subst (λ (u : Session). IsNewSession script capacity share client u × HasSeat script capacity (slice_set stations place y) u) new.1
+      (subst (λ (k : ℕ). IsNewSession script capacity share k s) at adds.new, new_seat)
 
   seats_before : SeatsBefore (n + 1) (slice_set stations place y)
   seats_before q station e k z f = elim (cases_eq q place) [
@@ -148,12 +140,13 @@ module _ (script : ScriptData) (limit capacity n place : ℕ) (stations : List S
           let client : z.client ≡ n = ap (λ (u : Seat). u.client) (sym new.1) ∙ (adds.link.0 ∙ adds.new.client_is) in
           omega (arith, client)
 
-  pub opening_more : Opens script limit capacity (n + 1) (slice_set stations place y) (sessions ++ s ∷ [])
+  pub opening_more : Opens script limit capacity share (n + 1) (slice_set stations place y) (sessions ++ s ∷ [])
   opening_more = record {
     runners = subst (λ (rs : List Parts). IsFirstCrew script LETTER_PLACES limit rs) (sym (map-set_same runner_of stations place y d adds.runner)) h.runners;
     count = omega (arith, length-append sessions (s ∷ []), h.count);
     each = λ client t e. each_session client t (pushed sessions s client t e);
     before = seats_before;
+    few = h.few;
   }
 
 -- the station that is found at a place of one
@@ -166,24 +159,24 @@ pub found_once : (stations : List StationData) (place : ℕ) (d e : StationData)
 found_once stations place d e inside one two = same_Some d e (sym (found_here stations place d inside one) ∙ found_here stations place e inside two)
 
 -- no seat there is of the next client
-pub others_there : (script : ScriptData) (limit capacity n place client : ℕ) (stations : List StationData) (sessions : List Session) (d : StationData)
-    → Opens script limit capacity n stations sessions → place < length stations → d ≡ slice_index_or stations place d → client ≡ n → AreOthers client d.seats
-others_there script limit capacity n place client stations sessions d h inside is at k seat here same =
+pub others_there : (script : ScriptData) (limit capacity share n place client : ℕ) (stations : List StationData) (sessions : List Session) (d : StationData)
+    → Opens script limit capacity share n stations sessions → place < length stations → d ≡ slice_index_or stations place d → client ≡ n → AreOthers client d.seats
+others_there script limit capacity share n place client stations sessions d h inside is at k seat here same =
     let earlier = h.before place d (found_here stations place d inside is) k seat here in
     absurd (omega (arith, earlier, same, at))
 
 -- the new seat is one of the runner there
-pub seat_there : (script : ScriptData) (limit capacity n place : ℕ) (stations : List StationData) (sessions : List Session) (d : StationData) (seat : Seat)
-    → Opens script limit capacity n stations sessions → place < length stations → d ≡ slice_index_or stations place d → script.commands ≡ []
+pub seat_there : (script : ScriptData) (limit capacity share n place : ℕ) (stations : List StationData) (sessions : List Session) (d : StationData) (seat : Seat)
+    → Opens script limit capacity share n stations sessions → place < length stations → d ≡ slice_index_or stations place d → script.commands ≡ []
     → place ≡ home script n → n < length script.clients → IsSeat [] [] n seat → producer_capacity seat.replies ≡ capacity → 0 < capacity → IsSeatOf d.runner seat
-seat_there script limit capacity n place stations sessions d seat h inside is empty at known kept places some =
+seat_there script limit capacity share n place stations sessions d seat h inside is empty at known kept places some =
     first_seat script LETTER_PLACES limit capacity place n (map runner_of stations) d.runner seat h.runners empty
     (slice_get-map runner_of stations place ∙ ap (option_map runner_of) (found_here stations place d inside is)) at known kept places some
 
 -- the station of each node is there
-pub station_there : (script : ScriptData) (limit capacity n place : ℕ) (stations : List StationData) (sessions : List Session)
-    → Opens script limit capacity n stations sessions → n < length script.clients → place ≡ home script n → place < length stations
-station_there script limit capacity n place stations sessions h known at =
+pub station_there : (script : ScriptData) (limit capacity share n place : ℕ) (stations : List StationData) (sessions : List Session)
+    → Opens script limit capacity share n stations sessions → n < length script.clients → place ≡ home script n → place < length stations
+station_there script limit capacity share n place stations sessions h known at =
     let below = h.runners.crew.is_script.homes n known in
     omega (arith, at, below, h.runners.crew.count, length-map stations runner_of)
 
@@ -229,7 +222,7 @@ seat_of_looked p s t a b h looks =
 -- the seat at this place is another one of the same client
 station_set : (p : Parts) (seats : List Seat) (place : ℕ) (x y : Seat) → IsStation p seats → slice_get seats place ≡ Some x → y.client ≡ x.client → IsSeatOf p y
     → IsStation p (slice_set seats place y)
-station_set p seats place x y h here client now = station_from p p seats (slice_set seats place y) h h.own refl (λ k seat e. by_place k seat e)
+station_set p seats place x y h here client now = station_from p p seats (slice_set seats place y) h h.own (λ k seat e. by_place k seat e)
   where
     by_place : (k : ℕ) (seat : Seat) → slice_get (slice_set seats place y) k ≡ Some seat → Stays p p seats k seat
     by_place k seat e = elim (cases_eq k place) [

@@ -25,7 +25,7 @@ use Rattle.lt_live.proofs.LiveShares.{goes_itself, goes_join, first_shares, shar
 use Rattle.lt_live.specs.Seats.{IsServedSession}
 
 pub opened_are_live : OpenedAreLive
-opened_are_live script limit capacity stations sessions empty opened = record {
+opened_are_live script limit capacity share stations sessions empty opened = record {
   runners = first_shares script LETTER_PLACES limit (map runner_of stations) opened.runners empty;
   count = opened.count;
   each = λ client s e.
@@ -33,7 +33,7 @@ opened_are_live script limit capacity stations sessions empty opened = record {
       record {
         script_is = both.0.script_is;
         client_is = both.0.client_is;
-        share = both.0.share.0;
+        share = omega (arith, both.0.share.0, opened.few);
         station = both.1.station;
         here = ap (λ (c : ℕ). slice_get stations (home script c)) (sym both.0.client_is) ∙ both.1.here;
         seated = both.1.seated;
@@ -65,7 +65,7 @@ live_lasts script stations later sessions after h goes same = record {
       record {
         script_is = is.script ∙ old.script_is;
         client_is = is.client ∙ old.client_is;
-        share = is.share ∙ old.share;
+        share = omega (arith, is.share, old.share);
         station = now.0;
         here = now.1;
         seated = session_stays was.0 t now.0.seats is (on.seated was.0 old.seated);

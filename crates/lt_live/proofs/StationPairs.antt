@@ -1,5 +1,5 @@
 -- Stations whose runners look at the rings between them.
-use Rattle.std.proofs.Common.{◌≡◌, ◌<◌, ◌≤◌, ◌+◌, ◌^◌, ℕ, List, [], ◌∷◌, ◌++◌, get_or, take, drop, map, length, refl, sym, ap, subst, arith, ◌∙◌, slice_get, slice_set, inl, inr, take_at}
+use Rattle.std.proofs.Common.{◌≡◌, ◌<◌, ◌≤◌, ◌+◌, ℕ, List, [], ◌∷◌, ◌++◌, get_or, take, drop, map, length, refl, sym, ap, subst, arith, ◌∙◌, slice_get, slice_set, inl, inr, take_at}
 use Rattle.std.proofs.lemmas.Bool.{cases_eq}
 use Rattle.std.proofs.lemmas.List.{map-append, length-map, map-set}
 use Rattle.std.proofs.Math.ListN.{get_or-map}
@@ -35,7 +35,6 @@ station_seen p q seats seen h = record {
   apart = h.apart;
   own = subst (λ (me : ℕ). AreAt q.node.script me q.node.script.commands) (sym seen.same.me)
       (subst (λ (s : ScriptData). AreAt s p.node.me s.commands) (sym seen.same.script) h.own);
-  few = subst (λ (n : ℕ). n < 2 ^ 32) (sym seen.same.limit) h.few;
 }
 
 -- The last station and those before it.

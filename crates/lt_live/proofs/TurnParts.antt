@@ -7,26 +7,25 @@ use Rattle.lt_modes.specs.declared.command.Command.{Command}
 use Rattle.lt_modes.specs.declared.command.Command.TheVariants.{Lock, Try, Unlock, Change, DropAll}
 use Rattle.lt_modes.specs.Script.{ScriptData, home_at}
 use Rattle.lt_spec.specs.Script.{HasTargets, HasModesOf}
-use Rattle.lt_spec.specs.declared.limits.TheConstants.{MAX_COMMANDS}
+use Rattle.lt_spec.specs.declared.limits.TheConstants.{MAX_COMMANDS_OF_SERVICE}
 use Rattle.lt_spec.specs.World.{Logged}
 use Rattle.lt_spec.specs.NodeMove.{with_commands}
-use Rattle.lt_log.specs.LogData.{LogData}
 use Rattle.lt_runner.specs.declared.choice.Choice.TheVariants as choices
 use Rattle.lt_runner.specs.declared.parts.Parts.{Parts}
 use Rattle.lt_runner.specs.declared.turning.Turned.{Turned}
 use Rattle.lt_runner.specs.declared.turning.Turned.TheVariants.{Moved, Quiet, Full, NoMemory}
 use Rattle.lt_runner.specs.Choices.{next_choice}
 use Rattle.lt_runner.specs.declared.parts.Hand.{Hand}
-use Rattle.lt_runner.specs.Kept.{RunnerInvariant, HandStays, AsSeen, Grew, TurnEnds, with_appended}
+use Rattle.lt_runner.specs.Kept.{HandStays, AsSeen, Grew, TurnEnds, with_appended}
 use Rattle.lt_runner.proofs.TurnLemmas.{same_self}
 use Rattle.lt_live.specs.Stations.{may_ask, may_append, has_set, is_neighbour, IsStation, EachSeat, SeatAt, OnlyAppends, with_all, CanNotAppend, NoneCanAppend, SomeCanAppend, MayHandOver, HandMayGo, MoveEnds, SeatTurns, StationTurns, HaveCursors}
 use Rattle.lt_live.specs.declared.ends.Seat.{Seat}
-use Rattle.lt_live.specs.Seats.{KeepsFew, TakesIn, TellsSeat}
+use Rattle.lt_live.specs.Seats.{TakesIn, TellsSeat}
 use Rattle.lt_live.proofs.SeatLists.{each_before, each_after, each_join}
 
 -- all that the runner wants of a command that it appends
 pub record MeetsAppend (script : ScriptData) (client : ℕ) (command : Command) : Type 0 where
-  pub room : length script.commands < MAX_COMMANDS
+  pub room : length script.commands < MAX_COMMANDS_OF_SERVICE
   pub targets : HasTargets script.sets script.clients client command
   pub modes : HasModesOf script.version command
 
@@ -52,9 +51,9 @@ has_modes script client (DropAll other set) h = tt
 
 pub can_append : (script : ScriptData) (client : ℕ) (command : Command) → may_append script client command ≡ true → MeetsAppend script client command
 can_append script client command h =
-    let parts = and_parts (nat_lt (length script.commands) MAX_COMMANDS) (may_ask script client command) h in
+    let parts = and_parts (nat_lt (length script.commands) MAX_COMMANDS_OF_SERVICE) (may_ask script client command) h in
     record {
-      room = ltb-true (length script.commands) MAX_COMMANDS parts.0;
+      room = ltb-true (length script.commands) MAX_COMMANDS_OF_SERVICE parts.0;
       targets = has_targets script client command parts.1;
       modes = has_modes script client command parts.1;
     }
@@ -130,9 +129,9 @@ can_not_with : (a : Parts) (commands : List (ℕ × Command)) (idle : Bool) (sea
     → CanNotAppend a seat → CanNotAppend (with_all a commands idle) seat
 can_not_with a commands idle seat more h command hand =
     let ask = may_ask a.node.script seat.client command in
-    ap (λ (t : Bool). nat_lt (length commands) MAX_COMMANDS && t) (ask_same a.node.script commands seat.client command)
-    ∙ not_later (nat_lt (length a.node.script.commands) MAX_COMMANDS) (nat_lt (length commands) MAX_COMMANDS) ask
-    (λ full. let past = ltb-false (length a.node.script.commands) MAX_COMMANDS full in le-ltb (length commands) MAX_COMMANDS (omega (arith, past, more)))
+    ap (λ (t : Bool). nat_lt (length commands) MAX_COMMANDS_OF_SERVICE && t) (ask_same a.node.script commands seat.client command)
+    ∙ not_later (nat_lt (length a.node.script.commands) MAX_COMMANDS_OF_SERVICE) (nat_lt (length commands) MAX_COMMANDS_OF_SERVICE) ask
+    (λ full. let past = ltb-false (length a.node.script.commands) MAX_COMMANDS_OF_SERVICE full in le-ltb (length commands) MAX_COMMANDS_OF_SERVICE (omega (arith, past, more)))
     (h command hand)
 
 pub can_not_later : (a b : Parts) (seat : Seat) → OnlyAppends a b → CanNotAppend a seat → CanNotAppend b seat
@@ -160,10 +159,6 @@ first_all n p seats long h k seat e = let inside = slice_get_within seats k seat
 
 pub cursors : (p : Parts) (seats : List Seat) → IsStation p seats → HaveCursors p.log seats
 cursors p seats h k seat e = let is = h.each k seat e in (is.kept.cursor, is.gone)
-
--- a log of so few moves keeps few
-pub keeps_few : (p : Parts) (seats : List Seat) (log : LogData) → IsStation p seats → RunnerInvariant p → log ≡ p.log → KeepsFew log
-keeps_few p seats log h kept is = subst KeepsFew (sym is) (omega (arith, kept.bounded, h.few))
 
 -- the seat took a command, and then the one in hand may have gone
 record TookAndGave (s t : Seat) : Type 0 where

@@ -14,9 +14,9 @@ use Rattle.lt_mail.proofs.LookLemmas.{ends_same}
 use Rattle.lt_runner.specs.declared.parts.Parts.{Parts}
 use Rattle.lt_runner.specs.Kept.{AsSeen}
 use Rattle.lt_runner.specs.declared.turning.Turned.{Turned}
-use Rattle.lt_threads.specs.Meeting.{AreShares, AreKept, EachIs, crew_run, AreMet, AnyTwo, IsSharedRun, commands_in}
+use Rattle.lt_threads.specs.Meeting.{AreShares, AreKept, EachIs, IsCrew, crew_run, AreMet, AnyTwo, commands_in}
 use Rattle.lt_live.specs.declared.ends.Session.{Session}
-use Rattle.lt_live.specs.Stations.{StationData, IsSeated, StaySeated, equal_share, runner_of, IsOpen, StationTurns}
+use Rattle.lt_live.specs.Stations.{StationData, IsSeated, StaySeated, most_share, runner_of, IsOpen, StationTurns}
 use Rattle.lt_live.specs.Words.{submitted, polled, SameSession}
 use Rattle.lt_live.specs.Seats.{IsServedSession, reply_to, replies_in}
 use Rattle.lt_live.specs.declared.reply.Reply.{Reply}
@@ -25,7 +25,7 @@ use Rattle.lt_live.specs.declared.reply.Reply.{Reply}
 pub record IsSessionOf (script : ScriptData) (stations : List StationData) (client : ℕ) (s : Session) : Type 0 where
   pub script_is : s.script ≡ script
   pub client_is : s.client ≡ client
-  pub share : s.share ≡ equal_share script
+  pub share : s.share ≤ most_share script
   pub station : StationData
   pub here : slice_get stations (home script client) ≡ Some station
   pub seated : IsSeated s station.seats
@@ -131,8 +131,8 @@ NoMoreThanSubmitted = (first script : ScriptData) (sessions : List Session) (run
 
 -- those that are opened are
 abbrev pub OpenedAreLive : Type 0
-OpenedAreLive = (script : ScriptData) (limit capacity : ℕ) (stations : List StationData) (sessions : List Session) → script.commands ≡ []
-    → IsOpen script limit capacity stations sessions → AreLive script stations sessions
+OpenedAreLive = (script : ScriptData) (limit capacity share : ℕ) (stations : List StationData) (sessions : List Session) → script.commands ≡ []
+    → IsOpen script limit capacity share stations sessions → AreLive script stations sessions
 
 -- they stay so, whatever the stations and the callers do
 abbrev pub LiveLasts : Type 0
@@ -150,11 +150,21 @@ OneSessionLasts = (script : ScriptData) (stations : List StationData) (sessions 
 
 -- That at any time there is a run in which all sessions were served so far, as laws.
 
+-- of the script with the commands of all the runners are a crew, and this is the run of it that they have made, with its moves in
+-- the order of their stamps; each node's are those of its runner
+pub record IsRunOfAll (rs : List Parts) (script : ScriptData) (run : List Logged) : Type 0 where
+  pub crew : IsCrew script rs
+  pub commands : script.commands ≡ commands_in rs
+  pub is_run : IsRun script run
+  pub rising : AreRising run
+  pub is_crew_run : run ≡ crew_run script rs
+  pub moves : (k : ℕ) (p : Parts) → slice_get rs k ≡ Some p → filter (is_of_node k) run ≡ p.log.entries
+
 -- once these runners have looked at their rings, they have made a run of the script with the commands of all
 abbrev pub SharedNow : Type 0
 SharedNow = (script : ScriptData) (rs looked : List Parts) → AreShares script rs → IsScript (with_commands script (commands_in rs))
     → EachIs AsSeen rs looked → AreMet AnyTwo looked → AreKept looked
-    → IsSharedRun rs (with_commands script (commands_in rs)) (crew_run (with_commands script (commands_in rs)) looked)
+    → IsRunOfAll rs (with_commands script (commands_in rs)) (crew_run (with_commands script (commands_in rs)) looked)
 
 -- and once all sessions and their seats have looked at theirs too, it is one in which these sessions were served
 abbrev pub ServedNow : Type 0

@@ -1,5 +1,5 @@
 -- How far a client was told of a log.
-use Rattle.std.specs.Prelude.{◌≤◌, ℕ, List, [], ◌++◌, Option, Some, None, length, take, slice_get, ◌==◌, if◌then◌else◌, ◌≡◌, ◌+◌, ◌⊎◌, ◌<◌, ◌^◌, Bool, true, false, ◌∷◌, filter_map}
+use Rattle.std.specs.Prelude.{◌≤◌, ℕ, List, [], ◌++◌, Option, Some, None, length, take, slice_get, ◌==◌, if◌then◌else◌, ◌≡◌, ◌+◌, ◌⊎◌, ◌<◌, Bool, true, false, ◌∷◌, filter_map}
 use mathlib.Core.List.{IsPrefix}
 use Rattle.rtrb.specs.Ring.{known_free}
 use Rattle.lt_modes.specs.declared.event.Event.{Event}
@@ -34,10 +34,6 @@ pub record IsCursor (log : List Logged) (moves lines : ℕ) : Type 0 where
 -- the log has the lines that the seat has read, and keeps the moves that it hasn't
 abbrev pub IsCursorOf : LogData → Seat → Type 0
 IsCursorOf log seat = IsCursor log.entries seat.moves seat.lines × (log.gone ≤ seat.moves)
-
--- so few moves are kept that their places are numbers of 32 bits
-abbrev pub KeepsFew : LogData → Type 0
-KeepsFew log = length log.entries < log.gone + 2 ^ 32
 
 -- What lines say to a client.
 

@@ -1,12 +1,12 @@
 -- Which commands a client may submit.
-use Rattle.std.specs.Prelude.{◌==◌, ◌&&◌, Bool, ℕ, nat_lt, length, ◌≡◌, ◌≢◌, ◌<◌, ◌≤◌, ◌^◌, ◌⊎◌, true, false, List, Some, None, slice_get, ◌/◌, [], map}
+use Rattle.std.specs.Prelude.{◌==◌, ◌&&◌, Bool, ℕ, nat_lt, length, ◌≡◌, ◌≢◌, ◌<◌, ◌≤◌, ◌⊎◌, true, false, List, Some, None, slice_get, ◌/◌, [], map}
 use mathlib.Core.List.{IsPrefix}
 use Rattle.rtrb.specs.Ring.{producer_capacity}
 use Rattle.lt_modes.specs.FiveModes.{is_of_version}
 use Rattle.lt_modes.specs.declared.command.Command.{Command}
 use Rattle.lt_modes.specs.declared.command.Command.TheVariants.{Lock, Try, Unlock, Change, DropAll}
 use Rattle.lt_modes.specs.Script.{ScriptData, home_at}
-use Rattle.lt_spec.specs.declared.limits.TheConstants.{MAX_COMMANDS}
+use Rattle.lt_spec.specs.declared.limits.TheConstants.{MAX_COMMANDS, MAX_COMMANDS_OF_SERVICE}
 use Rattle.lt_spec.specs.NodeMove.{commands_of, home, with_commands, AreAt}
 use Rattle.lt_spec.specs.World.{Logged}
 use Rattle.lt_log.specs.LogData.{LogData}
@@ -42,7 +42,7 @@ may_ask script client (DropAll other set) = has_set script set && is_neighbour s
 
 -- and there is a place for a command more
 abbrev pub may_append : ScriptData → ℕ → Command → Bool
-may_append script client command = nat_lt (length script.commands) MAX_COMMANDS && may_ask script client command
+may_append script client command = nat_lt (length script.commands) MAX_COMMANDS_OF_SERVICE && may_ask script client command
 
 -- What a station keeps, and what a turn of it does.
 
@@ -60,13 +60,11 @@ pub record IsSeatOf (p : Parts) (seat : Seat) : Type 0 where
   pub places : 0 < producer_capacity seat.replies
   pub gone : p.log.gone ≤ seat.moves
 
--- each seat is one of the runner's, no two are of one client, the script has commands of the runner's clients alone, and the
--- runner makes fewer than 2^32 moves
+-- each seat is one of the runner's, no two are of one client, and the script has commands of the runner's clients alone
 pub record IsStation (p : Parts) (seats : List Seat) : Type 0 where
   pub each : (k : ℕ) (seat : Seat) → slice_get seats k ≡ Some seat → IsSeatOf p seat
   pub apart : (j k : ℕ) (x y : Seat) → slice_get seats j ≡ Some x → slice_get seats k ≡ Some y → x.client ≡ y.client → j ≡ k
   pub own : AreAt p.node.script p.node.me p.node.script.commands
-  pub few : p.limit < 2 ^ 32
 
 -- no seat is of this client
 abbrev pub AreOthers : ℕ → List Seat → Type 0
@@ -209,15 +207,23 @@ pub record SeatLooks (log : List Logged) (s t : Session) (old new : List Seat) :
 
 -- Stations and sessions as they are opened.
 
--- how many commands each session may submit: all together no more than a script may have
+-- the most commands that each session may submit: all together no more than a service may have
+abbrev pub most_share : ScriptData → ℕ
+most_share script = MAX_COMMANDS_OF_SERVICE / length script.clients
+
+-- the most where all together are no more than the text of a script may have
 abbrev pub equal_share : ScriptData → ℕ
 equal_share script = MAX_COMMANDS / length script.clients
 
+-- so it is of each
+abbrev pub HaveEqualShares : List Session → Type 0
+HaveEqualShares sessions = (client : ℕ) (s : Session) → slice_get sessions client ≡ Some s → s.share ≤ equal_share s.script
+
 -- the client's session, which has its whole share: nothing was submitted and no reply came
-pub record IsNewSession (script : ScriptData) (capacity client : ℕ) (s : Session) : Type 0 where
+pub record IsNewSession (script : ScriptData) (capacity most client : ℕ) (s : Session) : Type 0 where
   pub script_is : s.script ≡ script
   pub client_is : s.client ≡ client
-  pub share : (s.share ≡ equal_share script) × (s.left ≡ equal_share script)
+  pub share : (s.share ≡ most) × (s.left ≡ most)
   pub places : places s ≡ capacity
   pub commands : submitted s ≡ []
   pub replies : (polled s ≡ []) × (known_replies s ≡ [])
@@ -240,15 +246,16 @@ SeatsBefore client stations = (q : ℕ) (station : StationData) → slice_get st
     → (k : ℕ) (seat : Seat) → slice_get station.seats k ≡ Some seat → seat.client < client
 
 -- a station for each node, whose runner made no move, and a session for each of the first n clients, which alone have seats
-pub record Opens (script : ScriptData) (limit capacity n : ℕ) (stations : List StationData) (sessions : List Session) : Type 0 where
+pub record Opens (script : ScriptData) (limit capacity share n : ℕ) (stations : List StationData) (sessions : List Session) : Type 0 where
   pub runners : IsFirstCrew script LETTER_PLACES limit (map runner_of stations)
   pub count : length sessions ≡ n
-  pub each : (client : ℕ) (s : Session) → slice_get sessions client ≡ Some s → IsNewSession script capacity client s × HasSeat script capacity stations s
+  pub each : (client : ℕ) (s : Session) → slice_get sessions client ≡ Some s → IsNewSession script capacity share client s × HasSeat script capacity stations s
   pub before : SeatsBefore n stations
+  pub few : share ≤ most_share script
 
 -- and for each client
-abbrev pub IsOpen : ScriptData → ℕ → ℕ → List StationData → List Session → Type 0
-IsOpen script limit capacity stations sessions = Opens script limit capacity (length script.clients) stations sessions
+abbrev pub IsOpen : ScriptData → ℕ → ℕ → ℕ → List StationData → List Session → Type 0
+IsOpen script limit capacity share stations sessions = Opens script limit capacity share (length script.clients) stations sessions
 
 -- these stations have these runners, and no seats
 pub record AreSeatless (runners : List Parts) (stations : List StationData) : Type 0 where
@@ -258,7 +265,3 @@ pub record AreSeatless (runners : List Parts) (stations : List StationData) : Ty
 -- the runners' scripts have no commands
 abbrev pub HaveNoCommands : List Parts → Type 0
 HaveNoCommands runners = (k : ℕ) (p : Parts) → slice_get runners k ≡ Some p → p.node.script.commands ≡ []
-
--- each of the runners makes fewer than 2^32 moves
-abbrev pub MakeFew : List Parts → Type 0
-MakeFew runners = (k : ℕ) (p : Parts) → slice_get runners k ≡ Some p → p.limit < 2 ^ 32

@@ -4,7 +4,7 @@ ghost use Rattle.lt_modes.specs.declared.command.Command.{Command};
 ghost use Rattle.lt_spec.specs.Holdings.{lines_of};
 ghost use Rattle.rtrb.specs.Ring.{producer_capacity};
 ghost use Rattle.lt_live.specs.Words.{known_replies, IsLink};
-ghost use Rattle.lt_live.specs.Seats.{IsCursorOf, KeepsFew, KnowAll, LooksBeside, HasToldAll, IsSeat, IsSettledSeat};
+ghost use Rattle.lt_live.specs.Seats.{IsCursorOf, KnowAll, LooksBeside, HasToldAll, IsSeat, IsSettledSeat};
 
 use crate::ends::{Seat, Session};
 use lt_log::LongLog;
@@ -14,7 +14,6 @@ use lt_log::LongLog;
 pub(crate) fn beside(session: &mut Session, seat: &mut Seat, log: &LongLog)
     requires link { IsLink session.old seat.old }
     requires cursor { IsCursorOf log.now seat.old }
-    requires few { KeepsFew log.now }
     requires places { 0 < producer_capacity seat.old.replies }
     ensures link { IsLink session.new seat.new }
     ensures beside { KnowAll session.new seat.new }
@@ -31,7 +30,6 @@ pub(crate) fn beside(session: &mut Session, seat: &mut Seat, log: &LongLog)
 pub(crate) fn settle(session: &mut Session, seat: &mut Seat, log: &LongLog)
     requires link { IsLink session.old seat.old }
     requires cursor { IsCursorOf log.now seat.old }
-    requires few { KeepsFew log.now }
     requires places { 0 < producer_capacity seat.old.replies }
     ensures { (list : List Command) → IsSeat list log.now.entries seat.old.client seat.old → IsSettledSeat list (lines_of log.now.entries) seat.old.client session.old session.new seat.new }
 {

@@ -14,11 +14,11 @@ pub struct Session {
     pub(crate) client: u16,
     // Where its other end is among those of its station.
     pub(crate) place: usize,
-    pub(crate) share: u32,
+    pub(crate) share: u64,
     // How many commands of the share are left.
-    pub(crate) left: u32,
+    pub(crate) left: u64,
     // How many replies were polled, up to the share.
-    pub(crate) answered: u32,
+    pub(crate) answered: u64,
     pub(crate) commands: Producer<Command>,
     pub(crate) replies: Consumer<Reply>,
     pub(crate) ghost known: { client < length script.clients },

@@ -1,10 +1,11 @@
 // The run that stations made, and what their sessions were told.
-ghost use Rattle.std.specs.Prelude.{◌≡◌, ◌≤◌, ◌<◌, [], length, map, vec_capacity, IfOk, IfErr};
+ghost use Rattle.std.specs.Prelude.{◌≡◌, ◌≢◌, ◌≤◌, ◌<◌, ◌⊎◌, [], Err, length, map, vec_capacity, IfOk, IfErr};
 ghost use Rattle.lt_modes.specs.Script.{ScriptData};
 ghost use Rattle.lt_spec.specs.NodeMove.{home};
-ghost use Rattle.lt_threads.specs.Meeting.{HaveAll};
+ghost use Rattle.lt_spec.specs.Script.{IsShort};
+ghost use Rattle.lt_threads.specs.Meeting.{HaveAll, AreTooMany};
 ghost use Rattle.lt_live.specs.declared.finishing.FinishError.TheVariants as errors;
-ghost use Rattle.lt_live.specs.Stations.{runner_of};
+ghost use Rattle.lt_live.specs.Stations.{runner_of, HaveEqualShares};
 ghost use Rattle.lt_live.specs.Live.{AreLive, LiveScript, IsServedRun, SettlesAt, Settled};
 
 use crate::ends::Session;
@@ -18,8 +19,10 @@ use std::alloc::{AllocError, Global};
 /// Why there is no run to be had.
 #[derive(Clone, Copy, Debug, PartialEq, Eq)]
 pub enum FinishError {
-    /// Some station has forgotten moves.
+    /// Some station has forgotten moves or commands.
     Forgotten,
+    /// They have appended more commands together than the text of a script may have.
+    TooMany,
     NoMemory,
 }
 
@@ -34,8 +37,9 @@ impl From<AllocError> for FinishError {
 /// The script with the commands that the stations appended, and the run of it that they made.
 ///
 /// It takes all stations and all sessions of one `open`, in order. A command that was submitted and isn't in the script was
-/// never made. After an error all is dropped.
-#[tactic(auto, using(crate::proofs::Finished::are_shares, crate::proofs::Finished::never_many, crate::proofs::Finished::finishes))]
+/// never made. More commands than the text of a script may have are refused; sessions with equal shares of that many never
+/// submit more. After an error all is dropped.
+#[tactic(auto, using(crate::proofs::Finished::are_shares, crate::proofs::Finished::finishes))]
 pub fn finish(
     alloc: Global,
     mut stations: Vec<Station>,
@@ -43,15 +47,19 @@ pub fn finish(
 ) -> Result<(Script, Run), FinishError>
     requires { LiveScript stations.items sessions.items }
     ensures run { IfOk result (λ made. (script : ScriptData) → AreLive script stations.items sessions.items → IsServedRun script sessions.items made.0 made.1.entries) }
+    ensures short { IfOk result (λ made. IsShort made.0) }
     ensures forgotten { IfErr result (λ error. error ≡ errors.Forgotten → ¬ HaveAll (map runner_of stations.items)) }
+    ensures many { IfErr result (λ error. error ≡ errors.TooMany → AreTooMany (map runner_of stations.items)) }
+    ensures told { HaveAll (map runner_of stations.items) → AreTooMany (map runner_of stations.items) → (result ≡ Err errors.TooMany) ⊎ (result ≡ Err errors.NoMemory) }
+    ensures few { HaveEqualShares sessions.items → IfErr result (λ error. error ≢ errors.TooMany) }
 {
     let runners = Vec::with_capacity(alloc, stations.len())?;
     settle_all(&mut stations, &mut sessions);
     match finish_joined(alloc, take_runners(stations, runners)) {
         Ok(made) => Ok(made),
         Err(JoinError::Forgotten) => Err(FinishError::Forgotten),
+        Err(JoinError::TooMany) => Err(FinishError::TooMany),
         Err(JoinError::NoMemory) => Err(FinishError::NoMemory),
-        Err(JoinError::TooMany) => unreachable!(),
     }
 }
 

@@ -18,6 +18,7 @@ mod same;
 mod seats;
 mod serving;
 mod session;
+mod shares;
 mod starting;
 mod station;
 mod turning;
@@ -29,6 +30,7 @@ pub use laws::{law_live_lasts, law_polled_in_turn, law_served_goes_on, law_serve
 pub use limits::LETTER_PLACES;
 pub use reply::{Reply, reply_to};
 pub use serving::served;
+pub use shares::{equal_share, most_share};
 pub use starting::open;
 pub use station::Station;
 pub use visiting::visit;

@@ -16,7 +16,7 @@ pub(crate) fn new_session(
     script: &Script,
     client: u16,
     place: usize,
-    share: u32,
+    share: u64,
     capacity: u32,
 ) -> Result<(Session, Seat), AllocError>
     requires { client < length script.now.clients }

@@ -1,6 +1,6 @@
 // Replies that wait in the outbox of a seat.
 ghost use Rattle.std.specs.Prelude.{◌≡◌, ◌≤◌, ◌<◌, ◌+◌, ◌^◌, length, OnOk, OnErr};
-ghost use Rattle.lt_live.specs.Seats.{IsCursorOf, KeepsFew, TellsOutbox, HasReadOn, ReadsAll, ReadsMove, HasReadLine, HasNotReadLine};
+ghost use Rattle.lt_live.specs.Seats.{IsCursorOf, TellsOutbox, HasReadOn, ReadsAll, ReadsMove, HasReadLine, HasNotReadLine};
 
 use crate::ends::Seat;
 use crate::reply::reply_to;
@@ -27,8 +27,7 @@ impl Seat {
     /// Puts the client's further replies of the log behind those that wait, so that the log's moves may be forgotten.
     /// Without memory as many as there was memory for.
     pub(crate) fn read_on(&mut self, log: &LongLog) -> Result<(), AllocError>
-        requires cursor { IsCursorOf log.now self.old }
-        requires few { KeepsFew log.now }
+        requires { IsCursorOf log.now self.old }
         ensures on { HasReadOn log.now.entries self.old self.new }
         ensures all { OnOk result (ReadsAll log.now.entries self.old self.new) }
     {

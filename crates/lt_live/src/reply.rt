@@ -18,7 +18,7 @@ pub enum Reply {
     NotHeld,
     Changed,
     /// So many locks were dropped.
-    Dropped(u32),
+    Dropped(u64),
     /// The client whose locks it wanted to drop waits, so none was dropped.
     Busy,
 }

@@ -1,6 +1,6 @@
 // What a station does with the end of one session.
 ghost use Rattle.std.specs.Prelude.{◌≡◌, ◌≤◌, ◌<◌, ◌+◌, ◌^◌, [], length, None};
-ghost use Rattle.lt_live.specs.Seats.{IsCursorOf, KeepsFew, TakesIn, TellsSeat, TellsMove, ToldNext};
+ghost use Rattle.lt_live.specs.Seats.{IsCursorOf, TakesIn, TellsSeat, TellsMove, ToldNext};
 ghost use Rattle.lt_live.specs.Words.{outbox_replies};
 
 use crate::ends::Seat;
@@ -29,8 +29,7 @@ impl Seat {
 
     /// Gives the ring what waits, and then the client's replies of the log, in order, while it has places.
     pub(crate) fn tell(&mut self, log: &LongLog)
-        requires cursor { IsCursorOf log.now self.old }
-        requires few { KeepsFew log.now }
+        requires { IsCursorOf log.now self.old }
         ensures { TellsSeat log.now.entries self.old self.new }
     {
         if self.tell_waiting() {
@@ -41,7 +40,6 @@ impl Seat {
     // Gives the ring the client's further replies of the log, where none waits.
     fn tell_further(&mut self, log: &LongLog)
         requires cursor { IsCursorOf log.now self.old }
-        requires few { KeepsFew log.now }
         requires empty { outbox_replies self.old ≡ [] }
         ensures { TellsSeat log.now.entries self.old self.new }
     {

@@ -28,15 +28,22 @@ impl Session {
     }
 
     /// How many commands may still be submitted here, of those that each session may submit in its life.
-    pub fn left(&self) -> u32
+    pub fn left(&self) -> u64
         ensures left { result ≡ self.now.left }
         ensures share { length (submitted self.now) + result ≡ self.now.share }
     {
         self.left
     }
 
+    /// How many commands were submitted here so far.
+    pub fn submitted(&self) -> u64
+        ensures { result ≡ length (submitted self.now) }
+    {
+        self.share - self.left
+    }
+
     /// How many commands that were submitted here have no polled reply yet. A reply that came and wasn't polled doesn't count.
-    pub fn unanswered(&self) -> u32
+    pub fn unanswered(&self) -> u64
         ensures { result ≡ length (submitted self.now) - length (polled self.now) }
     {
         (self.share - self.left).saturating_sub(self.answered)

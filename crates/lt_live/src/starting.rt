@@ -1,33 +1,34 @@
 // All stations and sessions of a script.
 ghost use Rattle.std.specs.Prelude.{◌≡◌, ◌<◌, ◌≤◌, ◌+◌, [], length, IfOk, OnOk};
-ghost use Rattle.lt_spec.specs.declared.moves.TheConstants.{MAX_MOVES};
+ghost use Rattle.lt_spec.specs.declared.moves.TheConstants.{MAX_MOVES_OF_SERVICE};
 ghost use Rattle.lt_spec.specs.declared.limits.TheConstants.{MAX_COMMANDS};
-ghost use Rattle.lt_live.specs.Stations.{Opens, IsOpen, AreSeatless, HaveNoCommands, MakeFew};
+ghost use Rattle.lt_live.specs.Stations.{Opens, IsOpen, AreSeatless, HaveNoCommands, most_share};
 
 use crate::ends::Session;
 use crate::limits::LETTER_PLACES;
 use crate::opening::new_session;
 use crate::station::Station;
 use lt_runner::Runner;
-use lt_script::{MAX_COMMANDS, Script};
+use lt_script::Script;
 use lt_threads::start_crew;
 use std::alloc::{AllocError, Global};
 
 /// A station for each node of the script, and a session for each client, in order.
 ///
 /// Each node makes up to `limit` moves. A session's rings of commands and of replies have `capacity` places each, and it may
-/// submit an equal share of the commands that a script may have.
-#[tactic(auto, using(crate::proofs::OpenedStations::few_moves))]
+/// submit `share` commands in its life.
 pub fn open(
     alloc: Global,
     script: &Script,
-    limit: u32,
+    limit: u64,
     capacity: u32,
+    share: u64,
 ) -> Result<(Vec<Station>, Vec<Session>), AllocError>
     requires commands { script.now.commands ≡ [] }
-    requires limit { (0 < limit) × (limit ≤ MAX_MOVES) }
+    requires limit { (0 < limit) × (limit ≤ MAX_MOVES_OF_SERVICE) }
     requires capacity { (0 < capacity) × (capacity ≤ MAX_COMMANDS) }
-    ensures { IfOk result (λ opened. IsOpen script.now limit capacity opened.0.items opened.1.items) }
+    requires share { share ≤ most_share script.now }
+    ensures { IfOk result (λ opened. IsOpen script.now limit capacity share opened.0.items opened.1.items) }
 {
     let runners = start_crew(alloc, script, LETTER_PLACES, limit)?;
     let mut stations = stations_of(alloc, runners)?;
@@ -39,6 +40,7 @@ pub fn open(
             client,
             limit,
             capacity,
+            share,
             &mut stations,
             &mut sessions,
         )?;
@@ -48,8 +50,7 @@ pub fn open(
 
 // A station for each runner, with no seats yet.
 fn stations_of(alloc: Global, runners: Vec<Runner>) -> Result<Vec<Station>, AllocError>
-    requires commands { HaveNoCommands runners.items }
-    requires few { MakeFew runners.items }
+    requires { HaveNoCommands runners.items }
     ensures { IfOk result (λ stations. AreSeatless runners.items stations.items) }
 {
     let mut stations = Vec::new(alloc);
@@ -64,19 +65,19 @@ fn add_session(
     alloc: Global,
     script: &Script,
     client: u16,
-    _limit: u32,
+    _limit: u64,
     capacity: u32,
+    share: u64,
     stations: &mut Vec<Station>,
     sessions: &mut Vec<Session>,
 ) -> Result<(), AllocError>
     requires client { client < length script.now.clients }
     requires commands { script.now.commands ≡ [] }
     requires capacity { 0 < capacity }
-    requires opening { Opens script.now _limit capacity client stations.old.items sessions.old.items }
-    ensures { OnOk result (Opens script.now _limit capacity (client + 1) stations.new.items sessions.new.items) }
+    requires opening { Opens script.now _limit capacity share client stations.old.items sessions.old.items }
+    ensures { OnOk result (Opens script.now _limit capacity share (client + 1) stations.new.items sessions.new.items) }
 {
     let home = usize::from(script.home(client));
-    let share = MAX_COMMANDS / u32::from(script.clients());
     let place = stations[home].seats();
     let (session, seat) = new_session(alloc, script, client, place, share, capacity)?;
     stations[home].add_seat(seat)?;

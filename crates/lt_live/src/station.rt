@@ -1,4 +1,4 @@
-ghost use Rattle.std.specs.Prelude.{◌≡◌, ◌<◌, ◌^◌, [], ◌∷◌, ◌++◌, length, OnOk};
+ghost use Rattle.std.specs.Prelude.{◌≡◌, [], ◌∷◌, ◌++◌, length, OnOk};
 ghost use Rattle.lt_spec.specs.NodeMove.{AreAt, node_waits};
 ghost use Rattle.lt_spec.specs.Script.{IsScript};
 ghost use Rattle.lt_node.specs.NodeData.{state_of, kept_script};
@@ -34,8 +34,7 @@ impl Station {
     /// A station with this runner, and no seats yet.
     #[tactic(auto, using(crate::proofs::KeptStations::station_first))]
     pub(crate) fn new(alloc: Global, runner: Runner) -> Station
-        requires own { AreAt runner.node.script runner.node.me runner.node.script.commands }
-        requires few { runner.limit < 2 ^ 32 }
+        requires { AreAt runner.node.script runner.node.me runner.node.script.commands }
         ensures { result ≡ record { runner = runner; seats = [] } }
     {
         Station {
@@ -97,7 +96,7 @@ impl Station {
     }
 
     /// How many commands were appended here, forgotten or not.
-    pub fn commands(&self) -> u32
+    pub fn commands(&self) -> u64
         ensures commands { result ≡ length self.now.runner.node.script.commands }
         ensures script { IsScript self.now.runner.node.script }
     {

@@ -6,7 +6,7 @@ ghost use Rattle.lt_runner.specs.declared.turning.Turned.TheVariants as turns;
 ghost use Rattle.lt_runner.specs.Choices.{next_choice};
 ghost use Rattle.lt_runner.specs.Kept.{Grew, TurnEnds};
 ghost use Rattle.lt_live.specs.declared.ends.Seat.{Seat as SeatEnds};
-ghost use Rattle.lt_live.specs.Seats.{KeepsFew, TakesIn, TellsSeat};
+ghost use Rattle.lt_live.specs.Seats.{TakesIn, TellsSeat};
 ghost use Rattle.lt_live.specs.Stations.{IsStation, EachSeat, SeatAt, OnlyAppends, HandMayGo, MayHandOver, CanNotAppend, CanAppend, may_append, NoneCanAppend, SomeCanAppend, StationTurns, HasCursorAt, HaveCursors};
 
 use crate::asking::may_ask;
@@ -14,7 +14,7 @@ use crate::ends::Seat;
 use lt_log::LongLog;
 use lt_modes::Command;
 use lt_runner::{Gate, Runner, Turned};
-use lt_script::MAX_COMMANDS;
+use lt_spec::MAX_COMMANDS_OF_SERVICE;
 
 /// Takes commands in and appends them, makes one move, and tells the replies.
 pub(crate) fn turn_of<G: Gate>(seats: &mut Vec<Seat>, runner: &mut Runner, gate: &G) -> Turned
@@ -118,13 +118,12 @@ fn may_append(runner: &Runner, client: u16, command: Command) -> bool
     requires { client < length runner.now.node.script.clients }
     ensures { result ≡ may_append runner.now.node.script client command }
 {
-    runner.commands() < MAX_COMMANDS && may_ask(runner.script(), client, command)
+    runner.commands() < MAX_COMMANDS_OF_SERVICE && may_ask(runner.script(), client, command)
 }
 
 // Tells each client its replies, in order, while its ring has places.
 fn tell_all(seats: &mut Vec<Seat>, log: &LongLog)
-    requires cursors { HaveCursors log.now seats.old.items }
-    requires few { KeepsFew log.now }
+    requires { HaveCursors log.now seats.old.items }
     ensures { EachSeat (TellsSeat log.now.entries) seats.old.items seats.new.items }
 {
     for place in 0..seats.len() {
@@ -135,7 +134,6 @@ fn tell_all(seats: &mut Vec<Seat>, log: &LongLog)
 fn tell_at(seats: &mut Vec<Seat>, log: &LongLog, place: usize)
     requires inside { place < length seats.old.items }
     requires cursor { HasCursorAt log.now seats.old.items place }
-    requires few { KeepsFew log.now }
     ensures { SeatAt (TellsSeat log.now.entries) place seats.old.items seats.new.items }
 {
     seats[place].tell(log);

@@ -1,40 +1,30 @@
 -- The sessions of a service can be counted, once they were served; and a service of all stations and sessions has all.
-use Rattle.std.proofs.Common.{◌≡◌, ◌≤◌, ◌∙◌, List, [], ◌∷◌, All, true, eq-eqb, refl, sym, ap, arith, length, slice_get, slice_index_or}
+use Rattle.std.proofs.Common.{◌≡◌, ◌≤◌, ◌/◌, ℕ, subst, List, [], ◌∷◌, All, true, eq-eqb, refl, sym, ap, arith, length, slice_get, slice_index_or}
 use Rattle.std.proofs.lemmas.Bool.{and_from}
 use Rattle.std.proofs.lemmas.List.{length-map}
 use Rattle.std.proofs.lemmas.Option.{slice_get-get_or}
 use Rattle.lt_modes.specs.Script.{ScriptData}
-use Rattle.lt_spec.specs.declared.limits.TheConstants.{MAX_CLIENTS}
+use Rattle.lt_spec.specs.declared.limits.TheConstants.{MAX_COMMANDS_OF_SERVICE}
 use Rattle.lt_live.specs.declared.ends.Session.{Session}
 use Rattle.lt_live.specs.Live.{AreLive, LiveScript, NoMoreThanSubmitted}
 use Rattle.lt_live.specs.Served.{AreServed, StayLive}
-use Rattle.lt_live.specs.Stations.{StationData, equal_share, runner_of}
+use Rattle.lt_live.specs.Stations.{StationData, runner_of}
 use Rattle.lt_live_c.specs.declared.service.Service.{Service}
 use Rattle.lt_live_c.specs.Serving.{IsCountable, are_all, has_all}
 
-pub few_sessions : (stations later : List StationData) (sessions after : List Session) → LiveScript stations sessions
-    → AreServed stations sessions after → StayLive stations sessions later after → length after ≤ MAX_CLIENTS
-few_sessions stations later sessions after live served stays =
-    let run = served live.0 live.1 in
-    omega (
-      arith,
-      run.2.is_script.few_clients,
-      ap (λ (s : ScriptData). length s.clients) run.2.same,
-      (stays live.0 live.1).count,
-    )
-
 pub are_countable : (stations later : List StationData) (sessions after : List Session) → LiveScript stations sessions
     → AreServed stations sessions after → StayLive stations sessions later after → NoMoreThanSubmitted
-    → All IsCountable after
+    → All (IsCountable (length after)) after
 are_countable stations later sessions after live served stays no_more = λ place d inside.
     let now = stays live.0 live.1 in
     let run = served live.0 live.1 in
     let s = slice_index_or after place d in
     let here = slice_get-get_or after place d inside in
     let each = now.each place s here in
+    let share : s.share ≤ MAX_COMMANDS_OF_SERVICE / length after =
+    subst (λ (n : ℕ). s.share ≤ MAX_COMMANDS_OF_SERVICE / n) (sym now.count) each.share in
     record {
-      some = omega (arith, inside, now.count, ap (λ (script : ScriptData). length script.clients) each.script_is);
-      share = each.share ∙ ap equal_share (sym each.script_is);
+      few = omega (arith, share, s.spent);
       no_more = no_more live.0 run.0 after run.1 run.2 place s here;
     }
 

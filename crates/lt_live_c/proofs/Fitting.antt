@@ -1,21 +1,21 @@
 -- What it means that numbers are in range.
 use Rattle.std.proofs.Common.{◌≡◌, ◌<◌, ◌≤◌, ◌^◌, ◌-◌, ◌&&◌, ℕ, List, length, nat_lt, nat_le, true, arith, leb-true, ltb-true}
 use Rattle.std.proofs.lemmas.Bool.{and_parts}
-use Rattle.lt_spec.specs.declared.moves.TheConstants.{MAX_MOVES}
+use Rattle.lt_spec.specs.declared.moves.TheConstants.{MAX_MOVES_OF_SERVICE}
 use Rattle.lt_spec.specs.declared.limits.TheConstants.{MAX_COMMANDS}
 use Rattle.lt_live_c.specs.declared.limits.TheConstants.{MAX_BYTES}
 use Rattle.lt_live_c.specs.Journals.{fits_for_c}
 
 module _ (text : List ℕ) (limit places : ℕ) (h : fits_for_c text limit places ≡ true) where
-  rest : (nat_lt 0 limit && nat_le limit MAX_MOVES ≡ true) × (nat_lt 0 places && nat_le places MAX_COMMANDS ≡ true)
+  rest : (nat_lt 0 limit && nat_le limit MAX_MOVES_OF_SERVICE ≡ true) × (nat_lt 0 places && nat_le places MAX_COMMANDS ≡ true)
   rest =
-      and_parts (nat_lt 0 limit && nat_le limit MAX_MOVES) (nat_lt 0 places && nat_le places MAX_COMMANDS)
-      (and_parts (nat_le (length text) MAX_BYTES) ((nat_lt 0 limit && nat_le limit MAX_MOVES) && (nat_lt 0 places && nat_le places MAX_COMMANDS)) h).1
+      and_parts (nat_lt 0 limit && nat_le limit MAX_MOVES_OF_SERVICE) (nat_lt 0 places && nat_le places MAX_COMMANDS)
+      (and_parts (nat_le (length text) MAX_BYTES) ((nat_lt 0 limit && nat_le limit MAX_MOVES_OF_SERVICE) && (nat_lt 0 places && nat_le places MAX_COMMANDS)) h).1
 
-  pub limit_fits : (0 < limit) × (limit ≤ MAX_MOVES)
+  pub limit_fits : (0 < limit) × (limit ≤ MAX_MOVES_OF_SERVICE)
   limit_fits =
-      let both = and_parts (nat_lt 0 limit) (nat_le limit MAX_MOVES) rest.0 in
-      (ltb-true 0 limit both.0, leb-true limit MAX_MOVES both.1)
+      let both = and_parts (nat_lt 0 limit) (nat_le limit MAX_MOVES_OF_SERVICE) rest.0 in
+      (ltb-true 0 limit both.0, leb-true limit MAX_MOVES_OF_SERVICE both.1)
 
   pub places_fit : (0 < places) × (places ≤ MAX_COMMANDS)
   places_fit =
@@ -25,5 +25,5 @@ module _ (text : List ℕ) (limit places : ℕ) (h : fits_for_c text limit place
   pub length_fits : length text < 2 ^ 32 - 1
   length_fits =
       let few = leb-true (length text) MAX_BYTES
-      (and_parts (nat_le (length text) MAX_BYTES) ((nat_lt 0 limit && nat_le limit MAX_MOVES) && (nat_lt 0 places && nat_le places MAX_COMMANDS)) h).0 in
+      (and_parts (nat_le (length text) MAX_BYTES) ((nat_lt 0 limit && nat_le limit MAX_MOVES_OF_SERVICE) && (nat_lt 0 places && nat_le places MAX_COMMANDS)) h).0 in
       omega (arith, few)

@@ -5,7 +5,7 @@ use Rattle.lt_modes.specs.declared.command.Command.TheVariants.{Lock}
 use Rattle.lt_modes.specs.declared.mode.Mode.TheVariants.{Write}
 use Rattle.lt_modes.specs.Modes.{conflicts}
 use Rattle.lt_modes.specs.Script.{ScriptData}
-use Rattle.lt_spec.specs.declared.moves.TheConstants.{MAX_MOVES}
+use Rattle.lt_spec.specs.declared.moves.TheConstants.{MAX_MOVES_OF_SERVICE}
 use Rattle.lt_spec.specs.declared.limits.TheConstants.{MAX_COMMANDS}
 use Rattle.lt_spec.specs.World.{Logged}
 use Rattle.lt_text.specs.Text as text
@@ -15,7 +15,7 @@ use Rattle.lt_script.specs.Reading.{read_of}
 use Rattle.lt_script.specs.Reading as reading
 use Rattle.lt_journal.specs.RunLines.{closing_lines}
 use Rattle.lt_live.specs.Live.{AreLive, IsServedRun}
-use Rattle.lt_live.specs.Stations.{IsOpen}
+use Rattle.lt_live.specs.Stations.{IsOpen, most_share}
 use Rattle.lt_live_c.specs.declared.content.Content.{Content}
 use Rattle.lt_live_c.specs.declared.content.Content.TheVariants as contents
 use Rattle.lt_live_c.specs.declared.journal.Journal.{Journal}
@@ -48,13 +48,13 @@ script_or_fault : (script : ScriptData) (fault : ScriptFault) (read : Result Scr
 script_or_fault script fault read e f = cc
 
 opened_so : (s : Service) → IsOpenedFrom client_text 9 2 s
-    → IsOpen client_script 9 2 s.stations.items s.sessions.items
+    → IsOpen client_script 9 2 576460752303423488 s.stations.items s.sessions.items
 opened_so s h =
     let same = same_script h.0 with_command (read_of client_text) h.1 client_read in
-    subst (λ (script : ScriptData). IsOpen (record script { commands = [] }) 9 2 s.stations.items s.sessions.items) same h.2
+    subst (λ (script : ScriptData). IsOpen (record script { commands = [] }) 9 2 (most_share script) s.stations.items s.sessions.items) same h.2
 
 opened : (new : Option Content) → HandleOpened client_text 9 2 new
-    → OfService new (λ s. IsOpen client_script 9 2 s.stations.items s.sessions.items)
+    → OfService new (λ s. IsOpen client_script 9 2 576460752303423488 s.stations.items s.sessions.items)
 opened None h = absurd h
 opened (Some (contents.Service s)) h = opened_so s h
 opened (Some (contents.Station other)) h = absurd h
@@ -69,12 +69,12 @@ never_opened (Some (contents.Session other)) h = h
 never_opened (Some (contents.Journal other)) h = h
 
 fits : (bytes : List ℕ) (limit places : ℕ)
-    → length bytes ≤ 1048576 → 0 < limit → limit ≤ 1073741824 → 0 < places → places ≤ 4096
+    → length bytes ≤ 1048576 → 0 < limit → limit ≤ 36028797018963968 → 0 < places → places ≤ 4096
     → fits_for_c bytes limit places ≡ true
 fits bytes limit places few some_moves few_moves some_places few_places =
     and_from _ _ (le-leb (length bytes) 1048576 few)
     (and_from _ _
-    (and_from _ _ (lt-ltb 0 limit some_moves) (le-leb limit MAX_MOVES few_moves))
+    (and_from _ _ (lt-ltb 0 limit some_moves) (le-leb limit MAX_MOVES_OF_SERVICE few_moves))
     (and_from _ _ (lt-ltb 0 places some_places) (le-leb places MAX_COMMANDS few_places)))
 
 no_fault : (bytes : List ℕ) (limit places : ℕ) (script : ScriptData)
@@ -138,6 +138,12 @@ no_end (contents.Station x) other code was held waited waiting h = h
 no_end (contents.Session s) other code was held waited waiting h = h
 no_end (contents.Journal journal) other code was held waited waiting h = absurd (other refl)
 
+too_many_so : (content : Content) → kind_of content ≢ 0 → HandleNotFinished 10 (Some content) → ⊥
+too_many_so (contents.Service s) other h = other refl
+too_many_so (contents.Station x) other h = h.many refl
+too_many_so (contents.Session s) other h = h.many refl
+too_many_so (contents.Journal journal) other h = h.many refl
+
 forgotten_so : (content : Content) → kind_of content ≢ 0 → HandleNotFinished 9 (Some content) → ⊥
 forgotten_so (contents.Service s) other h = other refl
 forgotten_so (contents.Station x) other h = h.forgotten refl
@@ -154,6 +160,8 @@ finishes_told = record {
   waiting = waiting_so;
   forgotten = λ s all h. h.forgotten refl all;
   forgotten_of_others = forgotten_so;
+  too_many = λ s h. h.many refl;
+  too_many_of_others = too_many_so;
   finish_codes = λ code content h. h.only;
   wrong = λ s h. false≢true (sym h);
   end_code = λ journal code was held waited waiting h. h.0;

@@ -25,6 +25,7 @@ call_codes_are = record {
   full = refl;
   log_full = refl;
   forgotten = refl;
+  too_many = refl;
   bytes = refl;
 }
 

@@ -2,7 +2,7 @@
 use Rattle.std.specs.Prelude.{◌≡◌, ℕ, ◌-◌, ◌++◌, ◌⊎◌, Bool, true, false, List, [], Option, Some, None, min, length, take, drop, count_by, ⊤, ◌&&◌, Ok, Err, nat_le, nat_lt, map}
 use Rattle.lt_modes.specs.Script.{ScriptData}
 use Rattle.lt_spec.specs.World.{Logged}
-use Rattle.lt_spec.specs.declared.moves.TheConstants.{MAX_MOVES}
+use Rattle.lt_spec.specs.declared.moves.TheConstants.{MAX_MOVES_OF_SERVICE}
 use Rattle.lt_spec.specs.declared.limits.TheConstants.{MAX_COMMANDS}
 use Rattle.lt_script.specs.Printing.{print_of}
 use Rattle.lt_script.specs.declared.fault.ScriptFault.{ScriptFault}
@@ -11,9 +11,9 @@ use Rattle.lt_journal.specs.declared.line.Line.{Line}
 use Rattle.lt_journal.specs.declared.line.Line.TheVariants.{Held, Waiting}
 use Rattle.lt_journal.specs.RunLines.{closing_lines, text_of}
 use Rattle.lt_live.specs.Live.{AreLive, IsServedRun}
-use Rattle.lt_threads.specs.Meeting.{HaveAll}
-use Rattle.lt_live.specs.Stations.{IsOpen, runner_of}
-use Rattle.lt_live_c.specs.declared.code.TheConstants.{OK, WRONG_HANDLE, NO_MEMORY, BAD_ARGUMENT, BAD_SCRIPT, FORGOTTEN}
+use Rattle.lt_threads.specs.Meeting.{HaveAll, AreTooMany}
+use Rattle.lt_live.specs.Stations.{IsOpen, most_share, runner_of}
+use Rattle.lt_live_c.specs.declared.code.TheConstants.{OK, WRONG_HANDLE, NO_MEMORY, BAD_ARGUMENT, BAD_SCRIPT, FORGOTTEN, TOO_MANY}
 use Rattle.lt_live_c.specs.declared.journal.Journal.{Journal}
 use Rattle.lt_live_c.specs.declared.service.Service.{Service}
 use Rattle.lt_live_c.specs.declared.content.Content.{Content}
@@ -59,10 +59,19 @@ abbrev pub ServiceForgot : Content → Type 0
 ServiceForgot (contents.Service s) = SomeForgot s
 ServiceForgot other = ⊥
 
+-- its stations have appended more commands together than the text of a script may have
+abbrev pub HaveTooMany : Service → Type 0
+HaveTooMany s = AreTooMany (map runner_of s.stations.items)
+
+abbrev pub ServiceHasTooMany : Content → Type 0
+ServiceHasTooMany (contents.Service s) = HaveTooMany s
+ServiceHasTooMany other = ⊥
+
 -- why there is no journal
 pub record FinishRefused (code : ℕ) (a : Content) : Type 0 where
   pub forgotten : code ≡ FORGOTTEN → ServiceForgot a
-  pub only : (code ≡ WRONG_HANDLE) ⊎ ((code ≡ NO_MEMORY) ⊎ (code ≡ FORGOTTEN))
+  pub many : code ≡ TOO_MANY → ServiceHasTooMany a
+  pub only : (code ≡ WRONG_HANDLE) ⊎ ((code ≡ NO_MEMORY) ⊎ ((code ≡ FORGOTTEN) ⊎ (code ≡ TOO_MANY)))
 
 abbrev pub HandleNotFinished : ℕ → Option Content → Type 0
 HandleNotFinished code None = ⊤
@@ -105,12 +114,12 @@ HandleTellsEnd (Some content) code was held waited waiting = TellsEnd content co
 -- the numbers are in range, and the text isn't too long
 abbrev pub fits_for_c : List ℕ → ℕ → ℕ → Bool
 fits_for_c text limit places =
-    nat_le (length text) MAX_BYTES && ((nat_lt 0 limit && nat_le limit MAX_MOVES) && (nat_lt 0 places && nat_le places MAX_COMMANDS))
+    nat_le (length text) MAX_BYTES && ((nat_lt 0 limit && nat_le limit MAX_MOVES_OF_SERVICE) && (nat_lt 0 places && nat_le places MAX_COMMANDS))
 
 -- the stations and sessions of the script that the text denotes, without its commands
 abbrev pub IsOpenedFrom : List ℕ → ℕ → ℕ → Service → Type 0
 IsOpenedFrom text limit places s = (script : ScriptData) × (read_of text ≡ Ok script)
-    × IsOpen (record script { commands = [] }) limit places s.stations.items s.sessions.items
+    × IsOpen (record script { commands = [] }) limit places (most_share script) s.stations.items s.sessions.items
 
 abbrev pub HandleOpened : List ℕ → ℕ → ℕ → Option Content → Type 0
 HandleOpened text limit places (Some (contents.Service s)) = IsOpenedFrom text limit places s

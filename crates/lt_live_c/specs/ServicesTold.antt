@@ -14,7 +14,7 @@ use Rattle.lt_journal.specs.RunLines.{text_of}
 use Rattle.lt_live.specs.declared.ends.Session.{Session}
 use Rattle.lt_live.specs.Live.{AreLive, IsServedRun, IsServedNow, LiveScript, EachStation, EachSession, SaysSame}
 use Rattle.lt_live.specs.Served.{MakesNoMove}
-use Rattle.lt_threads.specs.Meeting.{HaveAll}
+use Rattle.lt_threads.specs.Meeting.{HaveAll, AreTooMany}
 use Rattle.lt_live.specs.Stations.{StationData, IsOpen, runner_of}
 use Rattle.lt_live.specs.Words.{submitted, polled}
 use Rattle.lt_live_c.specs.declared.content.Content.{Content}
@@ -116,10 +116,10 @@ client_script = record {
 -- what was opened; and why nothing was
 pub record OpensTold : Type 0 where
   pub opened : (new : Option Content) → HandleOpened client_text 9 2 new
-      → OfService new (λ s. IsOpen client_script 9 2 s.stations.items s.sessions.items)
+      → OfService new (λ s. IsOpen client_script 9 2 576460752303423488 s.stations.items s.sessions.items)
   pub never_opened : (new : Option Content) → HandleOpened [] 9 2 new → ⊥
   pub in_range : (text : List ℕ) (limit places : ℕ)
-      → length text ≤ 1048576 → 0 < limit → limit ≤ 1073741824 → 0 < places → places ≤ 4096
+      → length text ≤ 1048576 → 0 < limit → limit ≤ 36028797018963968 → 0 < places → places ≤ 4096
       → OpenRefused 4 text limit places → ⊥
   pub no_fault : (text : List ℕ) (limit places : ℕ) (script : ScriptData)
       → read_of text ≡ Ok script → OpenRefused 5 text limit places → ⊥
@@ -183,8 +183,10 @@ pub record FinishesTold : Type 0 where
   pub forgotten : (s : Service) → HaveAll (map runner_of s.stations.items)
       → HandleNotFinished 9 (Some (contents.Service s)) → ⊥
   pub forgotten_of_others : (content : Content) → kind_of content ≢ 0 → HandleNotFinished 9 (Some content) → ⊥
+  pub too_many : (s : Service) → HandleNotFinished 10 (Some (contents.Service s)) → AreTooMany (map runner_of s.stations.items)
+  pub too_many_of_others : (content : Content) → kind_of content ≢ 0 → HandleNotFinished 10 (Some content) → ⊥
   pub finish_codes : (code : ℕ) (content : Content) → HandleNotFinished code (Some content)
-      → (code ≡ 2) ⊎ ((code ≡ 3) ⊎ (code ≡ 9))
+      → (code ≡ 2) ⊎ ((code ≡ 3) ⊎ ((code ≡ 9) ⊎ (code ≡ 10)))
   pub wrong : (s : Service) → IsOfOther (Some (contents.Service s)) → ⊥
   pub end_code : (journal : Journal) → AfterEnd (contents.Journal journal) (λ code was held waited waiting. code ≡ 0)
   pub end_held : (journal : Journal)

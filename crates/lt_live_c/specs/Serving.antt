@@ -1,9 +1,10 @@
 -- What a service served so far, while it goes on.
-use Rattle.std.specs.Prelude.{◌≡◌, ◌<◌, ◌≤◌, ◌⊎◌, ◌==◌, ◌&&◌, ℕ, Bool, true, false, List, Option, Some, None, ⊤, length, slice_get, sum_by}
+use Rattle.std.specs.Prelude.{◌≡◌, ◌≤◌, ◌/◌, ◌⊎◌, ◌==◌, ◌&&◌, ℕ, Bool, true, false, List, Option, Some, None, ⊤, length, slice_get, sum_by}
 use Rattle.lt_live.specs.declared.ends.Session.{Session}
 use Rattle.lt_live.specs.Live.{LiveScript, EachStation, EachSession, SaysSame}
 use Rattle.lt_live.specs.Served.{AreServed, StayLive, MakesNoMove}
-use Rattle.lt_live.specs.Stations.{StationData, equal_share}
+use Rattle.lt_spec.specs.declared.limits.TheConstants.{MAX_COMMANDS_OF_SERVICE}
+use Rattle.lt_live.specs.Stations.{StationData}
 use Rattle.lt_live.specs.Words.{submitted, polled}
 use Rattle.lt_live_c.specs.declared.code.TheConstants.{NOTHING, WRONG_HANDLE}
 use Rattle.lt_live_c.specs.declared.content.Content.{Content}
@@ -74,8 +75,7 @@ abbrev pub HandleNotTold : ℕ → Option Content → Type 0
 HandleNotTold code None = ⊤
 HandleNotTold code (Some a) = NotTold code a
 
--- the session has an equal share of its script's, and not more replies were polled than commands were submitted
-pub record IsCountable (s : Session) : Type 0 where
-  pub some : 0 < length s.script.clients
-  pub share : s.share ≡ equal_share s.script
+-- one of n sessions: not more commands were submitted than its share of those of a service, nor more replies polled
+pub record IsCountable (n : ℕ) (s : Session) : Type 0 where
+  pub few : length (submitted s) ≤ MAX_COMMANDS_OF_SERVICE / n
   pub no_more : length (polled s) ≤ length (submitted s)

@@ -50,7 +50,7 @@ fn forget_by(station: &mut Station, alloc: Global) -> u32
     ensures goes_on { StationGoesOn station.old station.new }
     ensures forgets { ForgetsStation result station.old station.new }
 {
-    let Ok(()) = station.forget_moves(alloc) else {
+    let Ok(()) = station.forget_moves() else {
         return NO_MEMORY;
     };
     match station.forget_commands(alloc) {
@@ -91,7 +91,7 @@ fn submit_to(session: &mut Session, command: Option<Command>) -> u32
 }
 
 #[tactic(auto, using(lt_live::specs::Live::station_goes_on_itself))]
-pub fn poll(content: &mut Content, count: &mut u32) -> u32
+pub fn poll(content: &mut Content, count: &mut u64) -> u32
     ensures goes_on { ContentGoesOn content.old content.new }
     ensures polls { OnSession result (Polls result count.old count.new) content.old content.new }
 {
@@ -101,7 +101,7 @@ pub fn poll(content: &mut Content, count: &mut u32) -> u32
     }
 }
 
-fn poll_from(session: &mut Session, count: &mut u32) -> u32
+fn poll_from(session: &mut Session, count: &mut u64) -> u32
     ensures same { SameSession session.old session.new }
     ensures polls { Polls result count.old count.new session.old session.new }
 {
@@ -112,7 +112,7 @@ fn poll_from(session: &mut Session, count: &mut u32) -> u32
 }
 
 /// How many commands may still be submitted; 0 where it is no session.
-pub fn left(content: &Content) -> u32
+pub fn left(content: &Content) -> u64
     ensures { result ≡ left_in content.now }
 {
     match content {

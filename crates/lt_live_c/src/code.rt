@@ -33,6 +33,9 @@ pub const LOG_FULL: u32 = 8;
 /// Some station has forgotten moves or commands.
 pub const FORGOTTEN: u32 = 9;
 
+/// The stations have appended more commands together than the text of a script may have.
+pub const TOO_MANY: u32 = 10;
+
 /// How a turn ended.
 pub fn number_of_turn(turned: Turned) -> u32
     ensures { result ≡ number_of_turn turned }
@@ -46,7 +49,7 @@ pub fn number_of_turn(turned: Turned) -> u32
 }
 
 /// The reply's number. Of dropped locks `count` tells how many they were.
-pub fn number_of_reply(reply: Reply, count: &mut u32) -> u32
+pub fn number_of_reply(reply: Reply, count: &mut u64) -> u32
     ensures number { result ≡ number_of_reply reply }
     ensures count { count.new ≡ count_for_c reply count.old }
 {

@@ -1,20 +1,20 @@
 // The stations and sessions of a script, until they are taken, and after they are given back.
 ghost use Rattle.std.specs.Prelude.{◌≡◌, ◌≢◌, ◌<◌, ◌≤◌, ◌∷◌, ◌++◌, [], drop, slice_get, IfOk, IfErr, IfSome, IfNone, OnOk};
-ghost use Rattle.lt_spec.specs.declared.moves.TheConstants.{MAX_MOVES};
+ghost use Rattle.lt_spec.specs.declared.moves.TheConstants.{MAX_MOVES_OF_SERVICE};
 ghost use Rattle.lt_spec.specs.declared.limits.TheConstants.{MAX_COMMANDS};
-ghost use Rattle.lt_live.specs.Stations.{IsOpen};
+ghost use Rattle.lt_live.specs.Stations.{IsOpen, most_share};
 ghost use Rattle.lt_live.specs.Live.{LiveScript};
 ghost use Rattle.lt_live.specs.declared.finishing.FinishError.TheVariants as errors;
-ghost use Rattle.lt_live_c.specs.Journals.{IsOpenedFrom, OpenRefused, fits_for_c, IsJournalOfService, SomeForgot};
+ghost use Rattle.lt_live_c.specs.Journals.{IsOpenedFrom, OpenRefused, fits_for_c, IsJournalOfService, SomeForgot, HaveTooMany};
 ghost use Rattle.lt_live_c.specs.Serving.{has_all};
 ghost use Rattle.lt_live_c.specs.Taking.{TakesFirstStation, TakesFirstSession};
 
 use crate::code::{BAD_ARGUMENT, BAD_SCRIPT, NO_MEMORY};
 use crate::journal::Journal;
 use crate::limits::MAX_BYTES;
-use lt_live::{FinishError, Session, Station, finish, law_live_lasts, open};
+use lt_live::{FinishError, Session, Station, finish, law_live_lasts, most_share, open};
 use lt_script::{MAX_COMMANDS, ReadError, Script};
-use lt_spec::MAX_MOVES;
+use lt_spec::MAX_MOVES_OF_SERVICE;
 use std::alloc::{AllocError, Global};
 
 #[derive(Drop)]
@@ -26,7 +26,7 @@ pub struct Service {
 impl Service {
     /// The stations and sessions of the script, whose commands are left out.
     #[tactic(auto, using(crate::proofs::Fitting::limit_fits, crate::proofs::Fitting::places_fit, crate::proofs::Fitting::length_fits))]
-    pub fn open(alloc: Global, text: &[u8], limit: u32, places: u32) -> Result<Service, u32>
+    pub fn open(alloc: Global, text: &[u8], limit: u64, places: u32) -> Result<Service, u32>
         ensures opened { IfOk result (λ s. IsOpenedFrom text.now limit places s) }
         ensures whole { IfOk result (λ s. LiveScript s.stations.items s.sessions.items) }
         ensures refused { IfErr result (λ code. OpenRefused code text.now limit places) }
@@ -48,15 +48,15 @@ impl Service {
         }
     }
 
-    fn of(alloc: Global, script: &Script, limit: u32, places: u32) -> Result<Service, AllocError>
+    fn of(alloc: Global, script: &Script, limit: u64, places: u32) -> Result<Service, AllocError>
         requires commands { script.now.commands ≡ [] }
-        requires limit { (0 < limit) × (limit ≤ MAX_MOVES) }
+        requires limit { (0 < limit) × (limit ≤ MAX_MOVES_OF_SERVICE) }
         requires places { (0 < places) × (places ≤ MAX_COMMANDS) }
-        ensures opened { IfOk result (λ s. IsOpen script.now limit places s.stations.items s.sessions.items) }
+        ensures opened { IfOk result (λ s. IsOpen script.now limit places (most_share script.now) s.stations.items s.sessions.items) }
         ensures whole { IfOk result (λ s. LiveScript s.stations.items s.sessions.items) }
     {
         law_live_lasts();
-        let (stations, sessions) = open(alloc, script, limit, places)?;
+        let (stations, sessions) = open(alloc, script, limit, places, most_share(script))?;
         Ok(Service { stations, sessions })
     }
 
@@ -66,6 +66,7 @@ impl Service {
         requires { LiveScript self.stations.items self.sessions.items }
         ensures journal { IfOk result (λ journal. IsJournalOfService self journal) }
         ensures forgotten { IfErr result (λ error. error ≡ errors.Forgotten → SomeForgot self) }
+        ensures many { IfErr result (λ error. error ≡ errors.TooMany → HaveTooMany self) }
     {
         let (script, run) = finish(alloc, self.stations, self.sessions)?;
         let journal = Journal::of(alloc, &script, &run)?;
@@ -108,10 +109,10 @@ impl Service {
 }
 
 // Whether the numbers are in range, and the text isn't too long.
-fn fits(text: &[u8], limit: u32, places: u32) -> bool
+fn fits(text: &[u8], limit: u64, places: u32) -> bool
     ensures { result ≡ fits_for_c text.now limit places }
 {
     text.len() <= MAX_BYTES
-        && (0 < limit && limit <= MAX_MOVES)
+        && (0 < limit && limit <= MAX_MOVES_OF_SERVICE)
         && (0 < places && places <= MAX_COMMANDS)
 }

@@ -5,7 +5,7 @@ ghost use Rattle.lt_live_c.specs.Serving.{IsWholeHandleIfAll, HandleTellsServed,
 ghost use Rattle.lt_live_c.specs.Journals.{HandleOpened, OpenRefused, HandleFinishes, HandleNotFinished};
 
 use crate::boxes::{put, room, take};
-use crate::code::{FORGOTTEN, NO_MEMORY, OK, WRONG_HANDLE};
+use crate::code::{FORGOTTEN, NO_MEMORY, OK, TOO_MANY, WRONG_HANDLE};
 use crate::content::Content;
 use crate::handle::Handle;
 use crate::journal::Journal;
@@ -21,7 +21,7 @@ use std::mem::replace;
 pub extern "C" fn lockrun_open(
     alloc: Global,
     text: &[u8],
-    limit: u32,
+    limit: u64,
     places: u32,
     service: &mut Handle,
 ) -> u32
@@ -145,7 +145,8 @@ pub extern "C" fn lockrun_served(
 }
 
 /// Ends the service, all of whose stations and sessions were given back in order: `journal` stands for what they did.
-/// Without memory, or where a station has forgotten moves or commands, all is dropped.
+/// Without memory, where a station has forgotten moves or commands, or where there are more commands than the text of a
+/// script may have, all is dropped.
 #[unsafe(no_mangle)]
 pub extern "C" fn lockrun_finish(alloc: Global, service: &mut Handle, journal: &mut Handle) -> u32
     requires some { IsSome service.old.value }
@@ -165,6 +166,7 @@ pub extern "C" fn lockrun_finish(alloc: Global, service: &mut Handle, journal: &
     match journal_of(alloc, content) {
         Ok(made) => put(room, made, journal),
         Err(FinishError::Forgotten) => FORGOTTEN,
+        Err(FinishError::TooMany) => TOO_MANY,
         Err(FinishError::NoMemory) => NO_MEMORY,
     }
 }

@@ -1,15 +1,12 @@
 // What a service served so far, while it goes on.
-ghost use Rattle.std.specs.Prelude.{◌≡◌, ◌≤◌, true, All, IfOk, IfErr, length};
-ghost use Rattle.lt_spec.specs.declared.limits.TheConstants.{MAX_CLIENTS};
+ghost use Rattle.std.specs.Prelude.{◌≡◌, true, All, IfOk, IfErr, length};
 ghost use Rattle.lt_live.specs.Live.{LiveScript};
-ghost use Rattle.lt_live.specs.Words.{submitted, polled};
 ghost use Rattle.lt_live_c.specs.Serving.{has_all, ServedSoFar, TellsServed, ServedRefused, ServedRefusedBy, IsWholeIfAll, IsCountable, AreTotals};
 
 use crate::code::{NOTHING, WRONG_HANDLE};
 use crate::content::Content;
 use crate::service::Service;
 use lt_live::{Session, law_polled_in_turn, served};
-use lt_script::MAX_COMMANDS;
 
 /// How many commands were submitted to a service, and how many replies were polled.
 #[derive(Clone, Copy)]
@@ -41,7 +38,7 @@ fn tell_by(service: &mut Service) -> Result<Totals, u32>
     Ok(served_so_far(service))
 }
 
-#[tactic(auto, using(crate::proofs::Countable::are_countable, crate::proofs::Countable::few_sessions))]
+#[tactic(auto, using(crate::proofs::Countable::are_countable))]
 fn served_so_far(service: &mut Service) -> Totals
     requires all { has_all service.old ≡ true }
     requires whole { LiveScript service.old.stations.items service.old.sessions.items }
@@ -53,30 +50,15 @@ fn served_so_far(service: &mut Service) -> Totals
 }
 
 fn totals_of(sessions: &[Session]) -> Totals
-    requires each { All IsCountable sessions.now }
-    requires few { length sessions.now ≤ MAX_CLIENTS }
+    requires { All (IsCountable (length sessions.now)) sessions.now }
     ensures { AreTotals sessions.now result }
 {
     let mut submitted: usize = 0;
     let mut polled: usize = 0;
     for place in 0..sessions.len() {
-        submitted += submitted_at(&sessions[place]) as usize;
-        polled += polled_at(&sessions[place]) as usize;
+        let session = &sessions[place];
+        submitted += session.submitted() as usize;
+        polled += (session.submitted() - session.unanswered()) as usize;
     }
     Totals { submitted, polled }
-}
-
-// What isn't left of an equal share was submitted.
-fn submitted_at(session: &Session) -> u32
-    requires { IsCountable session.now }
-    ensures { result ≡ length (submitted session.now) }
-{
-    MAX_COMMANDS / u32::from(session.script().clients()) - session.left()
-}
-
-fn polled_at(session: &Session) -> u32
-    requires { IsCountable session.now }
-    ensures { result ≡ length (polled session.now) }
-{
-    submitted_at(session) - session.unanswered()
 }

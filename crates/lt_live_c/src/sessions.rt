@@ -63,7 +63,7 @@ pub extern "C" fn lockrun_submit(
 
 /// Polls for the next reply.
 #[unsafe(no_mangle)]
-pub extern "C" fn lockrun_poll(alloc: Global, session: &mut Handle, count: &mut u32) -> u32
+pub extern "C" fn lockrun_poll(alloc: Global, session: &mut Handle, count: &mut u64) -> u32
     requires { IsSome session.old.value }
     ensures some { IsSome session.new.value }
     ensures goes_on { HandleGoesOn session.old.value session.new.value }
@@ -77,7 +77,7 @@ pub extern "C" fn lockrun_poll(alloc: Global, session: &mut Handle, count: &mut 
 
 /// How many commands may still be submitted.
 #[unsafe(no_mangle)]
-pub extern "C" fn lockrun_left(alloc: Global, session: &mut Handle) -> u32
+pub extern "C" fn lockrun_left(alloc: Global, session: &mut Handle) -> u64
     requires { IsSome session.old.value }
     ensures keeps { session.new.value ≡ session.old.value }
     ensures left { result ≡ left_at session.old.value }

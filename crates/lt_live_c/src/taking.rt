@@ -2,7 +2,7 @@
 ghost use Rattle.std.specs.Prelude.{◌≡◌, true, IfOk, IfErr, OnOk};
 ghost use Rattle.lt_live.specs.declared.finishing.FinishError.TheVariants as errors;
 ghost use Rattle.lt_live_c.specs.Taking.{IsWholeService, stands_for_service, TakesStation, TakesSession, StationRefused, SessionRefused, GivesTheOther, GiveRefused, GivesTo, GiveRefusedBy};
-ghost use Rattle.lt_live_c.specs.Journals.{JournalIsOf, ServiceForgot};
+ghost use Rattle.lt_live_c.specs.Journals.{JournalIsOf, ServiceForgot, ServiceHasTooMany};
 
 use crate::code::{NO_MEMORY, NOTHING, WRONG_HANDLE};
 use crate::content::Content;
@@ -78,6 +78,7 @@ pub fn journal_of(alloc: Global, content: Content) -> Result<Content, FinishErro
     requires whole { IsWholeService content }
     ensures journal { IfOk result (λ journal. JournalIsOf content journal) }
     ensures forgotten { IfErr result (λ error. error ≡ errors.Forgotten → ServiceForgot content) }
+    ensures many { IfErr result (λ error. error ≡ errors.TooMany → ServiceHasTooMany content) }
 {
     match content {
         Content::Service(service) => Ok(Content::Journal(service.finish(alloc)?)),

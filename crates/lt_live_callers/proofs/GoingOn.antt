@@ -12,7 +12,7 @@ use Rattle.lt_threads.specs.Pushes.{HasLimit}
 use Rattle.lt_live.specs.declared.reply.Reply.{Reply}
 use Rattle.lt_live.specs.declared.ends.Session.{Session}
 use Rattle.lt_live.specs.Words.{SameSession}
-use Rattle.lt_live.specs.Stations.{StationData, StationTurns, StaySeated, runner_of}
+use Rattle.lt_live.specs.Stations.{StationData, StationTurns, StaySeated, runner_of, equal_share, HaveEqualShares}
 use Rattle.lt_live.specs.Live.{GoesOn, StationGoesOn, EachStation, EachSession, LiveLasts}
 use Rattle.lt_live.proofs.SeatLists.{alike_before, alike_self, alike_weaker}
 use Rattle.lt_live.proofs.LiveShares.{goes_join}
@@ -117,6 +117,9 @@ module _ {C : Type 0} (goes : C → Option Reply → Option Command → C → Ty
     each = λ client d here.
         let (old, was, went) = alike_before (DeskGoesOn goes n) desks after go client d here in
         calls_go_on goes 0 n n (slice_get callers client) old d (omega arith) (h.each client old was) went;
+    shares = λ client d here.
+        let (old, was, went) = alike_before (DeskGoesOn goes n) desks after go client d here in
+        went.same.share ∙ h.shares client old was;
     roomy = λ client d here.
         let (old, was, went) = alike_before (DeskGoesOn goes n) desks after go client d here in
         let same = went.same in
@@ -125,3 +128,12 @@ module _ {C : Type 0} (goes : C → Option Reply → Option Command → C → Ty
         let (old, was, went) = alike_before (DeskGoesOn goes n) desks after go client d here in
         went.barred (h.barred client old was);
   }
+
+  -- so all submit no more together than the text of a script may have
+  pub equal_shares : (n : ℕ) (script : ScriptData) (limit : ℕ) (callers : List C) (stations : List StationData) (desks : List (Desk C))
+      → AreServing goes n script limit callers stations desks → HaveEqualShares (map session_of desks)
+  equal_shares n script limit callers stations desks h client s here =
+      let (d, there, is) = mapped_at session_of desks client s here in
+      let own = (h.live.each client s here).script_is in
+      let share = h.shares client d there in
+      subst (λ (x : ScriptData). s.share ≤ equal_share x) (sym own) (omega (arith, share, ap (λ (t : Session). t.share) is))

@@ -15,7 +15,7 @@ use Rattle.lt_law_merged.specs.States.{RestIsNoMove}
 use Rattle.lt_merge.specs.Merging.{RunData, Merges}
 use Rattle.lt_runner.specs.declared.parts.Parts.{Parts}
 use Rattle.lt_runner.specs.Kept.{Grew}
-use Rattle.lt_threads.specs.Meeting.{AreCrewLogs, HaveAll, IsJoined, IsSharedRun, EachIs, commands_in, crew_world}
+use Rattle.lt_threads.specs.Meeting.{AreCrewLogs, HaveAll, IsJoined, EachIs, commands_in, crew_world}
 use Rattle.lt_threads.specs.Pushes.{HasLimit, MovedOn, CrewEnds}
 use Rattle.lt_threads.specs.Threads.{IsThreadRun}
 use Rattle.lt_threads.proofs.Each.{each_before}
@@ -24,7 +24,7 @@ use Rattle.lt_live.specs.declared.ends.Session.{Session}
 use Rattle.lt_live.specs.Words.{submitted, polled, SameSession}
 use Rattle.lt_live.specs.Seats.{replies_in, reply_to}
 use Rattle.lt_live.specs.Stations.{StationData, runner_of}
-use Rattle.lt_live.specs.Live.{AreLive, LiveScript, GoesOn, StationGoesOn, EachStation, LiveLasts, ServedBy, Settled, IsServedRun}
+use Rattle.lt_live.specs.Live.{AreLive, LiveScript, GoesOn, StationGoesOn, EachStation, LiveLasts, ServedBy, Settled, IsServedRun, IsRunOfAll}
 use Rattle.lt_live.proofs.Finished.{AllSettled, served_run}
 use Rattle.lt_live.proofs.SeatLists.{alike_after, alike_self}
 use Rattle.lt_live.proofs.Settling.{session_itself}
@@ -112,9 +112,10 @@ module _ (stations later : List StationData) (sessions after : List Session) (rs
   grew : EachIs Grew (map runner_of later) last
   grew = subst (λ (ps : List Parts). EachIs Grew ps last) taken moved.grew
 
-  shared : IsSharedRun last made run
+  shared : IsRunOfAll last made run
   shared = record {
-    joined = record { crew = moved.crew; commands = joined.commands ∙ sym (same_commands rs last moved.grew) };
+    crew = moved.crew;
+    commands = joined.commands ∙ sym (same_commands rs last moved.grew);
     is_run = finished.is_run run merges;
     rising = merges.order.rising;
     is_crew_run = finished.is_crew_run run merges;

@@ -1,6 +1,6 @@
 -- Desks are made, and what callers made at them.
 use Rattle.std.proofs.Common.{◌≡◌, ℕ, zero, suc, Bool, List, [], ◌∷◌, ◌++◌, ◌<◌, ◌≤◌, length, map, Option, Some, None, refl, sym, ap, subst, ◌∙◌, rules, arith, slice_get, slice_index_or, remove, option_map, append-nil}
-use Rattle.std.proofs.lemmas.Option.{same_Some, slice_get-map, slice_get_within}
+use Rattle.std.proofs.lemmas.Option.{same_Some, slice_get-map}
 use Rattle.lt_modes.specs.declared.command.Command.{Command}
 use Rattle.lt_modes.specs.Script.{ScriptData}
 use Rattle.lt_live.specs.declared.reply.Reply.{Reply}
@@ -18,10 +18,10 @@ use Rattle.lt_live_callers.specs.Served.{CallsIn, NoneRefused, AreDesks, AreServ
 use Rattle.lt_live_callers.proofs.Steps.{no_steps}
 
 -- of a session whose ring has a place for each command of its share, a command that has no room might not be submitted
-barred : (script : ScriptData) (stations : List StationData) (client : ℕ) (s : Session) → IsSessionOf script stations client s → s.share ≤ places s
+barred : (script : ScriptData) (stations : List StationData) (client : ℕ) (s : Session) → IsSessionOf script stations client s → s.share ≡ equal_share script → s.share ≤ places s
     → (command : Command) → ¬ CanSubmit s command → ¬ MayCommand script client s command
-barred script stations client s is roomy command none may =
-    let left : length (submitted s) < s.share = omega (arith, may.left, is.share) in
+barred script stations client s is share roomy command none may =
+    let left : length (submitted s) < s.share = omega (arith, may.left, share) in
     none (record {
       left = left;
       place = omega (arith, left, roomy);
@@ -59,13 +59,13 @@ module _ {C : Type 0} where
 
   -- nobody has called yet
   pub begun : (goes : C → Option Reply → Option Command → C → Type 0) → OpenedAreLive → (script : ScriptData) (limit capacity : ℕ) (stations : List StationData)
-      (sessions : List Session) (callers : List C) (desks : List (Desk C)) → script.commands ≡ [] → IsOpen script limit capacity stations sessions
-      → (0 < length script.clients → capacity ≡ equal_share script) → AreDesks callers sessions desks
+      (sessions : List Session) (callers : List C) (desks : List (Desk C)) → script.commands ≡ [] → IsOpen script limit capacity (equal_share script) stations sessions
+      → equal_share script ≤ capacity → AreDesks callers sessions desks
       → AreServing goes 0 script limit callers stations desks
-  begun goes opened_live script limit capacity stations sessions callers desks empty opened share are = record {
+  begun goes opened_live script limit capacity stations sessions callers desks empty opened room are = record {
     limits = opened.runners.limits;
     all = opened.runners.have_all;
-    live = subst (λ (all : List Session). AreLive script stations all) (sym are.given) (opened_live script limit capacity stations sessions empty opened);
+    live = subst (λ (all : List Session). AreLive script stations all) (sym are.given) (opened_live script limit capacity (equal_share script) stations sessions empty opened);
     each = λ client d here.
         let new = (opened.each client d.session (session_there callers sessions desks client d are here)).0 in
         subst (λ (o : Option C). CallsIn goes 0 o d.session (Some (called_of d)))
@@ -78,11 +78,11 @@ module _ {C : Type 0} where
           },
           no_steps 0 d.refused [] (free_at desks client d here are.free) refl,
         );
+    shares = λ client d here. (opened.each client d.session (session_there callers sessions desks client d are here)).0.share.0;
     roomy = λ client d here.
         let there = session_there callers sessions desks client d are here in
         let new = (opened.each client d.session there).0 in
-        let inside = slice_get_within sessions client d.session there in
-        omega (arith, new.share.0, new.places, share (omega (arith, inside, opened.count)));
+        omega (arith, new.share.0, new.places, room);
     barred = λ client d here back is.
         let none = free_at desks client d here are.free in
         absurd (cc);
@@ -107,7 +107,7 @@ module _ {C : Type 0} where
         let session = serving.live.each client d.session (slice_get-map session_of desks client ∙ ap (option_map session_of) e) in
         subst (λ (b : Called C). (command : Command) → b.refused ≡ Some command → ¬ MayCommand script client s command) (same_Some (called_of d) called was)
         (subst (λ (t : Session). (command : Command) → d.refused ≡ Some command → ¬ MayCommand script client t command) (same_Some d.session s is)
-        (λ command back. barred script stations client d.session session (serving.roomy client d e) command (serving.barred client d e command back)))
+        (λ command back. barred script stations client d.session session (serving.shares client d e) (serving.roomy client d e) command (serving.barred client d e command back)))
 
     calls_so : (client : ℕ) (s : Session) → slice_get (map session_of desks) client ≡ Some s
         → CallsIn goes n (slice_get callers client) s (slice_get served.callers.items client)
@@ -121,6 +121,7 @@ module _ {C : Type 0} where
       sessions = map session_of desks;
       count = serving.live.count;
       serves = ended.serves;
+      is_short = ended.is_short;
       ends = ended.ends;
       each = λ client s here. (calls_so client s here).0;
       refused = λ client s called here there.

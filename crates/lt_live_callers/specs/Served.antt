@@ -4,6 +4,7 @@ use mathlib.Core.List.{IsPrefix}
 use Rattle.lt_modes.specs.Script.{ScriptData}
 use Rattle.lt_modes.specs.declared.command.Command.{Command}
 use Rattle.lt_spec.specs.declared.moves.TheConstants.{MAX_MOVES}
+use Rattle.lt_spec.specs.declared.limits.TheConstants.{MAX_COMMANDS}
 use Rattle.lt_spec.specs.World.{Logged, World, world_after, is_at_rest, anyone_waits, is_of_node}
 use Rattle.lt_spec.specs.declared.ending.Ending.{Ending}
 use Rattle.lt_spec.specs.declared.ending.Ending.TheVariants as endings
@@ -16,7 +17,7 @@ use Rattle.lt_live.specs.declared.reply.Reply.{Reply}
 use Rattle.lt_live.specs.declared.ends.Session.{Session}
 use Rattle.lt_live.specs.Words.{submitted, polled, command_held, places}
 use Rattle.lt_live.specs.Live.{IsServedRun, AreLive}
-use Rattle.lt_live.specs.Stations.{StationData, IsOpen, runner_of}
+use Rattle.lt_live.specs.Stations.{StationData, IsOpen, equal_share, runner_of}
 use Rattle.lt_live_callers.specs.declared.ending.LiveEnding.{LiveEnding}
 use Rattle.lt_live_callers.specs.declared.ending.LiveEnding.TheVariants.{Done, Stuck, Unfinished}
 use Rattle.lt_live_callers.specs.declared.desk.Desk.{Desk}
@@ -58,7 +59,7 @@ with_journal script run = print_of script ++ codes "journal\n" ++ text_of script
 -- they were opened for the script, and have made no move
 abbrev pub WereOpened : ScriptData → ℕ → List StationData → Type 0
 WereOpened script limit stations =
-    (capacity : ℕ) × (sessions : List Session) × IsOpen script limit capacity stations sessions
+    (capacity : ℕ) × (sessions : List Session) × IsOpen script limit capacity (equal_share script) stations sessions
 
 -- the moves that each has made are the first ones of its node in the run
 abbrev pub HaveMade : List StationData → List Logged → Type 0
@@ -99,13 +100,14 @@ module _ {C : Type 0} where
   InSteps goes n (Some a) s None calls = ⊥
   InSteps goes n (Some a) s (Some b) calls = AreSteps n b.refused calls.steps
 
-  -- a run by the rules of the first script with commands, which ended so, and for each client a session that it
-  -- serves, by which its caller called
+  -- a run by the rules of the first script with commands, no more than a text may have, which ended so, and for each
+  -- client a session that it serves, by which its caller called
   pub record IsServedBy (goes : C → Option Reply → Option Command → C → Type 0)
       (first : ScriptData) (callers : List C) (served : Served C) : Type 0 where
     pub sessions : List Session
     pub count : length sessions ≡ length first.clients
     pub serves : IsServedRun first sessions served.script served.run.entries
+    pub is_short : length served.script.commands ≤ MAX_COMMANDS
     pub ends : CallersEndSo served.ending served.script served.run.entries
     pub each : (client : ℕ) (s : Session) → slice_get sessions client ≡ Some s
         → CallsAt goes (slice_get callers client) s (slice_get served.callers.items client)
@@ -149,8 +151,8 @@ module _ {C : Type 0} where
     pub free : NoneRefused desks
 
   -- the stations and the sessions are those of the script, no station has forgotten anything, each caller called by the
-  -- session at its place, whose ring has a place for each command that it may submit, and what was refused might not be
-  -- submitted
+  -- session at its place, which has an equal share and whose ring has a place for each command that it may submit, and what
+  -- was refused might not be submitted
   pub record AreServing (goes : C → Option Reply → Option Command → C → Type 0)
       (n : ℕ) (script : ScriptData) (limit : ℕ) (callers : List C)
       (stations : List StationData) (desks : List (Desk C)) : Type 0 where
@@ -159,6 +161,7 @@ module _ {C : Type 0} where
     pub all : HaveAll (map runner_of stations)
     pub each : (client : ℕ) (d : Desk C) → slice_get desks client ≡ Some d
         → CallsIn goes n (slice_get callers client) d.session (Some (called_of d))
+    pub shares : (client : ℕ) (d : Desk C) → slice_get desks client ≡ Some d → d.session.share ≡ equal_share script
     pub roomy : (client : ℕ) (d : Desk C) → slice_get desks client ≡ Some d → d.session.share ≤ places d.session
     pub barred : (client : ℕ) (d : Desk C) → slice_get desks client ≡ Some d → IsBarred d
 
@@ -166,6 +169,7 @@ module _ {C : Type 0} where
   pub record AreEnded (script : ScriptData) (limit : ℕ) (stations : List StationData) (desks : List (Desk C))
       (served : Served C) : Type 0 where
     pub serves : IsServedRun script (map session_of desks) served.script served.run.entries
+    pub is_short : length served.script.commands ≤ MAX_COMMANDS
     pub ends : CallersEndSo served.ending served.script served.run.entries
     pub within : StaysWithin limit served.script served.run.entries
     pub far : GoesFar limit served.script served.run.entries

@@ -1,11 +1,12 @@
 // The run of the stations, and how it ended.
 ghost use Rattle.std.specs.Prelude.{◌≡◌, map, IfOk};
 ghost use Rattle.lt_modes.specs.Script.{ScriptData};
+ghost use Rattle.lt_spec.specs.Script.{IsShort};
 ghost use Rattle.lt_threads.specs.Meeting.{ShareScript, AreTooMany, HaveAll, IsCrew, IsJoined, AreCrewLogs};
 ghost use Rattle.lt_threads.specs.Pushes.{HasLimit};
 ghost use Rattle.lt_threads.specs.Threads.{StaysWithin, GoesFar};
 ghost use Rattle.lt_live.specs.Live.{AreLive, LiveScript, IsServedRun};
-ghost use Rattle.lt_live.specs.Stations.{runner_of};
+ghost use Rattle.lt_live.specs.Stations.{runner_of, HaveEqualShares};
 ghost use Rattle.lt_live_callers.specs.Served.{CallersEndSo, as_live, HaveMade};
 
 use crate::moving::move_on;
@@ -51,9 +52,11 @@ pub(crate) fn end_run(
     requires live { LiveScript stations.items sessions.items }
     requires limits { HasLimit _limit (map runner_of stations.items) }
     requires all { HaveAll (map runner_of stations.items) }
+    requires shares { HaveEqualShares sessions.items }
     ensures served { IfOk result (λ made.
         (script : ScriptData) → AreLive script stations.items sessions.items → IsServedRun script sessions.items
         made.0 made.1.entries) }
+    ensures short { IfOk result (λ made. IsShort made.0) }
     ensures ends { IfOk result (λ made. CallersEndSo made.2 made.0 made.1.entries) }
     ensures within { IfOk result (λ made. StaysWithin _limit made.0 made.1.entries) }
     ensures far { IfOk result (λ made. GoesFar _limit made.0 made.1.entries) }

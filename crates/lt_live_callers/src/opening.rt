@@ -3,14 +3,13 @@ ghost use Rattle.std.specs.Prelude.{◌≡◌, ◌≢◌, ◌↔◌, ◌≤◌, 
 ghost use Rattle.lt_spec.specs.declared.moves.TheConstants.{MAX_MOVES};
 ghost use Rattle.lt_spec.specs.declared.limits.TheConstants.{MAX_COMMANDS};
 ghost use Rattle.lt_live_callers.specs.declared.error.CallersError.TheVariants as errors;
-ghost use Rattle.lt_live.specs.Stations.{equal_share};
 ghost use Rattle.lt_live_callers.specs.Served.{AreDesks, AreServing, IsNoLimit, WereOpened};
 
 use crate::caller::Caller;
 use crate::desk::Desk;
 use crate::error::CallersError;
-use lt_live::{Session, Station, law_live_lasts, open};
-use lt_script::{MAX_COMMANDS, Script};
+use lt_live::{Session, Station, equal_share, law_live_lasts, open};
+use lt_script::Script;
 use lt_spec::MAX_MOVES;
 use std::alloc::{AllocError, Global};
 
@@ -44,20 +43,21 @@ pub(crate) fn begin<C: Caller + Drop>(
         AreServing C.goes 0 script.now limit callers.items begun.0.items begun.1.items) }
 {
     law_live_lasts();
-    let (stations, sessions) = open(alloc, script, limit, share_of(script))?;
+    let moves = u64::from(limit);
+    let share = equal_share(script);
+    let most = u64::from(share);
+    let (stations, sessions) = open(alloc, script, moves, places_for(share), most)?;
     let desks = desks_of(alloc, callers, sessions)?;
     Ok((stations, desks))
 }
 
-// How many commands each session may submit, or one where there is none: so its ring has a place for each.
-fn share_of(script: &Script) -> u32
+// How many places the ring of a session has: one for each command that it may submit, and one at least.
+fn places_for(share: u32) -> u32
+    requires { share ≤ MAX_COMMANDS }
     ensures some { (0 < result) × (result ≤ MAX_COMMANDS) }
-    ensures share { 0 < length script.now.clients → result ≡ equal_share script.now }
+    ensures roomy { share ≤ result }
 {
-    if script.clients() == 0 {
-        return 1;
-    }
-    MAX_COMMANDS / u32::from(script.clients())
+    share.max(1)
 }
 
 // A desk for each caller, with the session at its place.

@@ -5,7 +5,7 @@ ghost use Rattle.lt_threads.specs.Meeting.{HaveAll};
 ghost use Rattle.lt_threads.specs.Pushes.{HasLimit};
 ghost use Rattle.lt_threads.specs.Threads.{StaysWithin, GoesFar};
 ghost use Rattle.lt_live.specs.Live.{AreLive};
-ghost use Rattle.lt_live.specs.Stations.{runner_of};
+ghost use Rattle.lt_live.specs.Stations.{runner_of, HaveEqualShares};
 ghost use Rattle.lt_live_callers.specs.declared.error.CallersError.TheVariants as errors;
 ghost use Rattle.lt_live_callers.specs.declared.turning.TheConstants.{TIMES_A_ROUND};
 ghost use Rattle.lt_live_callers.specs.Desks.{called_of, session_of};
@@ -142,6 +142,7 @@ fn end<C: Drop>(
     requires live { AreLive _script.now stations.items (map session_of desks.items) }
     requires limits { HasLimit limit (map runner_of stations.items) }
     requires all { HaveAll (map runner_of stations.items) }
+    requires shares { HaveEqualShares (map session_of desks.items) }
     ensures ended { IfOk result (λ served. AreEnded _script.now limit stations.items desks.items served) }
     ensures rounds { IfOk result (λ served. served.rounds ≡ rounds) }
 {

@@ -1,5 +1,5 @@
 -- What each station knows once all callers and their seats looked.
-use Rattle.std.proofs.Common.{◌≡◌, ◌≤◌, ◌++◌, ℕ, List, [], length, Option, Some, true, sym, ap, subst, arith, ◌∙◌, inl, inr, take_all, ◌<◌, zero, suc, ◌∷◌, map, get_or, None, Bool, false, refl, ◌≢◌, ◌+◌, take, slice_get, ◌⊎◌, ◌==◌, filter_map, if◌then◌else◌, slice_index_or, option_map, eqb-true, ne_eqb, lt-ltb, length-append, length-take}
+use Rattle.std.proofs.Common.{◌≡◌, ◌≤◌, ◌++◌, ℕ, List, [], length, Option, Some, true, sym, ap, subst, arith, ◌∙◌, inl, inr, take_all, ◌<◌, zero, suc, ◌∷◌, map, get_or, None, Bool, false, refl, ◌≢◌, ◌+◌, take, slice_get, ◌⊎◌, ◌==◌, filter_map, if◌then◌else◌, slice_index_or, option_map, eqb-true, lt-ltb, length-append, length-take}
 use Rattle.std.proofs.lemmas.Bool.{cases_eq, false≢true}
 use Rattle.std.proofs.lemmas.List.{length-map, map-append, take_more}
 use Rattle.std.proofs.lemmas.Option.{same_Some, slice_get-map, slice_get_within, slice_get-get_or}
@@ -12,7 +12,7 @@ use Rattle.lt_spec.specs.NodeMove.{commands_of, home, with_commands, command_if}
 use Rattle.lt_script.proofs.NameLemmas.{element_at}
 use Rattle.lt_threads.specs.Meeting.{InShares}
 use Rattle.lt_live.specs.declared.ends.Seat.{Seat}
-use Rattle.lt_live.specs.Stations.{may_ask, runner_of, StationData, IsSeatOf, IsOpen, IsNewSession, equal_share}
+use Rattle.lt_live.specs.Stations.{may_ask, runner_of, StationData, IsSeatOf, IsOpen, equal_share}
 use Rattle.lt_live.specs.Live.{IsSessionOf, AreLive}
 use Rattle.lt_live.specs.Words.{submitted, taken, known_commands, outbox_replies, command_held}
 use Rattle.lt_live.specs.declared.ends.Session.{Session}
@@ -20,7 +20,7 @@ use Rattle.lt_live.proofs.TurnParts.{asks, has_targets, has_modes}
 use Rattle.lt_live.proofs.Settling.{opened_are_live}
 use Rattle.lt_live.proofs.SeatLists.{pushed, none_here}
 use Rattle.lt_live_serve.specs.declared.callers.Caller.{Caller}
-use Rattle.lt_live_serve.specs.Completing.{AllSubmitted, session_of, left_of, appended_at, AreStationsKept, IsBeside, BesideTo, AreServing, share_or_one, CanCall, AreNew, IsNewCaller, AreNewCallers}
+use Rattle.lt_live_serve.specs.Completing.{AllSubmitted, session_of, left_of, appended_at, AreStationsKept, IsBeside, BesideTo, AreServing, CanCall, AreNew, IsNewCaller, AreNewCallers}
 use Rattle.lt_live_serve.proofs.Completed.{Within, no_more, none_apart, same_ask, middle}
 use Rattle.lt_live_serve.proofs.Told.{session_there}
 use Rattle.lt_live_serve.proofs.Outboxes.{first_waits}
@@ -169,20 +169,18 @@ asks_all script client is_script =
 pub few_commands : (script : ScriptData) (client : ℕ) → is_over script client ≡ false → length (commands_of script client) ≤ equal_share script
 few_commands script client e = omega (arith, λ (past : equal_share script < length (commands_of script client)). false≢true (sym e ∙ lt-ltb (equal_share script) (length (commands_of script client)) past))
 
-pub share_is : (script : ScriptData) (client : ℕ) → client < length script.clients → share_or_one script ≡ equal_share script
-share_is script client below =
-    ap (λ (t : Bool). if t then 1 else equal_share script) (ne_eqb (length script.clients) 0 (λ e. omega (arith, e, below)))
-
 -- the sessions that are opened can be called
-pub are_new : (script : ScriptData) (stations : List StationData) (sessions : List Session) → IsFirstOver script None
-    → IsOpen (with_commands script []) MOVES (share_or_one script) stations sessions → AreNew script sessions
-are_new script stations sessions none opened k s e =
+pub are_new : (script : ScriptData) (capacity : ℕ) (stations : List StationData) (sessions : List Session) → equal_share script ≤ capacity → IsFirstOver script None
+    → IsOpen (with_commands script []) MOVES capacity (equal_share script) stations sessions → AreNew script sessions
+are_new script capacity stations sessions roomy none opened k s e =
     let below : k < length script.clients = omega (arith, slice_get_within sessions k s e, opened.count) in
     let new = (opened.each k s e).0 in (
       record {
         client = k;
         below = below;
-        new = subst (λ (n : ℕ). IsNewSession (with_commands script []) n k s) (share_is script k below) new;
+        places = capacity;
+        new = new;
+        roomy = roomy;
         few = few_commands script k (none k below);
       },
       new.client_is,
@@ -214,20 +212,20 @@ pub can_call : (script : ScriptData) (sessions : List Session) (k : ℕ) (s : Se
 can_call script sessions k s new inside here = (new k s (slice_get-get_or sessions k s inside ∙ ap Some (sym here))).0
 
 -- so stations and callers are those of the script
-pub first_serving : (script bare : ScriptData) (stations : List StationData) (sessions : List Session) (callers : List Caller) (share : ℕ) → bare ≡ with_commands script []
-    → IsOpen bare MOVES share stations sessions → AreNewCallers script sessions callers → AreStationsKept stations → AreServing script stations callers
-first_serving script bare stations sessions callers share is opened made kept = record {
+pub first_serving : (script bare : ScriptData) (stations : List StationData) (sessions : List Session) (callers : List Caller) (capacity share : ℕ) → bare ≡ with_commands script []
+    → IsOpen bare MOVES capacity share stations sessions → AreNewCallers script sessions callers → AreStationsKept stations → AreServing script stations callers
+first_serving script bare stations sessions callers capacity share is opened made kept = record {
   live = live;
   limits = opened.runners.limits;
   have_all = opened.runners.have_all;
-  waits = first_waits bare MOVES share stations sessions before.runners opened kept;
+  waits = first_waits bare MOVES capacity share stations sessions before.runners opened kept;
   lists = λ client c e.
       let there : slice_get (map session_of callers) client ≡ Some c.session = slice_get-map session_of callers client ∙ ap (option_map session_of) e in
       made.lists client c e ∙ ap (commands_of script) (live.each client c.session there).client_is;
 }
   where
     before : AreLive bare stations sessions
-    before = opened_are_live bare MOVES share stations sessions (ap (λ (s : ScriptData). s.commands) is) opened
+    before = opened_are_live bare MOVES capacity share stations sessions (ap (λ (s : ScriptData). s.commands) is) opened
 
     live : AreLive (with_commands script []) stations (map session_of callers)
     live =

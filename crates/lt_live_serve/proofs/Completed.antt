@@ -12,7 +12,7 @@ use Rattle.lt_lists.proofs.AllLemmas.{all_weaker}
 use Rattle.lt_lists.proofs.Sums.{sum_below-most}
 use Rattle.lt_spec.specs.NodeMove.{command_if, commands_of, home, with_commands, AreAt}
 use Rattle.lt_spec.specs.Script.{IsScript, IsRequest}
-use Rattle.lt_spec.specs.declared.limits.TheConstants.{MAX_COMMANDS}
+use Rattle.lt_spec.specs.declared.limits.TheConstants.{MAX_COMMANDS_OF_SERVICE}
 use Rattle.lt_spec.specs.World.{Logged}
 use Rattle.lt_threads.proofs.Shares.{counted}
 use Rattle.lt_live.specs.declared.ends.Seat.{Seat}
@@ -183,7 +183,7 @@ module _ (script own : ScriptData) (is_script : IsScript script) (is_own : IsScr
 
   -- while a client's command is missing there, it has room for it
   has_room : (client : ℕ) → client < length script.clients → length (commands_of own client) < length (commands_of script client)
-      → length own.commands < MAX_COMMANDS
+      → length own.commands < MAX_COMMANDS_OF_SERVICE
   has_room client below less =
       let few = is_script.few_commands in
       let all = sum_less (length script.clients) client (λ k. length (commands_of own k)) (λ k. length (commands_of script k)) below within less in
@@ -200,7 +200,7 @@ module _ (script own : ScriptData) (is_script : IsScript script) (is_own : IsScr
       let first = length-append (commands_of own client ++ command ∷ []) known in
       let second = length-append (commands_of own client) (command ∷ []) in
       let room = has_room client below (omega (arith, count, first, second)) in
-      let may = and_from (nat_lt (length own.commands) MAX_COMMANDS) (may_ask own client command) (lt-ltb (length own.commands) MAX_COMMANDS room) (asks command refl) in
+      let may = and_from (nat_lt (length own.commands) MAX_COMMANDS_OF_SERVICE) (may_ask own client command) (lt-ltb (length own.commands) MAX_COMMANDS_OF_SERVICE room) (asks command refl) in
       absurd (false≢true (sym (can_not command refl) ∙ may))
 
 -- which command may be asked depends on no other command

@@ -5,7 +5,7 @@ use Rattle.std.proofs.lemmas.List.{length-map}
 use Rattle.std.proofs.lemmas.Option.{slice_get-map}
 use Rattle.lt_modes.specs.Script.{ScriptData}
 use Rattle.lt_lists.specs.Below.{gather_below}
-use Rattle.lt_spec.specs.Script.{IsScript, IsOrdered}
+use Rattle.lt_spec.specs.Script.{IsScript, IsShort, IsOrdered}
 use Rattle.lt_spec.specs.World.{Logged, world_after, is_at_rest, anyone_waits, IsRun, EndsBy, is_of_node}
 use Rattle.lt_spec.specs.declared.ending.Ending.{Ending}
 use Rattle.lt_spec.specs.declared.ending.Ending.TheVariants.{Done, Stuck, Cut}
@@ -30,16 +30,16 @@ use Rattle.lt_live_serve.specs.declared.callers.Caller.{Caller}
 use Rattle.lt_live_serve.specs.Apart.{IsRunOf}
 use Rattle.lt_live_serve.specs.Completing.{session_of, AreServing, HaveHeard, marked_by, heard_at}
 
-uncut : NeverCutAtAll → 2 ^ 30 ≤ MOVES → (end : Ending) (script : ScriptData) (run : List Logged) → IsScript script → IsRun script run
+uncut : NeverCutAtAll → 2 ^ 30 ≤ MOVES → (end : Ending) (script : ScriptData) (run : List Logged) → IsScript script → IsShort script → IsRun script run
     → EndsBy MOVES end script run → (node : ℕ) → end ≢ Cut node
-uncut never many Done script run is_script is_run e node cut = cc
-uncut never many Stuck script run is_script is_run e node cut = cc
-uncut never many (Cut full) script run is_script is_run e node cut = let none = never script run MOVES is_script is_run many in cc
+uncut never many Done script run is_script short is_run e node cut = cc
+uncut never many Stuck script run is_script short is_run e node cut = cc
+uncut never many (Cut full) script run is_script short is_run e node cut = let none = never script run MOVES is_script short is_run many in cc
 
 -- a run has fewer moves than a node may make, so none is cut
-pub not_cut : NeverCutAtAll → 2 ^ 30 ≤ MOVES → (end : Ending) (script : ScriptData) (run : List Logged) (polled : List (ℕ × Reply)) → IsScript script
+pub not_cut : NeverCutAtAll → 2 ^ 30 ≤ MOVES → (end : Ending) (script : ScriptData) (run : List Logged) (polled : List (ℕ × Reply)) → IsScript script → IsShort script
     → LiveRun end script run polled → (node : ℕ) → end ≢ Cut node
-not_cut never many end script run polled is_script live = uncut never many end script run is_script live.ran.is_run live.ran.ends
+not_cut never many end script run polled is_script short live = uncut never many end script run is_script short live.ran.is_run live.ran.ends
 
 -- how many moves a node may make
 pub moves_are_many : 2 ^ 30 ≤ 1073741824

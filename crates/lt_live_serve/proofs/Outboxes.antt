@@ -44,10 +44,10 @@ waits_looked log s t old new h none k seat e = elim (cases_eq k s.place) [
 ]
 
 -- each seat of a station that was opened is the one of a session
-pub first_waits : (script : ScriptData) (limit share : ℕ) (stations : List StationData) (sessions : List Session) → AreShares script (map runner_of stations)
-    → IsOpen script limit share stations sessions → AreStationsKept stations
+pub first_waits : (script : ScriptData) (limit capacity share : ℕ) (stations : List StationData) (sessions : List Session) → AreShares script (map runner_of stations)
+    → IsOpen script limit capacity share stations sessions → AreStationsKept stations
     → (q : ℕ) (station : StationData) → slice_get stations q ≡ Some station → NoReplyWaits station.seats
-first_waits script limit share stations sessions shares opened kept q station here k seat e =
+first_waits script limit capacity share stations sessions shares opened kept q station here k seat e =
     let node = shares.each q station.runner (slice_get-map runner_of stations q ∙ ap (option_map runner_of) here) in
     let is_station = (kept q station here).is_station in
     let of = is_station.each k seat e in

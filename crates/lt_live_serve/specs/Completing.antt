@@ -1,5 +1,5 @@
 -- What callers do.
-use Rattle.std.specs.Prelude.{◌≡◌, ◌≤◌, ◌-◌, ℕ, List, Some, length, sum_by, slice_get, ◌<◌, [], map, ◌==◌, if◌then◌else◌, ◌≢◌, Option, None, Bool, true, false, nat_lt}
+use Rattle.std.specs.Prelude.{◌≡◌, ◌≤◌, ◌-◌, ℕ, List, Some, length, sum_by, slice_get, ◌<◌, [], map, ◌≢◌, Option, None, Bool, true, false, nat_lt}
 use Rattle.lt_modes.specs.Script.{ScriptData}
 use Rattle.lt_spec.specs.NodeMove.{commands_of, home, with_commands}
 use Rattle.lt_spec.specs.Holdings.{lines_of}
@@ -86,15 +86,13 @@ HaveHeard script n runners callers = (client : ℕ) (c : Caller) → client < n 
 
 -- Callers of new sessions.
 
--- how many commands each session may submit, or one where there is none
-abbrev pub share_or_one : ScriptData → ℕ
-share_or_one script = if length script.clients == 0 then 1 else equal_share script
-
 -- a new session of a client of the script, which has no more commands than the session may submit, nor than it has places for
 pub record CanCall (script : ScriptData) (s : Session) : Type 0 where
   pub client : ℕ
   pub below : client < length script.clients
-  pub new : IsNewSession (with_commands script []) (equal_share script) client s
+  pub places : ℕ
+  pub new : IsNewSession (with_commands script []) places (equal_share script) client s
+  pub roomy : equal_share script ≤ places
   pub few : length (commands_of script client) ≤ equal_share script
 
 abbrev pub AreNew : ScriptData → List Session → Type 0

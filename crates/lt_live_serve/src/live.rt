@@ -1,6 +1,6 @@
 // The run of a script whose commands are submitted by callers.
 ghost use Rattle.std.specs.Prelude.{◌≢◌, ℕ, None, map, IfOk};
-ghost use Rattle.lt_spec.specs.Script.{IsScript};
+ghost use Rattle.lt_spec.specs.Script.{IsScript, IsShort};
 ghost use Rattle.lt_live.specs.Stations.{runner_of};
 ghost use Rattle.lt_threads.specs.Meeting.{IsCrew, AreCrewLogs, HaveAll};
 ghost use Rattle.lt_live_serve.specs.Apart.{IsRunOf};
@@ -42,6 +42,7 @@ pub(crate) fn live_run<R: Threads + Sync, G: Gate>(
     gate: &G,
 ) -> Result<Live, AllocError>
     requires kept { IsScript script.now }
+    requires short { IsShort script.now }
     requires shared { IsFirstOver script.now None }
     ensures never_cut { IfOk result (λ live. (node : ℕ) → live.ending ≢ Ending.Cut node) }
     ensures live { IfOk result (λ live. LiveRun live.ending script.now live.run.entries live.polled.items) }

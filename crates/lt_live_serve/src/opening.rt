@@ -4,14 +4,14 @@ ghost use Rattle.lt_spec.specs.Script.{IsScript};
 ghost use Rattle.lt_spec.specs.declared.limits.TheConstants.{MAX_COMMANDS};
 ghost use Rattle.lt_spec.specs.NodeMove.{commands_of};
 ghost use Rattle.lt_live_serve.specs.Serves.{among, IsFirstOver};
-ghost use Rattle.lt_live_serve.specs.Completing.{share_or_one, IsNewCaller, CanCall, AreNew, AreNewCallers, AreServing};
+ghost use Rattle.lt_live_serve.specs.Completing.{IsNewCaller, CanCall, AreNew, AreNewCallers, AreServing};
 
 use crate::callers::Caller;
 use crate::completing::are_kept;
 use crate::limits::MOVES;
-use lt_live::{Session, Station, open};
+use lt_live::{Session, Station, equal_share, open};
 use lt_modes::Command;
-use lt_script::{MAX_COMMANDS, Script};
+use lt_script::Script;
 use std::alloc::{AllocError, Global};
 
 /// The stations of all nodes of the script, and the callers of all clients, of whom none has submitted a command.
@@ -25,21 +25,22 @@ pub(crate) fn begin(
     ensures { IfOk result (λ made. AreServing script.now made.0.items made.1.items) }
 {
     let bare = script.without_commands(alloc)?;
-    let (stations, sessions) = open(alloc, &bare, MOVES, share_of(script))?;
+    let moves = u64::from(MOVES);
+    let share = equal_share(&bare);
+    let most = u64::from(share);
+    let (stations, sessions) = open(alloc, &bare, moves, places_for(share), most)?;
     are_kept(&stations);
     let callers = callers_of(alloc, script, sessions)?;
     Ok((stations, callers))
 }
 
-// How many commands each session may submit, or one where there is none.
-fn share_of(script: &Script) -> u32
-    ensures share { result ≡ share_or_one script.now }
+// How many places the ring of a session has: one for each command that it may submit, and one at least.
+fn places_for(share: u32) -> u32
+    requires { share ≤ MAX_COMMANDS }
     ensures some { (0 < result) × (result ≤ MAX_COMMANDS) }
+    ensures roomy { share ≤ result }
 {
-    if script.clients() == 0 {
-        return 1;
-    }
-    MAX_COMMANDS / u32::from(script.clients())
+    share.max(1)
 }
 
 // A caller for each session.
@@ -93,7 +94,7 @@ fn push_own(
     commands: &mut Vec<Command>,
     script: &Script,
     client: u16,
-    place: u32,
+    place: u64,
 ) -> Result<(), AllocError>
     requires place { place < length script.now.commands }
     requires before { commands.old.items ≡ among script.now client place }

@@ -3,7 +3,8 @@ ghost use Rattle.std.specs.Prelude.{◌≡◌, ◌<◌, ◌≤◌, ◌+◌, leng
 ghost use Rattle.lt_spec.specs.NodeMove.{commands_of};
 ghost use Rattle.lt_live_serve.specs.Serves.{among, is_over, IsFirstOver};
 
-use lt_script::{MAX_COMMANDS, Script};
+use lt_live::equal_share;
+use lt_script::Script;
 
 /// The least client that has more commands than its session may submit.
 #[tactic(auto, using(crate::proofs::Told::next_over, crate::proofs::Told::all_over))]
@@ -19,15 +20,14 @@ pub(crate) fn first_over(script: &Script) -> Option<u16>
 }
 
 fn is_over(script: &Script, client: u16) -> bool
-    requires { client < length script.now.clients }
     ensures { result ≡ is_over script.now client }
 {
-    count_of(script, client) > MAX_COMMANDS / u32::from(script.clients())
+    count_of(script, client) > u64::from(equal_share(script))
 }
 
 /// How many commands the client has.
 #[tactic(auto, using(crate::proofs::Completed::count_all))]
-pub(crate) fn count_of(script: &Script, client: u16) -> u32
+pub(crate) fn count_of(script: &Script, client: u16) -> u64
     ensures { result ≡ length (commands_of script.now client) }
 {
     let mut count = 0;
@@ -39,7 +39,7 @@ pub(crate) fn count_of(script: &Script, client: u16) -> u32
 
 // One where the command at this place is the client's.
 #[tactic(auto, using(crate::proofs::Completed::count_own, crate::proofs::Completed::count_other))]
-fn count_at(script: &Script, client: u16, place: u32) -> u32
+fn count_at(script: &Script, client: u16, place: u64) -> u64
     requires { place < length script.now.commands }
     ensures count { length (among script.now client (place + 1)) ≡ length (among script.now client place) + result }
     ensures one { result ≤ 1 }

@@ -2,7 +2,7 @@ ghost use Rattle.std.specs.Prelude.{◌≡◌, ◌<◌, ◌≤◌, Ok, None, len
 ghost use Rattle.lt_io.specs.Streams.{IsReadWhole, Rose};
 ghost use Rattle.lt_call.specs.Outcomes.{IsRefusal, SaysOfSource};
 ghost use Rattle.lt_call.specs.Scripts.{Denotes};
-ghost use Rattle.lt_spec.specs.Script.{IsScript};
+ghost use Rattle.lt_spec.specs.Script.{IsScript, IsShort};
 ghost use Rattle.lt_script.specs.Reading.{read_of};
 ghost use Rattle.lt_live_serve.specs.declared.limits.TheConstants.{MAX_INPUT};
 ghost use Rattle.lt_live_serve.specs.Serves.{IsFirstOver, IsUnfit, IsFaultOf};
@@ -20,6 +20,7 @@ use std::alloc::Global;
 pub(crate) fn read_shared<S: Source>(alloc: Global, source: &mut S) -> Result<Script, Status>
     ensures script { IfOk result (Denotes (S.state source.old).left) }
     ensures kept { IfOk result IsScript }
+    ensures short { IfOk result IsShort }
     ensures shared { IfOk result (λ script. IsFirstOver script None) }
     ensures whole { OnOk result (IsReadWhole MAX_INPUT (S.state source.old) (S.state source.new)) }
     ensures reading { IfErr result (λ answer. SaysOfSource MAX_INPUT (outcome_of answer) (S.state source.old) (S.state source.new)) }
@@ -37,10 +38,12 @@ pub(crate) fn read_shared<S: Source>(alloc: Global, source: &mut S) -> Result<Sc
 }
 
 // The script that the bytes denote.
+#[tactic(auto, using(lt_script::proofs::ShortScripts::read_is_short))]
 fn script_of(alloc: Global, bytes: &[u8]) -> Result<Script, Status>
     requires few { length bytes.now ≤ MAX_INPUT }
     ensures script { IfOk result (λ script. read_of bytes.now ≡ Ok script) }
     ensures kept { IfOk result IsScript }
+    ensures short { IfOk result IsShort }
     ensures some { OnOk result (0 < length bytes.now) }
     ensures refused { IfErr result (IsFaultOf bytes.now) }
 {

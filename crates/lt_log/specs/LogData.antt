@@ -15,7 +15,8 @@ pub record LogData : Type 0 where
 abbrev pub past_of : List RunData → List Logged
 past_of runs = flat_map (λ (run : RunData). run.entries) runs
 
--- so many moves are forgotten; with those that are kept they are fewer than 2^64
+-- so many moves are forgotten; fewer than 2^32 are kept, and all together they are fewer than 2^64
 pub record CountsForgotten (past kept : List Logged) (gone : ℕ) : Type 0 where
   pub gone_is : length past ≡ gone
   pub few : length past + length kept < 2 ^ 64
+  pub few_kept : length kept < 2 ^ 32

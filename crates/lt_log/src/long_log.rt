@@ -46,8 +46,8 @@ impl LongLog {
         }
     }
 
-    /// Makes a log with no moves yet, and room for so many, and for so many events. No log has room for 2^32 events:
-    /// that many are refused as memory is.
+    /// Makes a log with no moves yet, and room for so many, and for so many events. No log has room for 2^32 moves or
+    /// 2^32 events that are kept: that many are refused as memory is.
     pub fn with_room(alloc: Global, moves: usize, events: usize) -> Result<LongLog, AllocError>
         ensures entries { IfOk result (λ log. log.entries ≡ []) }
         ensures gone { IfOk result (λ log. log.gone ≡ 0) }
@@ -97,7 +97,8 @@ impl LongLog {
         }
     }
 
-    /// Makes room for one further move with so many events, if that makes fewer than 2^32 events that are kept.
+    /// Makes room for one further move with so many events, if that makes fewer than 2^32 moves that are kept, and
+    /// fewer than 2^32 events of theirs: that many are refused as memory is.
     #[inline(always)]
     pub fn reserve(&mut self, events: usize) -> Result<(), AllocError>
         ensures entries { self.new.entries ≡ self.old.entries }
@@ -115,7 +116,6 @@ impl LongLog {
     #[inline(always)]
     pub fn push(&mut self, made: Move)
         requires spare { 0 < self.old.spare }
-        requires few { length self.old.entries + 1 < self.old.gone + 2 ^ 32 }
         requires count { length self.old.entries + 1 < 2 ^ 64 }
         ensures entries { self.new.entries ≡ self.old.entries ++ just_made made ∷ [] }
         ensures gone { self.new.gone ≡ self.old.gone }
@@ -142,19 +142,20 @@ impl LongLog {
     pub fn events(&self, k: u64) -> &[Event]
         requires kept { self.now.gone ≤ k }
         requires inside { k < length self.now.entries }
-        requires few { length self.now.entries < self.now.gone + 2 ^ 32 }
         ensures { events_at self.now.entries k ≡ Some result.now }
     {
         self.kept.events((k - self.gone) as u32)
     }
 
-    /// Forgets all moves, and frees their memory.
-    pub fn forget(&mut self, alloc: Global)
+    /// Forgets all moves, and keeps their memory for further ones.
+    pub fn forget(&mut self)
         ensures entries { self.new.entries ≡ self.old.entries }
         ensures gone { self.new.gone ≡ length self.old.entries }
+        ensures spare { self.old.spare ≤ self.new.spare }
+        ensures room { self.old.room ≤ self.new.room }
     {
         self.gone = self.len();
         self.past = self.past.and(&self.kept);
-        self.kept = Run::new(alloc);
+        self.kept.clear();
     }
 }

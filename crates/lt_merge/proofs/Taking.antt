@@ -1,5 +1,5 @@
 -- A move of a log is copied.
-use Rattle.std.proofs.Common.{◌≡◌, ℕ, zero, suc, ◌<◌, List, [], ◌∷◌, length, take, drop, Some, ap, ◌∙◌, ◌+◌, ◌≤◌, inl, inr, ◌++◌, false, None, refl, sym, subst, arith, append_assoc, ◌⊎◌, ◌==◌, if◌then◌else◌, IsTrue, filter, Contains, slice_index_or, slice_get, eq-eqb, append-nil, length-append}
+use Rattle.std.proofs.Common.{◌≡◌, ℕ, zero, suc, ◌<◌, List, [], ◌∷◌, length, take, drop, Some, ap, ◌∙◌, ◌+◌, inl, inr, ◌++◌, false, None, refl, sym, subst, arith, append_assoc, ◌⊎◌, ◌==◌, if◌then◌else◌, IsTrue, filter, Contains, slice_index_or, slice_get, eq-eqb, append-nil, length-append}
 use Rattle.std.specs.List.{AllByRecursion}
 use Rattle.std.proofs.lemmas.List.Elements.{All-contains, All-from_recursion, recursion_from_All}
 use Rattle.lt_modes.specs.declared.moves.Move.{Move}
@@ -24,10 +24,6 @@ copied (entry ∷ rest) zero made events e f =
     ap (λ (m : Move). record { made = m; events = entry.events } ∷ []) (some_equal entry.made made e)
     ∙ ap (λ (es : List Event). record { made = made; events = es } ∷ []) (some_equal entry.events events f)
 copied (entry ∷ rest) (suc k) made events e f = copied rest k made events e f
-
--- one entry is copied where one is left
-pub length_copied : (entries : List Logged) (k : ℕ) → k < length entries → length (take 1 (drop k entries)) ≡ 1
-length_copied entries k h = ap (λ (l : List Logged). length (take 1 l)) (stands entries k h).here
 
 -- The entry of the first head is taken, and the log's next one stands for the log.
 
@@ -164,13 +160,6 @@ log_inside [] zero place h = absurd (omega (arith, h))
 log_inside [] (suc k) place h = absurd (omega (arith, h))
 log_inside (log ∷ logs) zero place h = omega arith
 log_inside (log ∷ logs) (suc k) place h = omega (arith, log_inside logs k place h)
-
--- no log is longer than all together
-pub all_longer : (logs : List RunData) (k : ℕ) → length (entries_in (slice_get logs k)) ≤ length (all_entries logs)
-all_longer [] zero = omega arith
-all_longer [] (suc k) = omega arith
-all_longer (log ∷ logs) zero = omega (arith, length-append log.entries (all_entries logs))
-all_longer (log ∷ logs) (suc k) = omega (arith, all_longer logs k, length-append log.entries (all_entries logs))
 
 pub first_and_others : (heads : List Head) (head : Head) → 0 < length heads → head ≡ slice_index_or heads 0 head → heads ≡ head ∷ drop 1 heads
 first_and_others [] head some e = absurd (omega (arith, some))

@@ -1,5 +1,5 @@
-ghost use Rattle.std.specs.Prelude.{◌≡◌, ◌∷◌, ◌+◌, ◌<◌, ◌^◌, length, drop, IfOk};
-ghost use Rattle.lt_merge.specs.Merging.{all_entries, AreLogs};
+ghost use Rattle.std.specs.Prelude.{◌≡◌, ◌∷◌, ◌<◌, length, drop, IfOk};
+ghost use Rattle.lt_merge.specs.Merging.{AreLogs};
 ghost use Rattle.lt_merge.specs.Heads.{AreHeads, Advances, Begins, IsHeadAt, settled_heads};
 
 use crate::run::Log;
@@ -38,9 +38,10 @@ pub(crate) fn heads_of(alloc: Global, logs: &[Log]) -> Result<Vec<Head>, AllocEr
 pub(crate) fn advance(logs: &[Log], head: Head, heads: &mut Vec<Head>)
     requires heads { AreHeads logs.now heads.old.items }
     requires first { heads.old.items ≡ head ∷ drop 1 heads.old.items }
-    requires few { length (all_entries logs.now) < 2 ^ 32 }
     ensures { Advances logs.now head heads.old.items heads.new.items }
 {
+    // The head stands inside its log, whose length has 32 bits.
+    let _length = logs[head.log].len();
     match head_at(logs, head.log, head.place + 1) {
         Some(next) => {
             heads[0] = next;

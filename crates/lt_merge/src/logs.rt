@@ -1,15 +1,15 @@
-ghost use Rattle.std.specs.Prelude.{◌≡◌, ◌+◌, ◌<◌, ◌^◌, [], ◌++◌, length, take, slice_get, IfOk, OnOk};
-ghost use Rattle.lt_merge.specs.Merging.{all_entries, AreLogs, Merges};
+ghost use Rattle.std.specs.Prelude.{◌≡◌, ◌<◌, [], ◌++◌, length, take, slice_get, IfOk, OnOk};
+ghost use Rattle.lt_merge.specs.Merging.{AreLogs, Merges};
 ghost use Rattle.lt_merge.specs.Heads.{Begins, entries_in, rest_of};
 
 use crate::heads::{Head, advance, heads_of};
 use crate::run::{Log, Run};
 use std::alloc::{AllocError, Global};
 
-/// The moves of all logs, in order of their stamps. Without memory the logs are dropped.
+/// The moves of all logs, in order of their stamps. Without memory the logs are dropped; 2^32 moves or more are refused
+/// as memory is.
 pub fn merge(alloc: Global, logs: Vec<Log>) -> Result<Run, AllocError>
     requires logs { AreLogs logs.items }
-    requires few { length (all_entries logs.items) < 2 ^ 32 }
     ensures { IfOk result (λ run. Merges logs.items run.entries) }
 {
     let run = Run::for_all(alloc, &logs)?;
@@ -21,7 +21,6 @@ pub fn merge(alloc: Global, logs: Vec<Log>) -> Result<Run, AllocError>
 fn merge_heads(logs: &[Log], mut heads: Vec<Head>, mut run: Run) -> Result<Run, AllocError>
     requires heads { Begins logs.now 0 heads.items }
     requires empty { run.entries ≡ [] }
-    requires few { length (all_entries logs.now) < 2 ^ 32 }
     ensures { IfOk result (λ run. Merges logs.now run.entries) }
 {
     while !heads.is_empty() {
@@ -36,7 +35,6 @@ fn merge_heads(logs: &[Log], mut heads: Vec<Head>, mut run: Run) -> Result<Run, 
 fn take_move(logs: &[Log], head: Head, run: &mut Run) -> Result<(), AllocError>
     requires log { head.log < length logs.now }
     requires place { head.place < length (entries_in (slice_get logs.now head.log)) }
-    requires few { length run.old.entries + 1 < 2 ^ 32 }
     ensures { OnOk result (run.new.entries ≡ run.old.entries ++ take 1 (rest_of logs.now head)) }
 {
     run.copy_move(&logs[head.log], head.place)

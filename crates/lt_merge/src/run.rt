@@ -73,7 +73,7 @@ impl Model for Run {
 
     ghost view = { λ r. record {
       entries = entries_of r.moves.items r.events.items;
-      spare = vec_capacity r.moves - vec_len r.moves;
+      spare = min (vec_capacity r.moves) (2 ^ 32 - 1) - vec_len r.moves;
       room = min (vec_capacity r.events) (2 ^ 32 - 1) - vec_len r.events;
     } };
 
@@ -91,21 +91,22 @@ impl Run {
         }
     }
 
-    /// Makes a run with no moves yet, and room for so many, and for so many events. No run has room for 2^32 events:
-    /// that many are refused as memory is.
+    /// Makes a run with no moves yet, and room for so many, and for so many events. No run has room for 2^32 moves or
+    /// 2^32 events: that many are refused as memory is.
     pub fn with_room(alloc: Global, moves: usize, events: usize) -> Result<Run, AllocError>
         ensures entries { IfOk result (λ run. run.entries ≡ []) }
         ensures spare { IfOk result (λ run. moves ≤ run.spare) }
         ensures room { IfOk result (λ run. events ≤ run.room) }
     {
-        check_events(0, events)?;
+        check_count(0, moves)?;
+        check_count(0, events)?;
         Ok(Run {
             moves: Vec::with_capacity(alloc, moves)?,
             events: Vec::with_capacity(alloc, events)?,
         })
     }
 
-    // Makes a run with no moves yet, and room for the moves of all logs.
+    // Makes a run with no moves yet, and room for the moves of all logs, if they are fewer than 2^32.
     pub(crate) fn for_all(alloc: Global, logs: &[Log]) -> Result<Run, AllocError>
         ensures { IfOk result (λ run. run.entries ≡ []) }
     {
@@ -118,7 +119,8 @@ impl Run {
         Run::with_room(alloc, moves, events)
     }
 
-    /// Makes room for one further move with so many events, if that makes fewer than 2^32 events.
+    /// Makes room for one further move with so many events, if that makes fewer than 2^32 moves, and fewer than 2^32
+    /// events: that many are refused as memory is.
     #[inline(always)]
     pub fn reserve(&mut self, events: usize) -> Result<(), AllocError>
         ensures entries { self.new.entries ≡ self.old.entries }
@@ -126,9 +128,11 @@ impl Run {
         ensures room { OnOk result (events ≤ self.new.room) }
         ensures spare_kept { self.old.spare ≤ self.new.spare }
         ensures room_kept { self.old.room ≤ self.new.room }
+        ensures few { OnOk result (length self.new.entries + 1 < 2 ^ 32) }
         ensures full { 1 ≤ self.old.spare → events ≤ self.old.room → IsOk result }
     {
-        check_events(self.events.len(), events)?;
+        check_count(self.moves.len(), 1)?;
+        check_count(self.events.len(), events)?;
         self.moves.reserve(1)?;
         self.events.reserve(events)?;
         Ok(())
@@ -137,10 +141,10 @@ impl Run {
     /// Adds a move that has no events yet.
     pub fn push(&mut self, made: Move)
         requires spare { 0 < self.old.spare }
-        requires few { length self.old.entries + 1 < 2 ^ 32 }
         ensures entries { self.new.entries ≡ self.old.entries ++ just_made made ∷ [] }
         ensures spare { self.old.spare ≤ self.new.spare + 1 }
         ensures room { self.old.room ≤ self.new.room }
+        ensures few { length self.new.entries < 2 ^ 32 }
     {
         let start = self.events.len() as u32;
         self.moves.push_reserved(Mark::new(made, start));
@@ -157,20 +161,30 @@ impl Run {
         self.events.push_reserved(event);
     }
 
-    // Adds the move at place `k` of another run, with its events.
+    // Adds the move at place `k` of another run, with its events, if that makes fewer than 2^32 moves and events.
     pub(crate) fn copy_move(&mut self, other: &Run, k: u32) -> Result<(), AllocError>
         requires inside { k < length other.now.entries }
-        requires few { length self.old.entries + 1 < 2 ^ 32 }
         ensures { OnOk result (self.new.entries ≡ self.old.entries ++ take 1 (drop k other.now.entries)) }
     {
         let events = other.events(k);
         let start = self.events.len();
-        check_events(start, events.len())?;
+        check_count(self.moves.len(), 1)?;
+        check_count(start, events.len())?;
         let mark = Mark::new(other.made(k), start as u32);
         self.moves.reserve(1)?;
         self.events.extend_from_slice(events)?;
         self.moves.push_reserved(mark);
         Ok(())
+    }
+
+    /// Drops all moves, and keeps their memory for further ones.
+    pub fn clear(&mut self)
+        ensures entries { self.new.entries ≡ [] }
+        ensures spare { self.old.spare ≤ self.new.spare }
+        ensures room { self.old.room ≤ self.new.room }
+    {
+        self.moves.clear();
+        self.events.clear();
     }
 
     /// The number of moves.
@@ -197,9 +211,9 @@ impl Run {
     }
 }
 
-// Refuses so many further events after these, as memory is refused, where that makes 2^32 or more: a mark keeps the
-// place of an event in 32 bits.
-fn check_events(count: usize, more: usize) -> Result<(), AllocError>
+// Refuses so many further ones after these, as memory is refused, where that makes 2^32 or more: moves are counted in
+// 32 bits, and a mark keeps the place of an event in 32 bits.
+fn check_count(count: usize, more: usize) -> Result<(), AllocError>
     requires { count < 2 ^ 32 }
     ensures few { OnOk result (count + more < 2 ^ 32) }
     ensures full { count + more < 2 ^ 32 → IsOk result }

@@ -98,7 +98,7 @@ head_fits numbers clock letter =
     nat_lt letter.set numbers.sets
     && (nat_lt letter.link.node numbers.nodes
     && (nat_le letter.link.epoch letter.stamp.clock
-    && (nat_lt (letter.stamp.clock + 1) (2 ^ 32) && nat_lt (clock + 1) (2 ^ 32))))
+    && (nat_lt (letter.stamp.clock + 1) (2 ^ 62) && nat_lt (clock + 1) (2 ^ 62))))
 
 -- the letter fits node q with this clock, which keeps s for the letter's set
 abbrev pub fits : Numbers → ℕ → ℕ → SetState → Letter → Bool

@@ -41,7 +41,7 @@ pub enum Event {
         client: u16,
         other: u16,
         set: u8,
-        count: u32,
+        count: u64,
     },
     /// `other` waits, so `client` dropped nothing.
     Busy {

@@ -6,7 +6,7 @@ use crate::stamp::Stamp;
 pub struct Row {
     pub client: u16,
     pub mode: Mode,
-    pub count: u32,
+    pub count: u64,
 }
 
 /// The node to which the token went with this epoch.

@@ -81,7 +81,7 @@ fn push_held_line(
     let name = input.transaction_name(usize::from(transaction));
     push_lock_words(out, name, input.set_name(set), mode)?;
     push_text(out, " ")?;
-    push_number(out, count)?;
+    push_number(out, u64::from(count))?;
     push_text(out, "\n")
 }
 
@@ -116,6 +116,6 @@ fn push_count(out: &mut Vec<u8>, input: &Input) -> Result<(), AllocError>
     ensures { OnOk result (out.new.items ≡ out.old.items ++ last_line input.now) }
 {
     push_text(out, "end ")?;
-    push_number(out, input.lines())?;
+    push_number(out, u64::from(input.lines()))?;
     push_text(out, "\n")
 }

@@ -13,7 +13,7 @@ use Rattle.lt_lists.specs.Below.{put}
 use Rattle.lt_lists.proofs.Members.{filter_map-which, some_equal}
 use Rattle.lt_spec.specs.Script.{IsScript, IsRequest, HasTargets, HasModesOf}
 use Rattle.lt_spec.specs.NodeMove.{commands_of, command_if, home, NodeState, next_command, has_command, one_made, at_clock}
-use Rattle.lt_spec.specs.declared.limits.TheConstants.{MAX_COMMANDS}
+use Rattle.lt_spec.specs.declared.limits.TheConstants.{MAX_COMMANDS_OF_SERVICE}
 use Rattle.lt_script.proofs.ScriptLemmas.{command_added}
 use Rattle.lt_node.specs.NodeData.{NodeData, IsNode, state_of, core_at}
 use Rattle.lt_node.specs.Clients.{Progress, KnowsClients, progress_of, no_progress, progress_made, next_of, one_command_more, no_command, with_command, with_request}
@@ -48,7 +48,7 @@ pub record HasNext (n : NodeData) (client : ℕ) (progress : Progress) : Type 0 
   pub commands : progress.commands ≡ commands_of n.script client
   pub made : progress.made ≡ (state_of n).made client
   pub left : progress.made < length progress.commands
-  pub few : progress.made ≤ 4096
+  pub few : progress.made ≤ MAX_COMMANDS_OF_SERVICE
 
 pub has_next : (n : NodeData) (homes : List ℕ) (clients : List Progress) (client : ℕ) (progress : Progress) → IsNode n → n.made ≡ map progress_made clients → KnowsClients n.script n.me homes clients
     → client < length n.script.clients → home n.script client ≡ n.me → has_command n.script (state_of n) client ≡ true → progress ≡ progress_of clients client → HasNext n client progress
@@ -197,7 +197,7 @@ pub record MayAppend (n : NodeData) (client : ℕ) (command : Command) : Type 0 
   pub here : home n.script client ≡ n.me
   pub targets : HasTargets n.script.sets n.script.clients client command
   pub modes : HasModesOf n.script.version command
-  pub room : length n.script.commands < MAX_COMMANDS
+  pub room : length n.script.commands < MAX_COMMANDS_OF_SERVICE
 
 appended_here : (m : NodeData) (homes : List ℕ) (clients : List Progress) (client : ℕ) (progress : Progress) (command : Command)
     → IsNode m → m.made ≡ map progress_made clients → KnowsClients m.script m.me homes clients → progress ≡ slice_index_or clients client progress → MayAppend m client command

@@ -12,6 +12,7 @@ use Rattle.lt_modes.specs.declared.parts.Row.{Row}
 use Rattle.lt_modes.specs.Modes.{locks_of, is_of}
 use Rattle.lt_lists.specs.Below.{put}
 use Rattle.lt_spec.specs.NodeMove.{family, related, NodeState, each_touched, touched, locks_in_sets}
+use Rattle.lt_held.specs.HeldData.{most_locks}
 use Rattle.lt_desk.specs.DeskData.{OutData, FitsOut}
 use Rattle.lt_core.specs.CoreData.{CoreData, Does}
 use Rattle.lt_core.proofs.BoundLemmas.{commands_fit, ends_fit}
@@ -177,14 +178,14 @@ sum_filtered test (row ∷ rest) = by_test (test row) (sum_filtered test rest)
     by_test false h = omega (arith, h, sum_by-cons (λ (row : Row). row.count) row rest)
 
 -- a set in hand has few of them
-pub few_of : (cores : List CoreData) (j k client : ℕ) (core : CoreData) → All HasFewLocks cores → k < length cores → j ≡ k → core ≡ slice_index_or cores j core → locks_of core.state.held client ≤ 65536
+pub few_of : (cores : List CoreData) (j k client : ℕ) (core : CoreData) → All HasFewLocks cores → k < length cores → j ≡ k → core ≡ slice_index_or cores j core → locks_of core.state.held client ≤ most_locks
 few_of cores j k client core few inside place at =
     let most : HasFewLocks core = subst HasFewLocks (sym (at ∙ ap (λ (i : ℕ). slice_index_or cores i core) place)) (few k core inside) in
     omega (arith, most, sum_filtered (is_of client) core.state.held)
 
 -- the locks counted so far, with those that are left, are all
 pub record IsCounted (script : ScriptData) (set client : ℕ) (cores : List CoreData) (k locks : ℕ) : Type 0 where
-  pub few : locks ≤ k * 65536
+  pub few : locks ≤ k * most_locks
   pub left : (n : NodeState) (q : ℕ) → locks + locks_in_sets (with_sets script q cores n) client (related_from script set k) ≡ locks_in_sets (with_sets script q cores n) client (related script set)
 
 pub counted_in : (script : ScriptData) (set client : ℕ) (cores : List CoreData) (k j locks : ℕ) (core : CoreData) → IsCounted script set client cores k locks → All HasFewLocks cores

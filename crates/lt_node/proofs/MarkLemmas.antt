@@ -19,6 +19,7 @@ use Rattle.lt_modes.specs.Modes.{locks_in}
 use Rattle.lt_lists.specs.Below.{any_below}
 use Rattle.lt_lists.proofs.Searches.{any_below_none}
 use Rattle.lt_spec.specs.NodeMove.{NodeState, desk_within, set_within, node_within}
+use Rattle.lt_spec.specs.declared.limits.TheConstants.{MAX_COMMANDS_OF_SERVICE}
 use Rattle.lt_core.proofs.BoundLemmas.{find_some}
 use Rattle.lt_core.specs.CoreData.{CoreData}
 use Rattle.lt_node.specs.NodeData.{ask_with_set, ask_below, first_core, sets_in, Marked, Remarked, TellsWaiting, kept_of, KeptData, NodeData, IsNode, state_of, core_at, KnowsNothing, KnowsWithin}
@@ -223,9 +224,9 @@ desk_later a b (Some desk) later h =
 -- a later clock allows as much
 within_later : (a b : ℕ) (s : SetState) → a ≤ b → set_within a s ≡ true → set_within b s ≡ true
 within_later a b s later h =
-    let first = and_parts (nat_le (locks_in s.held) 4096) _ h in
+    let first = and_parts (nat_le (locks_in s.held) MAX_COMMANDS_OF_SERVICE) _ h in
     let second = and_parts (nat_le (length (asks_here s)) 256) (desk_within a s.desk) first.1 in
-    and_from (nat_le (locks_in s.held) 4096) _ first.0
+    and_from (nat_le (locks_in s.held) MAX_COMMANDS_OF_SERVICE) _ first.0
     (and_from (nat_le (length (asks_here s)) 256) (desk_within b s.desk) second.0 (desk_later a b s.desk later second.1))
 
 pub known_later : (a b : ℕ) (cores : List CoreData) (sent : List (Option ℕ)) → a ≤ b → KnowsWithin a cores sent → KnowsWithin b cores sent

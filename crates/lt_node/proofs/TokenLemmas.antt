@@ -118,7 +118,7 @@ room_for_body numbers q before sent now core (bodies.Freeze news) few h within l
 -- the letter's set is of the script, its clock is small, and what it says fits
 pub record IsFitting (numbers : Numbers) (q clock : ℕ) (s : SetState) (letter : Letter) : Type 0 where
   pub set : letter.set < numbers.sets
-  pub clock_small : letter.stamp.clock + 1 < 2 ^ 32
+  pub clock_small : letter.stamp.clock + 1 < 2 ^ 62
   pub body : body_fits numbers q s letter.stamp.clock (body_seen letter.body) ≡ true
 
 pub fitting : (numbers : Numbers) (q clock : ℕ) (s : SetState) (letter : Letter) → fits numbers q clock s (letter_seen letter) ≡ true → IsFitting numbers q clock s letter
@@ -127,8 +127,8 @@ fitting numbers q clock s letter h =
     let set = and_parts (nat_lt letter.set numbers.sets) _ head.0 in
     let node = and_parts (nat_lt letter.link.node numbers.nodes) _ set.1 in
     let epoch = and_parts (nat_le letter.link.epoch letter.stamp.clock) _ node.1 in
-    let small = and_parts (nat_lt (letter.stamp.clock + 1) (2 ^ 32)) _ epoch.1 in
-    record { set = ltb-true letter.set numbers.sets set.0; clock_small = ltb-true (letter.stamp.clock + 1) (2 ^ 32) small.0; body = head.1 }
+    let small = and_parts (nat_lt (letter.stamp.clock + 1) (2 ^ 62)) _ epoch.1 in
+    record { set = ltb-true letter.set numbers.sets set.0; clock_small = ltb-true (letter.stamp.clock + 1) (2 ^ 62) small.0; body = head.1 }
 
 -- What a node's take asks of the set.
 

@@ -3,7 +3,7 @@ use Rattle.std.specs.Prelude.{ℕ, List, ◌≡◌, ◌≤◌, ◌<◌, ◌+◌,
 use Rattle.lt_modes.specs.declared.command.Command.{Command}
 use Rattle.lt_modes.specs.Script.{ScriptData}
 use Rattle.lt_node.specs.declared.client.KeptCommands.{KeptCommands}
-use Rattle.lt_spec.specs.declared.limits.TheConstants.{MAX_COMMANDS}
+use Rattle.lt_spec.specs.declared.limits.TheConstants.{MAX_COMMANDS_OF_SERVICE}
 
 -- the script without its first commands, so many
 abbrev pub without_first : ℕ → ScriptData → ScriptData
@@ -25,7 +25,7 @@ with_past past kept = record kept { commands = past_commands past ++ kept.comman
 -- so many are forgotten, and a script may have as many as there are in all
 pub record IsLongScript (past : List ScriptData) (kept : ScriptData) (gone : ℕ) : Type 0 where
   pub gone_is : length (past_commands past) ≡ gone
-  pub few : length (past_commands past ++ kept.commands) ≤ MAX_COMMANDS
+  pub few : length (past_commands past ++ kept.commands) ≤ MAX_COMMANDS_OF_SERVICE
 
 -- The same of a client.
 
@@ -37,4 +37,4 @@ past_made past = flat_map (λ (kept : KeptCommands). take kept.made kept.command
 pub record HasMade (past : List KeptCommands) (gone : ℕ) (kept : KeptCommands) : Type 0 where
   pub gone_is : length (past_made past) ≡ gone
   pub within : kept.made ≤ length kept.commands.items
-  pub few : gone + kept.made < 2 ^ 32
+  pub few : gone + kept.made < 2 ^ 64

@@ -24,7 +24,7 @@ impl Node {
         requires within { IsTrue (node_within self.old.script (state_of self.old)) }
         requires asks { IsTrue (leaves_asks self.old.script (state_of self.old)) }
         requires room { RoomToAct self.old out.old }
-        requires clock { self.old.clock + 1 < 2 ^ 32 }
+        requires clock { self.old.clock + 1 < 2 ^ 62 }
         ensures answer { Some result ≡ answer_of_act self.old.script self.old.me client (state_of self.old) }
         ensures does { NodeDoes (node_act self.old.script self.old.me client (state_of self.old)) self.old out.old self.new out.new }
     {
@@ -40,7 +40,7 @@ impl Node {
         requires within { IsTrue (node_within self.old.script (state_of self.old)) }
         requires asks { IsTrue (leaves_asks self.old.script (state_of self.old)) }
         requires room { RoomForNext client self.old out.old }
-        requires clock { self.old.clock + 1 < 2 ^ 32 }
+        requires clock { self.old.clock + 1 < 2 ^ 62 }
         ensures answer { Some result ≡ answer_of_act self.old.script self.old.me client (state_of self.old) }
         ensures does { NodeDoes (node_act self.old.script self.old.me client (state_of self.old)) self.old out.old self.new out.new }
     {
@@ -54,7 +54,7 @@ impl Node {
         requires client { client < length self.old.script.clients }
         requires home { home self.old.script client ≡ self.old.me }
         requires left { IsTrue (has_command self.old.script (state_of self.old) client) }
-        requires clock { self.old.clock + 1 < 2 ^ 32 }
+        requires clock { self.old.clock + 1 < 2 ^ 62 }
         ensures command { next_command self.old.script (state_of self.old) client ≡ Some result }
         ensures targets { HasTargets self.old.script.sets self.old.script.clients client result }
         ensures kept { IsNode self.old }

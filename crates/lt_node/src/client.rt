@@ -13,7 +13,7 @@ use std::marker::Model;
 #[derive(Drop)]
 pub(crate) struct KeptCommands {
     pub(crate) commands: Vec<Command>,
-    made: u32,
+    made: u64,
 }
 
 /// A client's commands, and how many of them it has made. Those can be forgotten: then only proofs know them.
@@ -22,7 +22,7 @@ pub(crate) struct Client {
     // What was kept each time when the commands that were made were forgotten.
     past: History<KeptCommands>,
     // How many commands were forgotten.
-    gone: u32,
+    gone: u64,
     pub(crate) kept: KeptCommands,
 }
 
@@ -65,7 +65,7 @@ impl Client {
     }
 
     /// How many commands the client has made.
-    pub(crate) fn made(&self) -> u32
+    pub(crate) fn made(&self) -> u64
         ensures { result ≡ self.now.made }
     {
         self.gone + self.kept.made
@@ -89,7 +89,7 @@ impl Client {
     /// Hands out the next command.
     pub(crate) fn next(&mut self) -> Command
         requires left { self.old.made < length self.old.commands }
-        requires few { self.old.made + 1 < 2 ^ 32 }
+        requires few { self.old.made + 1 < 2 ^ 64 }
         ensures command { result ≡ next_of self.old }
         ensures made { self.new ≡ one_command_more self.old }
     {
@@ -134,7 +134,7 @@ fn idle_clients(alloc: Global, script: &Script, node: u8) -> Result<Vec<Client>,
     ensures idle { IfOk result (λ clients. (c : ℕ) → progress_of clients.items c ≡ no_progress) }
 {
     let count = script.clients();
-    let part = script.commands() / u32::from(count.max(1));
+    let part = script.commands() / u64::from(count.max(1));
     let mut clients = Vec::with_capacity(alloc, usize::from(count))?;
     for client in 0..count {
         let own = script.home(client) == node;

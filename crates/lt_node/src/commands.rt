@@ -70,7 +70,7 @@ fn empty_lists(alloc: Global, script: &Script) -> Result<Vec<Client>, AllocError
     ensures idle { IfOk result (λ lists. (c : ℕ) → progress_of lists.items c ≡ no_progress) }
 {
     let count = script.clients();
-    let part = script.commands() / u32::from(count.max(1));
+    let part = script.commands() / u64::from(count.max(1));
     let mut lists = Vec::with_capacity(alloc, usize::from(count))?;
     for _client in 0..count {
         lists.push(Client::with_room(alloc, part as usize)?)?;

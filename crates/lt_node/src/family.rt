@@ -79,10 +79,11 @@ fn end(core: &mut Core, dropped: Option<u16>, stamp: Stamp, out: &mut Out)
 }
 
 /// How many locks a client has in the family of a set.
-pub(crate) fn locks(cores: &[Core], script: &Script, set: u8, client: u16) -> u32
+pub(crate) fn locks(cores: &[Core], script: &Script, set: u8, client: u16) -> u64
     requires set { set < length script.now.sets }
     requires count { length cores.now ≡ length script.now.sets }
     requires few { All HasFewLocks cores.now }
+    requires few_sets { length script.now.sets ≤ 8 }
     ensures { (n : NodeState) (q : ℕ) → result ≡ locks_in_sets (with_sets script.now q cores.now n) client (related script.now set) }
 {
     let family = script.family(set);

@@ -4,7 +4,7 @@ ghost use Rattle.lt_node.specs.NodeData.{core_at, state_of};
 
 use crate::node::Node;
 use lt_core::Core;
-use lt_script::{MAX_CLIENTS, MAX_CLIENTS_OF_NODE, MAX_COMMANDS};
+use lt_spec::{MAX_CLIENTS, MAX_CLIENTS_OF_NODE, MAX_COMMANDS_OF_SERVICE};
 
 impl Node {
     /// Whether what the node keeps leaves room for a move.
@@ -46,7 +46,7 @@ impl Node {
 fn is_within(core: &Core, clock: u64) -> bool
     ensures { result ≡ set_within clock core.now.state }
 {
-    core.holds_at_most(MAX_COMMANDS)
+    core.holds_at_most(MAX_COMMANDS_OF_SERVICE)
         && (core.keeps_at_most(u32::from(MAX_CLIENTS)) && core.is_desk_within(clock))
 }
 

@@ -1,6 +1,6 @@
 ghost use Rattle.std.specs.Prelude.{◌≡◌, ◌<◌, length, OnOk, OnErr};
 ghost use Rattle.lt_spec.specs.Script.{IsScript, IsRequest, HasModesOf};
-ghost use Rattle.lt_spec.specs.declared.limits.TheConstants.{MAX_COMMANDS};
+ghost use Rattle.lt_spec.specs.declared.limits.TheConstants.{MAX_COMMANDS_OF_SERVICE};
 ghost use Rattle.lt_node.specs.Clients.{with_request};
 ghost use Rattle.lt_node.specs.Forgetting.{without_first};
 
@@ -16,7 +16,7 @@ pub(crate) struct LongScript {
     // What was kept each time when its commands were forgotten.
     past: History<Script>,
     // How many commands were forgotten.
-    gone: u32,
+    gone: u64,
     kept: Script,
 }
 
@@ -51,14 +51,14 @@ impl LongScript {
     }
 
     /// How many commands there are, forgotten or not.
-    pub(crate) fn commands(&self) -> u32
+    pub(crate) fn commands(&self) -> u64
         ensures { result ≡ length self.now.whole.commands }
     {
         self.gone + self.kept.commands()
     }
 
     /// How many commands were forgotten.
-    pub(crate) fn forgotten(&self) -> u32
+    pub(crate) fn forgotten(&self) -> u64
         ensures { result ≡ self.now.gone }
     {
         self.gone
@@ -66,7 +66,7 @@ impl LongScript {
 
     /// Adds a command behind the others.
     pub(crate) fn add_command(&mut self, client: u16, command: Command) -> Result<(), AllocError>
-        requires room { length self.old.whole.commands < MAX_COMMANDS }
+        requires room { length self.old.whole.commands < MAX_COMMANDS_OF_SERVICE }
         requires request { IsRequest self.old.whole.sets self.old.whole.clients (client, command) }
         requires modes { HasModesOf self.old.whole.version command }
         ensures added { OnOk result

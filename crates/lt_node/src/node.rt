@@ -157,14 +157,14 @@ impl Node {
     }
 
     /// How many commands the script has, forgotten or not.
-    pub fn commands(&self) -> u32
+    pub fn commands(&self) -> u64
         ensures { result ≡ length self.now.script.commands }
     {
         self.script.commands()
     }
 
     /// How many commands of the script were forgotten.
-    pub fn forgotten(&self) -> u32
+    pub fn forgotten(&self) -> u64
         ensures { result ≡ self.now.gone }
     {
         self.script.forgotten()
@@ -177,7 +177,7 @@ impl Node {
     }
 
     /// How many commands the client has made here.
-    pub fn made(&self, client: u16) -> u32
+    pub fn made(&self, client: u16) -> u64
         requires { client < length self.now.script.clients }
         ensures { result ≡ (state_of self.now).made client }
     {

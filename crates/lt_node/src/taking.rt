@@ -16,7 +16,7 @@ impl Node {
         requires fits { IsTrue (fits (numbers_of self.old.script) self.old.me self.old.clock ((state_of self.old).set letter.set) (letter_seen letter)) }
         requires within { IsTrue (node_within self.old.script (state_of self.old)) }
         requires room { RoomToTake self.old letter out.old }
-        requires clock { self.old.clock + 1 < 2 ^ 32 }
+        requires clock { self.old.clock + 1 < 2 ^ 62 }
         ensures does { NodeDoes (node_take self.old.me (letter_seen letter) (state_of self.old)) self.old out.old self.new out.new }
     {
         let stamp = self.stamp_of_take(&letter);

@@ -11,7 +11,7 @@ use lt_modes::{Ask, Mode};
 // What the clients hold and wait for here, and behind whose asks.
 impl Node {
     /// How many locks of the mode the client holds in the set.
-    pub fn count(&self, set: u8, client: u16, mode: Mode) -> u32
+    pub fn count(&self, set: u8, client: u16, mode: Mode) -> u64
         requires { set < length self.now.script.sets }
         ensures { result ≡ count_of ((state_of self.now).set set).held client mode }
     {

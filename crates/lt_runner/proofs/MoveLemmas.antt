@@ -1,10 +1,9 @@
 -- A move of the node, its log entry and its letters are a move of the runner.
-use Rattle.std.proofs.Common.{◌≡◌, ◌≢◌, ℕ, ◌+◌, ◌<◌, ◌^◌, List, [], ◌∷◌, ◌++◌, Option, Some, None, false, length, refl, sym, ap, subst, ◌∙◌, arith, append_assoc, ◌&&◌, ◌==◌, nat_lt, nat_le, not, IsTrue, All, Bool, true, append-nil, ltb-true, lt-ltb, ne_eqb, eqb-true}
+use Rattle.std.proofs.Common.{◌≡◌, ◌≢◌, ℕ, ◌+◌, ◌<◌, List, [], ◌∷◌, ◌++◌, Option, Some, None, false, length, refl, sym, ap, subst, ◌∙◌, arith, append_assoc, ◌&&◌, ◌==◌, nat_lt, not, IsTrue, All, Bool, true, append-nil, ltb-true, lt-ltb, ne_eqb, eqb-true}
 use Rattle.std.proofs.lemmas.Bool.{and_parts}
 use Rattle.std.proofs.lemmas.List.Elements.{All-head, All-rest}
 use Rattle.lt_modes.specs.declared.moves.Step.TheVariants.{Act, Take}
-use Rattle.lt_modes.specs.Fits.{Numbers, fits, head_fits, body_fits}
-use Rattle.lt_modes.specs.State.{Letter, SetState, Post}
+use Rattle.lt_modes.specs.State.{Letter, Post}
 use Rattle.lt_spec.specs.NodeMove.{home, NodeMade, node_act, node_take, node_waits, has_command, act_stamp, take_stamp}
 use Rattle.lt_spec.specs.FixedOrder.{Cause, OfClient, OfLetter, can_act, can_make_move, made_of, letters_for, logged_of, used_by}
 use Rattle.lt_law_own_lines.specs.WaitingLaws.{IsForPeer, ReachesPeers}
@@ -76,15 +75,6 @@ posts_for_peers a node out made none reaches d =
     subst (λ (posts : List Post). All (IsForPeer node.script.nodes node.me) posts) (sym (posts_made made a.node node a.out out none d))
     (subst (λ script. All (IsForPeer script.nodes node.me) made.posts) (sym d.script)
     (subst (λ (me : ℕ). All (IsForPeer a.node.script.nodes me) made.posts) (sym d.me) reaches.posts))
-
--- the numbers of a letter that fits are small
-pub letter_early : (numbers : Numbers) (q clock : ℕ) (s : SetState) (letter : Letter) → IsTrue (fits numbers q clock s letter) → letter.stamp.clock + 1 < 2 ^ 32
-letter_early numbers q clock s letter f =
-    let head = (and_parts (head_fits numbers clock letter) (body_fits numbers q s letter.stamp.clock letter.body) f).0 in
-    let link = (and_parts (nat_lt letter.set numbers.sets) (nat_lt letter.link.node numbers.nodes && (nat_le letter.link.epoch letter.stamp.clock && (nat_lt (letter.stamp.clock + 1) (2 ^ 32) && nat_lt (clock + 1) (2 ^ 32)))) head).1 in
-    let epoch = (and_parts (nat_lt letter.link.node numbers.nodes) (nat_le letter.link.epoch letter.stamp.clock && (nat_lt (letter.stamp.clock + 1) (2 ^ 32) && nat_lt (clock + 1) (2 ^ 32))) link).1 in
-    let clocks = (and_parts (nat_le letter.link.epoch letter.stamp.clock) (nat_lt (letter.stamp.clock + 1) (2 ^ 32) && nat_lt (clock + 1) (2 ^ 32)) epoch).1 in
-    ltb-true (letter.stamp.clock + 1) (2 ^ 32) (and_parts (nat_lt (letter.stamp.clock + 1) (2 ^ 32)) (nat_lt (clock + 1) (2 ^ 32)) clocks).0
 
 -- what a client that can act may do
 pub record IsRunnable (a : Parts) (client : ℕ) : Type 0 where

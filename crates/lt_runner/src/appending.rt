@@ -1,7 +1,7 @@
 // Commands that come while the runner is at work, and what it shows of these and of its moves.
 ghost use Rattle.std.specs.Prelude.{◌≡◌, ◌<◌, length, OnOk, OnErr};
 ghost use Rattle.lt_spec.specs.Script.{IsScript, HasTargets, HasModesOf};
-ghost use Rattle.lt_spec.specs.declared.limits.TheConstants.{MAX_COMMANDS};
+ghost use Rattle.lt_spec.specs.declared.limits.TheConstants.{MAX_COMMANDS_OF_SERVICE};
 ghost use Rattle.lt_spec.specs.NodeMove.{home};
 ghost use Rattle.lt_node.specs.NodeData.{kept_script};
 ghost use Rattle.lt_runner.specs.Kept.{with_appended};
@@ -20,7 +20,7 @@ impl Runner {
         requires home { home self.old.node.script client ≡ self.old.node.me }
         requires targets { HasTargets self.old.node.script.sets self.old.node.script.clients client command }
         requires modes { HasModesOf self.old.node.script.version command }
-        requires room { length self.old.node.script.commands < MAX_COMMANDS }
+        requires room { length self.old.node.script.commands < MAX_COMMANDS_OF_SERVICE }
         ensures appended { OnOk result (self.new ≡ with_appended self.old client command) }
         ensures same { OnErr result (self.new ≡ self.old) }
     {
@@ -39,7 +39,7 @@ impl Runner {
     }
 
     /// How many commands the script has, forgotten or not.
-    pub fn commands(&self) -> u32
+    pub fn commands(&self) -> u64
         ensures commands { result ≡ length self.now.node.script.commands }
         ensures script { IsScript self.now.node.script }
     {

@@ -1,19 +1,21 @@
 // Moves and commands that the runner forgets.
-ghost use Rattle.std.specs.Prelude.{◌≡◌, ◌↔◌, IsTrue, length, OnOk, OnErr};
+ghost use Rattle.std.specs.Prelude.{◌≡◌, ◌≤◌, ◌↔◌, IsTrue, length, OnOk, OnErr};
 ghost use Rattle.lt_runner.specs.Kept.{HasAll};
 
 use crate::runner::Runner;
 use std::alloc::{AllocError, Global};
 
 impl Runner {
-    /// Forgets the moves that were made, and frees their memory.
+    /// Forgets the moves that were made. Their memory is kept for further ones.
     #[tactic(auto, using(crate::proofs::Forgotten::kept_forgotten))]
-    pub fn forget_moves(&mut self, alloc: Global)
+    pub fn forget_moves(&mut self)
         ensures rest { self.new ≡ record self.old { log = self.new.log } }
         ensures entries { self.new.log.entries ≡ self.old.log.entries }
         ensures gone { self.new.log.gone ≡ length self.old.log.entries }
+        ensures spare { self.old.log.spare ≤ self.new.log.spare }
+        ensures room { self.old.log.room ≤ self.new.log.room }
     {
-        self.parts.as_mut().log.forget(alloc);
+        self.parts.as_mut().log.forget();
     }
 
     /// Forgets all commands of the script so far, apart from those that its clients are still to make.

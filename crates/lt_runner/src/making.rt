@@ -126,7 +126,7 @@ fn note_events(log: &mut LongLog, out: &mut Out)
 }
 
 /// Puts a move and its event lines at the end of the log.
-pub(crate) fn log_move(log: &mut LongLog, out: &mut Out, made: Move, _limit: u32)
+pub(crate) fn log_move(log: &mut LongLog, out: &mut Out, made: Move, _limit: u64)
     requires spare { 0 < log.old.spare }
     requires few { length log.old.entries < _limit }
     requires room { length out.old.events ≤ log.old.room }

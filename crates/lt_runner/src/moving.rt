@@ -22,7 +22,7 @@ impl Runner {
         self.parts.as_mut().find()
     }
 
-    /// Makes room for the move that was found.
+    /// Makes room for the move that was found. No log keeps 2^32 moves or events: that many are refused as memory is.
     pub fn reserve(&mut self, choice: Choice) -> Result<(), AllocError>
         requires chosen { next_choice self.old ≡ choice }
         requires could { CouldMove self.old }

@@ -14,7 +14,7 @@ pub struct Parts {
     // The letter that is taken next.
     pub(crate) hand: Option<Hand>,
     // How many moves there may be in the log.
-    pub(crate) limit: u32,
+    pub(crate) limit: u64,
     // The nodes that letters went to since this was last asked, bit q % 64 for node q.
     pub(crate) reached: u64,
     // The nodes, bit q for node q, whose rings are looked at for a letter after the one in which letters may be known.

@@ -1,6 +1,6 @@
 ghost use Rattle.std.specs.Prelude.{◌≡◌, ◌≢◌, ◌<◌, ◌≤◌, ◌==◌, [], length, IfOk, IsTrue};
 ghost use Rattle.lt_spec.specs.World.{start};
-ghost use Rattle.lt_spec.specs.declared.moves.TheConstants.{MAX_MOVES};
+ghost use Rattle.lt_spec.specs.declared.moves.TheConstants.{MAX_MOVES_OF_SERVICE};
 ghost use Rattle.lt_node.specs.NodeData.{state_of};
 ghost use Rattle.lt_mail.specs.Opening.{IsFresh};
 ghost use Rattle.lt_runner.specs.declared.choice.Choice.TheVariants as choices;
@@ -17,7 +17,7 @@ use lt_desk::Out;
 use lt_log::LongLog;
 use lt_mail::Mail;
 use lt_node::Node;
-use lt_script::Script;
+use lt_script::{MAX_COMMANDS, Script};
 use std::alloc::{AllocError, Global};
 use std::marker::Model;
 
@@ -48,11 +48,11 @@ impl Runner {
         script: &Script,
         node: u8,
         mail: Mail,
-        limit: u32,
+        limit: u64,
     ) -> Result<Runner, AllocError>
         requires node { node < script.now.nodes }
         requires mail { IsFresh script.now.nodes node mail }
-        requires limit { (0 < limit) × (limit ≤ MAX_MOVES) }
+        requires limit { (0 < limit) × (limit ≤ MAX_MOVES_OF_SERVICE) }
         ensures starts { IfOk result (StartsWith script.now node mail limit) }
         ensures all { IfOk result HasAll }
     {
@@ -68,13 +68,13 @@ impl Runner {
         script: &Script,
         node: Node,
         mail: Mail,
-        limit: u32,
+        limit: u64,
     ) -> Result<Runner, AllocError>
         requires script { node.script ≡ script.now }
         requires node { node.me < script.now.nodes }
         requires state { state_of node ≡ (start script.now).node node.me }
         requires mail { IsFresh script.now.nodes node.me mail }
-        requires limit { (0 < limit) × (limit ≤ MAX_MOVES) }
+        requires limit { (0 < limit) × (limit ≤ MAX_MOVES_OF_SERVICE) }
         ensures starts { IfOk result (StartsWith script.now node.me mail limit) }
         ensures commands_gone { IfOk result (λ runner. runner.node.gone ≡ node.gone) }
     {
@@ -149,7 +149,7 @@ impl Runner {
     pub fn is_full(&self) -> bool
         ensures { result ≡ (length self.now.log.entries == self.now.limit) }
     {
-        self.parts.moves() == u64::from(self.parts.limit)
+        self.parts.moves() == self.parts.limit
     }
 
     /// The number of its node.
@@ -180,7 +180,7 @@ fn begin(
     script: &Script,
     node: Node,
     mail: Mail,
-    limit: u32,
+    limit: u64,
 ) -> Result<Parts, AllocError>
     requires script { node.script ≡ script.now }
     requires node { node.me < script.now.nodes }
@@ -203,11 +203,12 @@ fn begin(
     })
 }
 
-// A log with no moves yet, and room for as many as there are commands for each node, with two lines each.
-fn first_log(alloc: Global, script: &Script, limit: u32) -> Result<LongLog, AllocError>
+// A log with no moves yet, and room for as many as there are commands for each node, with two lines each; for no more
+// than a text has commands.
+fn first_log(alloc: Global, script: &Script, limit: u64) -> Result<LongLog, AllocError>
     ensures { IfOk result (λ log. (log.entries ≡ []) × (log.gone ≡ 0)) }
 {
-    let moves = script.commands() / u32::from(script.nodes());
-    let moves = moves.min(limit) as usize;
+    let moves = script.commands() / u64::from(script.nodes());
+    let moves = moves.min(limit).min(u64::from(MAX_COMMANDS)) as usize;
     LongLog::with_room(alloc, moves, 2 * moves)
 }

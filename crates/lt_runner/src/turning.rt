@@ -65,7 +65,7 @@ impl Parts {
                 self.idle = true;
                 Found::Quiet
             }
-            _ if self.log.len() >= u64::from(self.limit) => Found::Full,
+            _ if self.log.len() >= self.limit => Found::Full,
             choice => Found::Move(choice),
         }
     }
@@ -258,7 +258,7 @@ impl Parts {
                 self.idle = true;
                 false
             }
-            Choice::Act(client) if self.log.len() < u64::from(self.limit) => {
+            Choice::Act(client) if self.log.len() < self.limit => {
                 self.make_found(Choice::Act(client), gate)
             }
             _ => false,

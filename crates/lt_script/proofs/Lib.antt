@@ -5,6 +5,7 @@ pub mod HintLemmas
 pub mod FirstLineEnd
 pub mod OneModeLemmas
 pub mod FaultOrder
+pub mod ShortScripts
 pub mod PrintedLines
 pub mod RoundTrips
 pub mod RoundTrip

@@ -15,7 +15,7 @@ use Rattle.lt_text.specs.Number.{number}
 use Rattle.lt_text.proofs.TextLemmas.{lines_text, words_spaced}
 use Rattle.lt_spec.specs.declared.limits.TheConstants.{MAX_LINE}
 use Rattle.lt_text.proofs.NumberLemmas.{number_decimal}
-use Rattle.lt_spec.specs.Script.{is_name, IsScript, IsRequest, HasModesOf, HasTargets, most_nodes}
+use Rattle.lt_spec.specs.Script.{is_name, IsScript, IsShort, IsRequest, HasModesOf, HasTargets, most_nodes}
 use Rattle.lt_script.specs.Forms.{NodesForm, CommandForm, CommandWordsData, LockWords, TryWords, UnlockWords, ChangeWords, DropWords, form_of, asked_of}
 use Rattle.lt_script.specs.Faults.{only_nodes, mode_in}
 use Rattle.lt_script.specs.Reading.{ScriptBody, line_step, read_from, script_body, read_body, read_of}
@@ -138,12 +138,12 @@ modes_at s good done x rest e =
     let here : get_or s.commands (length done) x ≡ x = subst (λ (l : List (ℕ × Command)). get_or l (length done) x ≡ x) e (get_or_middle done x rest x) in
     subst (λ (request : ℕ × Command). HasModesOf s.version request.1) here (good.modes (length done) x inside)
 
-commands_walk : (s : ScriptData) → IsScript s → (done rest : List (ℕ × Command)) → done ++ rest ≡ s.commands → Walks s.version (map spaced (map (command_words s) rest)) (commands_only s done) (commands_only s s.commands)
-commands_walk s good done [] e = subst (λ (l : List (ℕ × Command)). Walks s.version [] (commands_only s done) (commands_only s l)) (sym (append-nil done) ∙ e) (walk_none s.version (commands_only s done))
-commands_walk s good done (x ∷ rest) e =
+commands_walk : (s : ScriptData) → IsScript s → IsShort s → (done rest : List (ℕ × Command)) → done ++ rest ≡ s.commands → Walks s.version (map spaced (map (command_words s) rest)) (commands_only s done) (commands_only s s.commands)
+commands_walk s good short done [] e = subst (λ (l : List (ℕ × Command)). Walks s.version [] (commands_only s done) (commands_only s l)) (sym (append-nil done) ∙ e) (walk_none s.version (commands_only s done))
+commands_walk s good short done (x ∷ rest) e =
     walk_more s.version (spaced (command_words s x)) (map spaced (map (command_words s) rest)) (commands_only s done) (commands_only s (done ++ x ∷ [])) (commands_only s s.commands)
-    (command_read s good done x.0 x.1 (omega (arith, length-append done (x ∷ rest), ap length e, good.few_commands)) (request_at s good done x rest e) (modes_at s good done x rest e))
-    (commands_walk s good (done ++ x ∷ []) rest (append_assoc done (x ∷ []) rest ∙ e))
+    (command_read s good done x.0 x.1 (omega (arith, length-append done (x ∷ rest), ap length e, short)) (request_at s good done x rest e) (modes_at s good done x rest e))
+    (commands_walk s good short (done ++ x ∷ []) rest (append_assoc done (x ∷ []) rest ∙ e))
 
 nodes_printed : (nodes : ℕ) → nodes ≤ 64 → IsPrintedLine (nodes_words nodes)
 nodes_printed nodes few = record { are_printed = (refl, (number_printed nodes (omega arith), tt)); few = omega arith; says = refl }
@@ -213,9 +213,9 @@ lines_printed s good =
     )))
 
 -- the lines behind the line `nodes` make the script
-script_walk : (s : ScriptData) → IsScript s
+script_walk : (s : ScriptData) → IsScript s → IsShort s
     → Walks s.version (map spaced (map (set_words s.sets) s.sets ++ (map client_words s.clients ++ map (command_words s) s.commands))) (only_nodes s.version s.nodes) s
-script_walk s good =
+script_walk s good short =
     let sets : List (List (List ℕ)) = map (set_words s.sets) s.sets in
     let clients : List (List (List ℕ)) = map client_words s.clients in
     let commands : List (List (List ℕ)) = map (command_words s) s.commands in
@@ -226,14 +226,14 @@ script_walk s good =
     (sets_walk s good [] s.sets refl)
     (walk_both s.version (map spaced clients) (map spaced commands) (sets_only s s.sets) (clients_only s s.clients) s
     (clients_walk s good [] s.clients refl)
-    (commands_walk s good [] s.commands refl)))
+    (commands_walk s good short [] s.commands refl)))
 
 -- the lines from the line `nodes` on are read as the script
-later_read : (s : ScriptData) → IsScript s → (k : ℕ) → read_from s.version (map spaced (later_words s)) k None ≡ Ok s
-later_read s good k =
+later_read : (s : ScriptData) → IsScript s → IsShort s → (k : ℕ) → read_from s.version (map spaced (later_words s)) k None ≡ Ok s
+later_read s good short k =
     let v = s.version in
     let rest : List (List ℕ) = map spaced (map (set_words s.sets) s.sets ++ (map client_words s.clients ++ map (command_words s) s.commands)) in
-    let walk = script_walk s good (k + 1) [] in
+    let walk = script_walk s good short (k + 1) [] in
     read_more v (map spaced (later_words s)) rest (spaced (nodes_words s.nodes)) k None (Some (only_nodes v s.nodes)) refl (nodes_read v s.nodes good.some_node good.few_nodes good.nodes_of_version)
     ∙ ap (λ ls. read_from v ls (k + 1) (Some (only_nodes v s.nodes))) (sym (append-nil rest))
     ∙ walk.1
@@ -258,17 +258,17 @@ second_body : (rest : List (List ℕ)) (k : ℕ) → script_body (spaced (codes 
 unfolding script_body
 second_body rest k = rw (words_spaced (codes "version" ∷ codes "2" ∷ []) (printed_words (codes "version" ∷ codes "2" ∷ []) (refl, (refl, tt)))) refl
 
-pub read_printed : (s : ScriptData) → IsScript s → read_of (print_of s) ≡ Ok s
-read_printed s good =
+pub read_printed : (s : ScriptData) → IsScript s → IsShort s → read_of (print_of s) ≡ Ok s
+read_printed s good short =
     ap (λ ls. read_body (script_body ls 1)) (lines_printed s good) ∙ elim good.version [
       | inl one ↦
           ap (λ v. read_body (script_body (map spaced (version_words v ++ later_words s)) 1)) one
           ∙ ap read_body (first_body s.nodes (map spaced (map (set_words s.sets) s.sets ++ (map client_words s.clients ++ map (command_words s) s.commands))) 1 good.few_nodes)
           ∙ ap (λ v. read_from v (map spaced (later_words s)) 1 None) (sym one)
-          ∙ later_read s good 1
+          ∙ later_read s good short 1
       | inr two ↦
           ap (λ v. read_body (script_body (map spaced (version_words v ++ later_words s)) 1)) two
           ∙ ap read_body (second_body (map spaced (later_words s)) 1)
           ∙ ap (λ v. read_from v (map spaced (later_words s)) 2 None) (sym two)
-          ∙ later_read s good 2
+          ∙ later_read s good short 2
     ]

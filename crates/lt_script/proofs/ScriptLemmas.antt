@@ -9,7 +9,7 @@ use Rattle.std.proofs.lemmas.Slice.Eq.{bytes_eq-Decides}
 use Rattle.lt_modes.specs.declared.command.Command.{Command}
 use Rattle.lt_modes.specs.declared.command.Command.TheVariants.{Lock, Try, Unlock, Change, DropAll}
 use Rattle.lt_modes.specs.Script.{ScriptData, SetData, ClientData, family_at, home_at, name_of_set, family_of_set, name_of_client, node_of_client}
-use Rattle.lt_spec.specs.declared.limits.TheConstants.{MAX_SETS, MAX_CLIENTS, MAX_CLIENTS_OF_FIRST, MAX_CLIENTS_OF_NODE, MAX_COMMANDS}
+use Rattle.lt_spec.specs.declared.limits.TheConstants.{MAX_SETS, MAX_CLIENTS, MAX_CLIENTS_OF_FIRST, MAX_CLIENTS_OF_NODE, MAX_COMMANDS_OF_SERVICE}
 use Rattle.lt_spec.specs.Script.{is_name, IsScript, IsFamilyOfNext, IsRequest, HasModesOf, HasTargets, most_clients, load_of, set_number, client_number, is_declared}
 use Rattle.lt_script.proofs.NameLemmas.{found_stays, found_last, found_never, is_new, same_name, set_not_client}
 
@@ -205,7 +205,7 @@ client_named s client x name good at same =
     let inside = slice_get_within s.clients client x at in
     (inside, subst (λ (n : List ℕ). client_number s n ≡ Some client) (ap name_of_client at ∙ (bytes_eq-Decides x.name name).0 same) (good.clients_found client inside))
 
-pub command_added : (s : ScriptData) (client : ℕ) (command : Command) → IsScript s → length s.commands < MAX_COMMANDS → IsRequest s.sets s.clients (client, command) → HasModesOf s.version command
+pub command_added : (s : ScriptData) (client : ℕ) (command : Command) → IsScript s → length s.commands < MAX_COMMANDS_OF_SERVICE → IsRequest s.sets s.clients (client, command) → HasModesOf s.version command
     → IsScript (record s { commands = s.commands ++ (client, command) ∷ [] })
 command_added s client command good room request modes = record {
   version = good.version;

@@ -154,7 +154,7 @@ fn set_and_mode(script: &Script, set: &[u8], mode: &[u8]) -> Result<(u8, Mode), 
     let Some(set) = script.set_number(set) else {
         return Err(Fault::Unknown);
     };
-    if script.commands() >= MAX_COMMANDS {
+    if script.commands() >= u64::from(MAX_COMMANDS) {
         return Err(Fault::Limit);
     }
     let Some(mode) = mode_in(script.version(), mode) else {
@@ -179,7 +179,7 @@ fn client_and_set(
     let Some(set) = script.set_number(set) else {
         return Err(Fault::Unknown);
     };
-    if script.commands() >= MAX_COMMANDS {
+    if script.commands() >= u64::from(MAX_COMMANDS) {
         Err(Fault::Limit)
     } else if script.home(other) != script.home(client) {
         Err(Fault::Node)

@@ -75,7 +75,7 @@ pub fn request_of_one_mode(
     let Some(set) = script.set_number(asked.set) else {
         return Err(Fault::Unknown);
     };
-    if script.commands() >= MAX_COMMANDS {
+    if script.commands() >= u64::from(MAX_COMMANDS) {
         return Err(Fault::Limit);
     }
     if script.version() == 1 && !asked.mode.is_of_five() {

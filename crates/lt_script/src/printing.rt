@@ -2,7 +2,7 @@ ghost use Rattle.std.specs.Prelude.{◌≡◌, ◌<◌, ◌++◌, ◌∷◌, [],
 ghost use Rattle.std.specs.List.{flat_map};
 ghost use Rattle.lt_modes.specs.Modes.{word_of};
 ghost use Rattle.lt_text.specs.Text.{each_after_space};
-ghost use Rattle.lt_spec.specs.Script.{IsRequest};
+ghost use Rattle.lt_spec.specs.Script.{IsRequest, IsShort};
 ghost use Rattle.lt_script.specs.Reading.{read_of};
 ghost use Rattle.lt_script.specs.Printing.{print_of, ended_line, version_words, nodes_words, set_words, client_words, asked_words, command_words};
 
@@ -13,10 +13,10 @@ use lt_text::push_number;
 use std::alloc::{AllocError, Global};
 
 /// Writes the script as `read` reads it: for version 2 the line `version 2`, and then the line `nodes`, the sets, the
-/// clients and the commands.
+/// clients and the commands. A script with more commands than a text may have is written too, and not read back.
 pub fn print(alloc: Global, script: &Script) -> Result<Vec<u8>, AllocError>
     ensures text { IfOk result (λ text. text.items ≡ print_of script.now) }
-    ensures read_back { IfOk result (λ text. read_of text.items ≡ Ok script.now) }
+    ensures read_back { IsShort script.now → IfOk result (λ text. read_of text.items ≡ Ok script.now) }
 {
     let mut out = Vec::new(alloc);
     push_version(&mut out, script.version())?;
@@ -41,7 +41,7 @@ fn push_nodes(out: &mut Vec<u8>, nodes: u8) -> Result<(), AllocError>
     ensures { OnOk result (out.new.items ≡ out.old.items ++ ended_line (nodes_words nodes)) }
 {
     push_text(out, "nodes ")?;
-    push_number(out, u32::from(nodes))?;
+    push_number(out, u64::from(nodes))?;
     push_text(out, "\n")
 }
 
@@ -86,7 +86,7 @@ fn push_client(out: &mut Vec<u8>, client: &ClientDecl) -> Result<(), AllocError>
     push_text(out, "client")?;
     push_word(out, client.name())?;
     push_text(out, " at ")?;
-    push_number(out, u32::from(client.node()))?;
+    push_number(out, u64::from(client.node()))?;
     push_text(out, "\n")
 }
 

@@ -1,5 +1,6 @@
 ghost use Rattle.std.specs.Prelude.{◌≡◌, ◌⊎◌, ◌<◌, ◌≤◌, ◌+◌, ◌-◌, ◌^◌, ◌∷◌, None, Some, length, true, IfOk, IsTrue};
 ghost use Rattle.lt_text.specs.Text.{lines, words};
+ghost use Rattle.lt_spec.specs.Script.{IsShort};
 ghost use Rattle.lt_script.specs.Forms.{form_seen};
 ghost use Rattle.lt_script.specs.Faults.{declared, form_fault, after_form};
 ghost use Rattle.lt_script.specs.Reading.{ReadsLine, Reads, is_skipped, says_version, line_step, script_body, read_of};
@@ -21,7 +22,8 @@ use std::alloc::{AllocError, Global};
 /// word begins with `#`. The first line with a fault decides, and on one line the fault with the lowest number.
 pub fn read(alloc: Global, bytes: &[u8]) -> Result<Script, ReadError>
     requires { length bytes.now < 2 ^ 32 - 1 }
-    ensures { Reads result (read_of bytes.now) }
+    ensures read { Reads result (read_of bytes.now) }
+    ensures short { IfOk result IsShort }
 {
     let body = body_of(bytes);
     let mut script: Option<Script> = None;

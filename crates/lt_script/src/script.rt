@@ -131,10 +131,10 @@ impl Script {
     }
 
     /// The number of commands.
-    pub fn commands(&self) -> u32
+    pub fn commands(&self) -> u64
         ensures { result ≡ length self.now.commands }
     {
-        self.parts.commands.len() as u32
+        self.parts.commands.len() as u64
     }
 
     pub fn set_name(&self, set: u8) -> &[u8]
@@ -170,7 +170,7 @@ impl Script {
     }
 
     /// A command by its place among all commands, with the client that makes it.
-    pub fn command(&self, place: u32) -> (u16, Command)
+    pub fn command(&self, place: u64) -> (u16, Command)
         requires { place < length self.now.commands }
         ensures { slice_get self.now.commands place ≡ Some result }
     {

@@ -2,7 +2,7 @@
 use Rattle.std.proofs.Common.{◌≡◌, ℕ, Bool, true, false, List, [], ◌∷◌, Option, Some, None, refl, sym, subst, ◌∙◌, ap, Result, Ok, length, take, arith, inl, inr, option_map, if◌then◌else◌, codes, IsTrue, IsFalse, ◌⊎◌, bytes_eq, take_all}
 use Rattle.std.proofs.lemmas.Bool.{false≢true}
 use Rattle.lt_modes.specs.Script.{ScriptData}
-use Rattle.lt_spec.specs.Script.{IsScript, IsOrdered}
+use Rattle.lt_spec.specs.Script.{IsScript, IsShort, IsOrdered}
 use Rattle.lt_spec.specs.World.{Logged, world_after, IsRun, is_at_rest, anyone_waits, EndsBy}
 use Rattle.lt_spec.specs.declared.ending.Ending.{Ending}
 use Rattle.lt_spec.specs.declared.ending.Ending.TheVariants as ending
@@ -118,9 +118,10 @@ not_stuck moves ending.Stuck script run is_script is_run e finish ordered stuck 
 
 -- a run that ended so
 pub ran_to : (moves : ℕ) (end : Ending) (script : ScriptData) (run : List Logged) → RunsKeepPromises → OrderedFinish
-    → IsScript script → IsRun script run → StaysWithin moves script run → EndsBy moves end script run → RanTo moves (status_of_end end) script run
-ran_to moves end script run promises finish is_script is_run within e = record {
+    → IsScript script → IsShort script → IsRun script run → StaysWithin moves script run → EndsBy moves end script run → RanTo moves (status_of_end end) script run
+ran_to moves end script run promises finish is_script is_short is_run within e = record {
   is_script = is_script;
+  is_short = is_short;
   is_run = is_run;
   within = within;
   ends = ends_as moves end script run e;

@@ -6,7 +6,7 @@ use Rattle.lt_call.specs.Outcomes.{SaysOfSource}
 use Rattle.lt_call.proofs.Answering.{failed_reading, long_reading, memory_reading, refused_reading}
 use Rattle.lt_spec.specs.World.{Logged}
 use Rattle.lt_modes.specs.Script.{ScriptData}
-use Rattle.lt_spec.specs.Script.{IsScript}
+use Rattle.lt_spec.specs.Script.{IsScript, IsShort}
 use Rattle.lt_world.specs.Fields.{WorldData}
 use Rattle.lt_spec.specs.Promised.{Promised}
 use Rattle.lt_checker.specs.declared.limits.TheConstants.{MAX_JOURNAL}
@@ -22,15 +22,16 @@ use Rattle.lt_serve.specs.Status.{outcome_of}
 use Rattle.lt_serve.specs.TopCall.{Checks}
 
 -- the number of moves of the run is the answer to the input that tells the run
-pub counted : (left : Option (List ℕ)) (script : ScriptData) (world : WorldData) (run : List Logged) (made : Made) → IsScript script → IsEndedRun left script world
+pub counted : (left : Option (List ℕ)) (script : ScriptData) (world : WorldData) (run : List Logged) (made : Made) → IsScript script → IsShort script → IsEndedRun left script world
     → run ≡ world.run → Promised script world.run
     → (made.ending ≡ Done) × (made.run.entries ≡ run) × (made.text.items ≡ codes "ok " ++ decimal (length run) ++ codes "\n") → Checks made.ending left made.run.entries made.text.items
-counted left script world run made kept ended is promised h =
+counted left script world run made kept short ended is promised h =
     let same : world.run ≡ made.run.entries = sym is ∙ sym h.1 in
     record {
       done = h.0;
       script = script;
       is_script = kept;
+      is_short = short;
       denoted = ended.denoted;
       accepted = subst (λ (r : List Logged). IsJournalOf left script r) same ended.accepted;
       finished = subst (λ (r : List Logged). IsFinished script r) same ended.finished;

@@ -26,7 +26,7 @@ cut_not_usage : (node : ℕ) → Usage ≡ Cut node → ⊥
 cut_not_usage node e = cc
 
 not_cut : (moves node : ℕ) (script : ScriptData) (run : List Logged) → NeverCutAtAll → 2 ^ 30 ≤ moves → RanTo moves (Cut node) script run → ⊥
-not_cut moves node script run never far ran = none_some node (sym (never script run moves ran.is_script ran.is_run far) ∙ ran.ends)
+not_cut moves node script run never far ran = none_some node (sym (never script run moves ran.is_script ran.is_short ran.is_run far) ∙ ran.ends)
 
 not_cut_by : (moves : ℕ) (command : Command) (node : ℕ) (left : Option (List ℕ)) (run : List Logged) (text : List ℕ) → NeverCutAtAll
     → 2 ^ 30 ≤ moves → JournalsBy moves command (Cut node) left run text → ⊥

@@ -51,7 +51,7 @@ pub record SoakLimitsAre : Type 0 where
   -- a piece of an input, in bytes
   pub piece : MAX_PIECE ≡ 4096
   -- locks of one mode that a client holds in a set
-  pub locks : most_locks ≡ 65536
+  pub locks : most_locks ≡ 1152921504606846976
 
 pub record SoakIs : Type 0 where
   -- the script that is made from each seed

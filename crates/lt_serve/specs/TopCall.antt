@@ -1,5 +1,5 @@
 -- What each answer of the top call means.
-use Rattle.std.specs.Prelude.{◌≡◌, ℕ, List, [], ◌∷◌, ◌++◌, Option, Some, None, length, codes, decimal}
+use Rattle.std.specs.Prelude.{◌≡◌, ℕ, List, [], ◌∷◌, ◌++◌, ◌≤◌, Option, Some, None, length, codes, decimal}
 use Rattle.std.specs.Io.KnownBytes.{Appends}
 use Rattle.lt_io.specs.Streams.{AppendsPart}
 use Rattle.lt_call.specs.Scripts.{Denotes}
@@ -13,6 +13,7 @@ use Rattle.lt_spec.specs.Promised.{Promised}
 use Rattle.lt_checker.specs.Input.{DenotesBefore, IsJournalOf}
 use Rattle.lt_gen.specs.Generator.{script_of, seeded}
 use Rattle.lt_spec.specs.Script.{first_bad, IsScript}
+use Rattle.lt_spec.specs.declared.limits.TheConstants.{MAX_COMMANDS}
 use Rattle.lt_tally.specs.Summary.{summary_of, summary_text}
 use Rattle.lt_script.specs.Printing.{print_of}
 use Rattle.lt_words.specs.declared.command.Command.{Command}
@@ -70,6 +71,7 @@ pub record Checks (ending : Status) (left : Option (List ℕ)) (run : List Logge
   pub done : ending ≡ Done
   pub script : ScriptData
   pub is_script : IsScript script
+  pub is_short : length script.commands ≤ MAX_COMMANDS
   pub denoted : DenotesBefore left script
   pub accepted : IsJournalOf left script run
   pub finished : IsFinished script run
@@ -100,10 +102,6 @@ JournalsBy moves Run ending left run text = JournalsThreads moves ending left ru
 JournalsBy moves (Soak seed) ending left run text = Soaks seed moves ending run text
 JournalsBy moves Order ending left run text = TellsOrder ending left run text
 
--- it gives no run, and nothing was written
-abbrev pub DidNothing : List Logged → Option (List ℕ) → Option (List ℕ) → Type 0
-DidNothing run old new = (run ≡ []) × (new ≡ old)
-
 -- it ended so, and its whole text was appended
 abbrev pub WroteAll : ℕ → Command → Status → Option (List ℕ) → List Logged → Option (List ℕ) → Option (List ℕ) → Type 0
 WroteAll moves command ending left run old new = (text : List ℕ) × JournalsBy moves command ending left run text × Appends old new text
@@ -113,15 +111,16 @@ abbrev pub WrotePart : ℕ → Command → Option (List ℕ) → List Logged →
 WrotePart moves command left run old new =
     (ending : Status) × (text : List ℕ) × JournalsBy moves command ending left run text × AppendsPart old new text
 
--- what the status says of a command: of the run, and of what the sink held before and after
+-- what the status says of a command: of the run, and of what the sink held before and after. With any other status it gives
+-- no run, and nothing was written
 abbrev pub DidOf : ℕ → Command → Status → Option (List ℕ) → List Logged → Option (List ℕ) → Option (List ℕ) → Type 0
 DidOf moves command Done left run old new = WroteAll moves command Done left run old new
 DidOf moves command Stuck left run old new = WroteAll moves command Stuck left run old new
 DidOf moves command (Cut node) left run old new = WroteAll moves command (Cut node) left run old new
 DidOf moves command WriteFault left run old new = WrotePart moves command left run old new
-DidOf moves command other left run old new = DidNothing run old new
+DidOf moves command other left run old new = (run ≡ []) × (new ≡ old)
 
 -- the same where the words are this command, or none
 abbrev pub Did : ℕ → Option Command → Status → Option (List ℕ) → List Logged → Option (List ℕ) → Option (List ℕ) → Type 0
-Did moves None status left run old new = DidNothing run old new
+Did moves None status left run old new = (run ≡ []) × (new ≡ old)
 Did moves (Some command) status left run old new = DidOf moves command status left run old new

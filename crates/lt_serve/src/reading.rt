@@ -2,7 +2,7 @@ ghost use Rattle.std.specs.Prelude.{◌≡◌, ◌<◌, ◌≤◌, Ok, length, I
 ghost use Rattle.lt_call.specs.Outcomes.{SaysOfSource};
 ghost use Rattle.lt_call.specs.Scripts.{Denotes};
 ghost use Rattle.lt_io.specs.Streams.{IsReadWhole, Rose};
-ghost use Rattle.lt_spec.specs.Script.{IsScript};
+ghost use Rattle.lt_spec.specs.Script.{IsScript, IsShort};
 ghost use Rattle.lt_script.specs.Reading.{read_of};
 ghost use Rattle.lt_checker.specs.declared.limits.TheConstants.{MAX_JOURNAL};
 ghost use Rattle.lt_serve.specs.declared.limits.TheConstants.{MAX_INPUT};
@@ -22,6 +22,7 @@ use std::alloc::Global;
 pub(crate) fn read_script<S: Source>(alloc: Global, source: &mut S) -> Result<Script, Status>
     ensures script { IfOk result (Denotes (S.state source.old).left) }
     ensures kept { IfOk result IsScript }
+    ensures short { IfOk result IsShort }
     ensures whole { OnOk result (IsReadWhole MAX_INPUT (S.state source.old) (S.state source.new)) }
     ensures reading { IfErr result (λ answer. SaysOfSource MAX_INPUT (outcome_of answer) (S.state source.old) (S.state source.new)) }
     ensures refused { IfErr result (IsRefusal command.SimFirst (S.state source.old).left) }
@@ -38,6 +39,7 @@ pub(crate) fn script_of(alloc: Global, bytes: &[u8]) -> Result<Script, Status>
     requires few { length bytes.now ≤ MAX_JOURNAL }
     ensures script { IfOk result (λ script. read_of bytes.now ≡ Ok script) }
     ensures kept { IfOk result IsScript }
+    ensures short { IfOk result IsShort }
     ensures some { OnOk result (0 < length bytes.now) }
     ensures refused { IfErr result (IsFaultOf bytes.now) }
 {

@@ -1,7 +1,7 @@
 ghost use Rattle.std.specs.Prelude.{◌≡◌, ◌<◌, ◌≤◌, IfOk, IfErr, OnOk};
 ghost use Rattle.lt_call.specs.Outcomes.{SaysOfSource};
 ghost use Rattle.lt_io.specs.Streams.{IsReadWhole, Rose};
-ghost use Rattle.lt_spec.specs.Script.{IsScript};
+ghost use Rattle.lt_spec.specs.Script.{IsScript, IsShort};
 ghost use Rattle.lt_journal.specs.RunLines.{text_of};
 ghost use Rattle.lt_spec.specs.declared.moves.TheConstants.{MAX_MOVES};
 ghost use Rattle.lt_serve.specs.Schedules.{AreInOrder};
@@ -30,6 +30,7 @@ pub(crate) fn scheduled_journal(
     schedule: Schedule,
 ) -> Result<Made, AllocError>
     requires kept { IsScript script.now }
+    requires short { IsShort script.now }
     requires moves { (0 < moves) × (moves ≤ MAX_MOVES) }
     ensures ran { IfOk result (λ made. RanTo moves made.ending script.now made.run.entries) }
     ensures in_order { IfOk result (λ made. AreInOrder schedule script.now made.run.entries) }

@@ -1,5 +1,5 @@
 ghost use Rattle.std.specs.Prelude.{◌≡◌, ◌<◌, ◌≤◌, [], None, IsTrue, IfOk, OnOk};
-ghost use Rattle.lt_spec.specs.Script.{IsScript};
+ghost use Rattle.lt_spec.specs.Script.{IsScript, IsShort};
 ghost use Rattle.lt_spec.specs.World.{is_at_rest, full_node};
 ghost use Rattle.lt_spec.specs.declared.moves.TheConstants.{MAX_MOVES};
 ghost use Rattle.lt_world.specs.Fields.{world_of};
@@ -26,6 +26,7 @@ pub(crate) fn simulate(
     schedule: Schedule,
 ) -> Result<(Ending, Run), AllocError>
     requires kept { IsScript script.now }
+    requires short { IsShort script.now }
     requires moves { (0 < moves) × (moves ≤ MAX_MOVES) }
     ensures ran { IfOk result (λ made. RanTo moves (status_of_end made.0) script.now made.1.entries) }
     ensures in_order { IfOk result (λ made. AreInOrder schedule script.now made.1.entries) }

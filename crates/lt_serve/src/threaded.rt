@@ -1,7 +1,7 @@
 ghost use Rattle.std.specs.Prelude.{◌≡◌, ◌<◌, ◌≤◌, IfOk, IfErr, OnOk};
 ghost use Rattle.lt_call.specs.Outcomes.{SaysOfSource};
 ghost use Rattle.lt_io.specs.Streams.{IsReadWhole, Rose};
-ghost use Rattle.lt_spec.specs.Script.{IsScript};
+ghost use Rattle.lt_spec.specs.Script.{IsScript, IsShort};
 ghost use Rattle.lt_merge.specs.Merging.{AreRising};
 ghost use Rattle.lt_journal.specs.RunLines.{text_of};
 ghost use Rattle.lt_spec.specs.declared.moves.TheConstants.{MAX_MOVES};
@@ -41,6 +41,7 @@ pub(crate) fn run_nodes<R: Threads + Sync, G: Gate>(
     gate: &G,
 ) -> Result<(Ending, Run), AllocError>
     requires kept { IsScript script.now }
+    requires short { IsShort script.now }
     requires moves { (0 < setup.moves) × (setup.moves ≤ MAX_MOVES) }
     requires capacity { (0 < setup.capacity) × (setup.capacity ≤ MAX_CAPACITY) }
     requires workers { (0 < setup.workers) × (setup.workers ≤ MAX_WORKERS) }
@@ -71,6 +72,7 @@ pub(crate) fn threads_journal<R: Threads + Sync, G: Gate>(
     gate: &G,
 ) -> Result<Made, AllocError>
     requires kept { IsScript script.now }
+    requires short { IsShort script.now }
     requires moves { (0 < setup.moves) × (setup.moves ≤ MAX_MOVES) }
     requires capacity { (0 < setup.capacity) × (setup.capacity ≤ MAX_CAPACITY) }
     requires workers { (0 < setup.workers) × (setup.workers ≤ MAX_WORKERS) }

@@ -15,7 +15,7 @@ use Rattle.lt_modes.specs.Serving.{waits}
 use Rattle.lt_modes.specs.SetMove.{finish, lock, try, unlock, change, drop, take}
 use Rattle.lt_modes.specs.Fits.{asks_here}
 use Rattle.lt_lists.specs.Below.{gather_below, any_below, put}
-use Rattle.lt_spec.specs.declared.limits.TheConstants.{MAX_COMMANDS, MAX_CLIENTS, MAX_CLIENTS_OF_NODE}
+use Rattle.lt_spec.specs.declared.limits.TheConstants.{MAX_COMMANDS_OF_SERVICE, MAX_CLIENTS, MAX_CLIENTS_OF_NODE}
 
 abbrev pub command_if : ℕ → ℕ × Command → Option Command
 command_if client request = if request.0 == client then Some request.1 else None
@@ -205,10 +205,10 @@ abbrev pub desk_within : ℕ → Option Desk → Bool
 desk_within clock None = true
 desk_within clock (Some desk) = nat_le desk.epoch clock && nat_le desk.number clock
 
--- no more locks of the set are held than a script has commands, and no more asks stand here than it has clients
+-- no more locks of the set are held than a service has commands, and no more asks stand here than it has clients
 abbrev pub set_within : ℕ → SetState → Bool
 set_within clock s =
-    nat_le (locks_in s.held) MAX_COMMANDS && (nat_le (length (asks_here s)) MAX_CLIENTS && desk_within clock s.desk)
+    nat_le (locks_in s.held) MAX_COMMANDS_OF_SERVICE && (nat_le (length (asks_here s)) MAX_CLIENTS && desk_within clock s.desk)
 
 -- so it is in each set of the script
 abbrev pub node_within : ScriptData → NodeState → Bool

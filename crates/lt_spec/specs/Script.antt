@@ -11,7 +11,7 @@ use Rattle.lt_modes.specs.FiveModes.{is_of_version}
 use Rattle.lt_spec.specs.Holdings.{lines_of, Holding, after_line}
 use Rattle.lt_spec.specs.World.{Logged, world_after, made_by, replies_of}
 use Rattle.lt_spec.specs.NodeMove.{commands_of}
-use Rattle.lt_spec.specs.declared.limits.TheConstants.{MAX_NAME, MAX_NODES, MAX_NODES_OF_FIRST, MAX_SETS, MAX_CLIENTS, MAX_CLIENTS_OF_FIRST, MAX_CLIENTS_OF_NODE, MAX_COMMANDS}
+use Rattle.lt_spec.specs.declared.limits.TheConstants.{MAX_NAME, MAX_NODES, MAX_NODES_OF_FIRST, MAX_SETS, MAX_CLIENTS, MAX_CLIENTS_OF_FIRST, MAX_CLIENTS_OF_NODE, MAX_COMMANDS, MAX_COMMANDS_OF_SERVICE}
 
 -- the line is one with which this command of the client is answered
 abbrev pub AnswersCommand : ℕ → Command → Event → Type 0
@@ -164,6 +164,10 @@ HasModesOf version (DropAll other set) = Unit {0}
 abbrev pub IsRequest : List SetData → List ClientData → ℕ × Command → Type 0
 IsRequest sets clients request = (request.0 < length clients) × HasTargets sets clients request.0 request.1
 
+-- the script has no more commands than a text may have
+abbrev pub IsShort : ScriptData → Type 0
+IsShort s = length s.commands ≤ MAX_COMMANDS
+
 -- the data is a script: it keeps the limits of its version, its names are names and all apart, so that each is found at its number,
 -- and its numbers are those of its nodes, sets and clients
 pub record IsScript (s : ScriptData) : Type 0 where
@@ -183,6 +187,6 @@ pub record IsScript (s : ScriptData) : Type 0 where
   pub clients_no_sets : (client : ℕ) → client < length s.clients → set_number s (client_name s client) ≡ None
   pub homes : (client : ℕ) → client < length s.clients → home_at s.clients client < s.nodes
   pub loads : (node : ℕ) → load_of s.clients node ≤ MAX_CLIENTS_OF_NODE
-  pub few_commands : length s.commands ≤ MAX_COMMANDS
+  pub few_commands : length s.commands ≤ MAX_COMMANDS_OF_SERVICE
   pub requests : All (IsRequest s.sets s.clients) s.commands
   pub modes : All (λ (request : ℕ × Command). HasModesOf s.version request.1) s.commands

@@ -16,8 +16,11 @@ pub const MAX_CLIENTS_OF_FIRST: u16 = 64;
 /// The most clients on one node.
 pub const MAX_CLIENTS_OF_NODE: u16 = 16;
 
-/// The most commands of a script, those of all clients together.
+/// The most commands that the text of a script has, those of all clients together.
 pub const MAX_COMMANDS: u32 = 4096;
+
+/// The most commands that a service is asked for in all its life, those of all clients together.
+pub const MAX_COMMANDS_OF_SERVICE: u64 = 1 << 59;
 
 /// The most bytes of a name.
 pub const MAX_NAME: usize = 32;

@@ -15,7 +15,7 @@ pub struct Summary {
     pub nodes: u8,
     pub sets: u8,
     pub clients: u16,
-    pub commands: u32,
+    pub commands: u64,
     /// How many locks are held at the end, those of all clients together.
     pub held: usize,
     /// How many clients wait at the end.

@@ -4,10 +4,10 @@ ghost use Rattle.lt_live.specs.Live.{LiveScript, EachStation, StationGoesOn, Eac
 ghost use Rattle.lt_live.specs.Words.{SameSession};
 
 use crate::telling::{holds, same};
-use lt_live::{Reply, Session, Station, finish, open, served};
+use lt_live::{FinishError, Reply, Session, Station, finish, most_share, open, served};
 use lt_modes::{Command, Mode};
 use lt_runner::{Open, Turned};
-use lt_script::{MAX_COMMANDS, Script, read};
+use lt_script::{MAX_COMMANDS, MAX_COMMANDS_OF_SERVICE, Script, read};
 use std::alloc::Global;
 use std::test::Fail;
 
@@ -50,7 +50,8 @@ fn first_client(alloc: Global, text: &str, capacity: u32) -> Result<(Station, Se
     if script.clients() == 0 {
         return Err(Fail::from("no client"));
     }
-    let (mut stations, mut sessions) = open(alloc, &script, 10, capacity)?;
+    let share = most_share(&script);
+    let (mut stations, mut sessions) = open(alloc, &script, 10, capacity, share)?;
     let station = stations.remove(usize::from(script.home(0)));
     Ok((station, sessions.remove(0)))
 }
@@ -79,7 +80,7 @@ fn a_full_ring_gives_the_command_back(rt: HostRuntime) -> Result<(), Fail> {
     same(
         &rt,
         (session.left(), station.script().commands()),
-        (MAX_COMMANDS - 2, 2),
+        (MAX_COMMANDS_OF_SERVICE - 2, 2),
     );
     Ok(())
 }
@@ -92,7 +93,7 @@ fn a_reply_is_told_though_its_move_is_forgotten(rt: HostRuntime) -> Result<(), F
     same(&rt, station.turn(&Open), Turned::Moved);
     same(&rt, submit(&mut session, UNLOCK)?, Ok(()));
     same(&rt, station.turn(&Open), Turned::Moved);
-    station.forget_moves(rt.alloc())?;
+    station.forget_moves()?;
     station.forget_commands(rt.alloc())?;
     same(&rt, submit(&mut session, LOCK)?, Ok(()));
     same(&rt, session.poll(), Some(Reply::Granted));
@@ -111,7 +112,8 @@ fn a_reply_is_told_though_its_move_is_forgotten(rt: HostRuntime) -> Result<(), F
 #[test]
 fn an_ask_goes_to_the_other_node(rt: HostRuntime) -> Result<(), Fail> {
     let script = script_of(rt.alloc(), TWO_NODES)?;
-    let (mut stations, mut sessions) = open(rt.alloc(), &script, 10, 1)?;
+    let share = most_share(&script);
+    let (mut stations, mut sessions) = open(rt.alloc(), &script, 10, 1, share)?;
     holds(&rt, stations.len() == 2);
     holds(&rt, sessions.len() == 1);
     let mut session = sessions.remove(0);
@@ -133,7 +135,8 @@ fn live(alloc: Global, text: &str) -> Result<(Vec<Station>, Vec<Session>), Fail>
     ensures { IfOk result (λ opened. LiveScript opened.0.items opened.1.items) }
 {
     let script = script_of(alloc, text)?;
-    let opened = open(alloc, &script, 10, 1)?;
+    let share = most_share(&script);
+    let opened = open(alloc, &script, 10_000, 1, share)?;
     Ok(opened)
 }
 
@@ -186,5 +189,23 @@ fn the_service_goes_on_once_all_were_served(rt: HostRuntime) -> Result<(), Fail>
     served(&mut stations, &mut sessions);
     let (script, run) = finish(rt.alloc(), stations, sessions)?;
     same(&rt, (script.commands(), run.len()), (2, 2));
+    Ok(())
+}
+
+// The first client submits one command more than the text of a script may have, and each is made.
+#[test]
+fn more_commands_than_a_text_has_are_made(rt: HostRuntime) -> Result<(), Fail> {
+    let (mut stations, mut sessions) = live(rt.alloc(), ONE_CLIENT)?;
+    for turn in 0..=MAX_COMMANDS {
+        let (command, reply) = if turn % 2 == 0 {
+            (LOCK, Reply::Granted)
+        } else {
+            (UNLOCK, Reply::Unlocked)
+        };
+        let told = exchange(&mut stations, &mut sessions, command)?;
+        same(&rt, told, Some(reply));
+    }
+    let refused = finish(rt.alloc(), stations, sessions).err();
+    same(&rt, refused, Some(FinishError::TooMany));
     Ok(())
 }

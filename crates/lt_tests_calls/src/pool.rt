@@ -1,7 +1,7 @@
 // Stations in a pool, as workers share them.
 use crate::live::{LOCK, TWO_NODES, script_of, submit};
 use crate::telling::{holds, same};
-use lt_live::{Reply, open, visit};
+use lt_live::{Reply, most_share, open, visit};
 use lt_pool::Pool;
 use lt_runner::{Open, Turned};
 use std::test::Fail;
@@ -9,7 +9,8 @@ use std::test::Fail;
 #[test]
 fn workers_visit_stations(rt: HostRuntime) -> Result<(), Fail> {
     let script = script_of(rt.alloc(), TWO_NODES)?;
-    let (stations, mut sessions) = open(rt.alloc(), &script, 10, 1)?;
+    let share = most_share(&script);
+    let (stations, mut sessions) = open(rt.alloc(), &script, 10, 1, share)?;
     holds(&rt, stations.len() == 2);
     holds(&rt, sessions.len() == 1);
     let mut session = sessions.remove(0);

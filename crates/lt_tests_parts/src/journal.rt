@@ -1,10 +1,9 @@
-use crate::telling::{holds, same};
+use crate::telling::same;
 use lt_journal::write;
 use lt_merge::Run;
 use lt_modes::{Event, Mode, ModeSet, Move, Stamp, Step};
 use lt_script::Script;
 use std::alloc::{AllocError, Global};
-use std::process::Abort;
 use std::test::Fail;
 
 const A: u16 = 0;
@@ -29,15 +28,7 @@ fn script(alloc: Global) -> Result<Script, AllocError> {
 }
 
 // Adds a move with one event.
-fn add(
-    rt: &impl Abort,
-    run: &mut Run,
-    clock: u64,
-    node: u8,
-    step: Step,
-    event: Event,
-) -> Result<(), AllocError> {
-    holds(rt, run.len() < 100);
+fn add(run: &mut Run, clock: u64, node: u8, step: Step, event: Event) -> Result<(), AllocError> {
     run.reserve(1)?;
     run.push(Move {
         stamp: Stamp { clock, node },
@@ -81,7 +72,7 @@ fn change(client: u16, set: u8, gives_up: Mode, mode: Mode) -> Event {
     }
 }
 
-fn drop_all(client: u16, other: u16, set: u8, count: u32) -> Event {
+fn drop_all(client: u16, other: u16, set: u8, count: u64) -> Event {
     Event::DropAll {
         client,
         other,
@@ -175,7 +166,7 @@ fn writes_a_run_at_rest(rt: HostRuntime) -> Result<(), Fail> {
     ];
     let mut run = Run::new(rt.alloc());
     for (clock, node, step, event) in moves {
-        add(&rt, &mut run, clock, node, step, event)?;
+        add(&mut run, clock, node, step, event)?;
     }
     let text = write(rt.alloc(), &script(rt.alloc())?, &run, None)?;
     same(&rt, text.as_slice(), TEXT.as_bytes());
@@ -186,9 +177,8 @@ fn writes_a_run_at_rest(rt: HostRuntime) -> Result<(), Fail> {
 fn writes_a_run_that_was_cut(rt: HostRuntime) -> Result<(), Fail> {
     let modes = ModeSet::one(Mode::Write).with(Mode::IntentionRead);
     let mut run = Run::new(rt.alloc());
-    add(&rt, &mut run, 1, 0, Step::Act(A), freeze(S, 1, 1, modes))?;
+    add(&mut run, 1, 0, Step::Act(A), freeze(S, 1, 1, modes))?;
     add(
-        &rt,
         &mut run,
         2,
         0,

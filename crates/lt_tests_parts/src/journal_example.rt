@@ -174,12 +174,10 @@ fn add_line(run: &mut Run, line: Line) -> Result<(), AllocError> {
     run.reserve(1)?;
     match line {
         Line::Move { clock, node, step } => {
-            if run.len() < 1000 {
-                run.push(Move {
-                    stamp: Stamp { clock, node },
-                    step,
-                });
-            }
+            run.push(Move {
+                stamp: Stamp { clock, node },
+                step,
+            });
         }
         Line::Event(event) => {
             if run.len() > 0 {

@@ -23,7 +23,7 @@ fn reads_closing_lines(rt: HostRuntime) -> Result<(), Fail> {
         client: 3,
         set: 0,
         mode: Mode::Write,
-        count: 4294967295,
+        count: 18_446_744_073_709_551_615,
     };
     let waiting = Line::Waiting {
         client: 0,
@@ -31,7 +31,7 @@ fn reads_closing_lines(rt: HostRuntime) -> Result<(), Fail> {
         mode: Mode::Read,
     };
     let cases = [
-        ("held d s write 4294967295", held),
+        ("held d s write 18446744073709551615", held),
         ("waiting a s read\r\n", waiting),
         ("cut 2", Line::Cut { node: 2 }),
     ];
@@ -51,7 +51,7 @@ fn takes_no_other_line(rt: HostRuntime) -> Result<(), Fail> {
         "",
         "end",
         "end 01",
-        "end 4294967296",
+        "end 18446744073709551616",
         "end 1 ",
         " end 1",
         "end  1",

@@ -24,7 +24,7 @@ fn moves_behind_forgotten_ones_are_kept(rt: HostRuntime) -> Result<(), Fail> {
     log.reserve(1)?;
     log.push(made(1));
     log.add_event(grant());
-    log.forget(rt.alloc());
+    log.forget();
     log.reserve(2)?;
     log.push(made(2));
     log.add_event(grant());

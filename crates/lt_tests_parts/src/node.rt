@@ -7,7 +7,7 @@ use lt_core::Answer;
 use lt_desk::{Letter, Out};
 use lt_modes::{Command, Event, Mode};
 use lt_node::Node;
-use lt_script::{MAX_COMMANDS, Script};
+use lt_script::{MAX_COMMANDS_OF_SERVICE, Script};
 use std::alloc::{AllocError, Global};
 use std::process::Abort;
 use std::test::Fail;
@@ -149,7 +149,10 @@ fn one_node(alloc: Global) -> Result<Script, AllocError> {
 // The client of the node is then to unlock what it locks.
 fn append_unlock(node: &mut Node, client: u16) -> Result<bool, AllocError> {
     let (set, mode) = (0, Mode::Write);
-    if node.script().sets() == 0 || node.commands() >= MAX_COMMANDS || !is_own(node, client) {
+    if node.script().sets() == 0
+        || node.commands() >= MAX_COMMANDS_OF_SERVICE
+        || !is_own(node, client)
+    {
         return Ok(false);
     }
     node.append(client, Command::Unlock { set, mode })?;
@@ -191,7 +194,7 @@ fn a_node_tells_who_waits(rt: HostRuntime) -> Result<(), Fail> {
 }
 
 // How many commands the client made, where it is one of the node's.
-fn made(node: &Node, client: u16) -> Option<u32> {
+fn made(node: &Node, client: u16) -> Option<u64> {
     if !is_own(node, client) {
         return None;
     }

@@ -14,8 +14,12 @@ fn writes_a_number(rt: HostRuntime) -> Result<(), Fail> {
 fn reads_numbers(rt: HostRuntime) -> Result<(), Fail> {
     same(&rt, number("000000016".as_bytes()), Some(16));
     same(&rt, number("0000000016".as_bytes()), None);
-    same(&rt, exact_number("4294967295".as_bytes()), Some(4294967295));
-    same(&rt, exact_number("4294967296".as_bytes()), None);
+    same(
+        &rt,
+        exact_number("18446744073709551615".as_bytes()),
+        Some(18_446_744_073_709_551_615),
+    );
+    same(&rt, exact_number("18446744073709551616".as_bytes()), None);
     same(&rt, exact_number("016".as_bytes()), None);
     Ok(())
 }

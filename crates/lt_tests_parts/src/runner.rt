@@ -1,13 +1,13 @@
 ghost use Rattle.std.specs.Prelude.{◌<◌, ◌≤◌, IfOk};
-ghost use Rattle.lt_spec.specs.declared.moves.TheConstants.{MAX_MOVES};
+ghost use Rattle.lt_spec.specs.declared.moves.TheConstants.{MAX_MOVES_OF_SERVICE};
 ghost use Rattle.lt_runner.specs.Kept.{AreBeside};
 
 use crate::telling::{holds, same};
 use lt_mail::open;
 use lt_modes::{Command, Mode};
 use lt_runner::{Choice, Found, Gate, Runner, Turned, Worked, all_at_once};
-use lt_script::{MAX_COMMANDS, Script, read};
-use lt_spec::MAX_MOVES;
+use lt_script::{MAX_COMMANDS_OF_SERVICE, Script, read};
+use lt_spec::MAX_MOVES_OF_SERVICE;
 use std::alloc::{AllocError, Global};
 use std::sync::atomic::{AtomicU64, Ordering};
 use std::test::Fail;
@@ -27,7 +27,7 @@ client a at 1\n\
 a lock s write\n";
 
 // A patience, how many moves the node may make, how its work ends, and how many moves it makes.
-const WORK: [(u32, u32, Worked, u32); 4] = [
+const WORK: [(u32, u64, Worked, u64); 4] = [
     (0, 1_000, Worked::Idle, 0),
     (1, 1_000, Worked::Idle, 2),
     (3, 2, Worked::Idle, 2),
@@ -70,8 +70,8 @@ fn script_of(alloc: Global, text: &str) -> Result<Script, Fail> {
 
 // The runner of node 0.
 #[tactic(auto, using(lt_mail::proofs::FlushLemmas::first_fresh))]
-fn first_runner(alloc: Global, script: &Script, limit: u32) -> Result<Runner, Fail>
-    requires { (0 < limit) × (limit ≤ MAX_MOVES) }
+fn first_runner(alloc: Global, script: &Script, limit: u64) -> Result<Runner, Fail>
+    requires { (0 < limit) × (limit ≤ MAX_MOVES_OF_SERVICE) }
 {
     let mut mails = open(alloc, script.nodes(), 1)?;
     let mail = mails.remove(0);
@@ -107,12 +107,12 @@ fn turn_and_meet(first: &mut Runner, second: &mut Runner, gate: &Counter) -> Tur
 fn work_ends(rt: HostRuntime) -> Result<(), Fail> {
     let script = script_of(rt.alloc(), ONE_NODE)?;
     for (patience, limit, ends, moves) in WORK {
-        holds(&rt, 0 < limit && limit <= MAX_MOVES);
+        holds(&rt, 0 < limit && limit <= MAX_MOVES_OF_SERVICE);
         let mut runner = first_runner(rt.alloc(), &script, limit)?;
         let gate = Counter::new();
         same(&rt, runner.work(patience, &gate), ends);
-        same(&rt, runner.moves(), u64::from(moves));
-        same(&rt, gate.count(), u64::from(moves));
+        same(&rt, runner.moves(), moves);
+        same(&rt, gate.count(), moves);
     }
     Ok(())
 }
@@ -154,7 +154,7 @@ fn append_unlock(runner: &mut Runner, client: u16) -> Result<bool, AllocError> {
     let (set, mode) = (0, Mode::Write);
     let script = runner.script();
     if script.sets() == 0
-        || runner.commands() >= MAX_COMMANDS
+        || runner.commands() >= MAX_COMMANDS_OF_SERVICE
         || client >= script.clients()
         || script.home(client) != runner.me()
     {
@@ -172,7 +172,7 @@ fn an_appended_command_is_made(rt: HostRuntime) -> Result<(), Fail> {
     same(&rt, runner.work(1, &gate), Worked::Idle);
     same(&rt, runner.log().len(), 2);
     holds(&rt, runner.has_all());
-    runner.forget_moves(rt.alloc());
+    runner.forget_moves();
     runner.forget_commands(rt.alloc())?;
     holds(&rt, !runner.has_all());
     same(&rt, append_unlock(&mut runner, 0), Ok(true));

@@ -88,7 +88,7 @@ fn tells_long_lines(rt: HostRuntime) -> Result<(), Fail> {
 #[test]
 fn tells_one_client_too_many(rt: HostRuntime) -> Result<(), Fail> {
     let mut text = Vec::from_slice(rt.alloc(), b"nodes 16\n")?;
-    for client in 0..=u32::from(MAX_CLIENTS_OF_FIRST) {
+    for client in 0..=u64::from(MAX_CLIENTS_OF_FIRST) {
         text.extend_from_slice(b"client c")?;
         push_number(&mut text, client)?;
         text.extend_from_slice(b" at ")?;

@@ -1,7 +1,7 @@
 use crate::telling::{holds, same, same_in};
 use lt_runner::Open;
 use lt_script::{Script, read};
-use lt_spec::{Ending, MAX_MOVES};
+use lt_spec::{Ending, MAX_MOVES, MAX_MOVES_OF_SERVICE};
 use lt_threads::{
     Ended, any_enabled, anyone_waits, finish, run_on_threads, run_rounds, start_crew,
 };
@@ -40,7 +40,7 @@ a lock s write\n\
 b lock s write\n";
 
 // How many moves a node may make, how the rounds end, and how many moves the nodes have made. The caller makes all moves.
-const ROUNDS: [(u32, Ended, u32, u32); 2] = [(1_000, Ended::Rest, 2, 1), (1, Ended::Cut(0), 1, 1)];
+const ROUNDS: [(u64, Ended, u32, u32); 2] = [(1_000, Ended::Rest, 2, 1), (1, Ended::Cut(0), 1, 1)];
 
 fn script_of(alloc: Global, text: &str) -> Result<Script, Fail> {
     if text.len() > 65_536 {
@@ -68,7 +68,7 @@ fn runs_end(rt: HostRuntime) -> Result<(), Fail> {
 fn rounds_end(rt: HostRuntime) -> Result<(), Fail> {
     let script = script_of(rt.alloc(), TWO_NODES)?;
     for (limit, ended, first, second) in ROUNDS {
-        holds(&rt, 0 < limit && limit <= MAX_MOVES);
+        holds(&rt, 0 < limit && limit <= MAX_MOVES_OF_SERVICE);
         let mut runners = start_crew(rt.alloc(), &script, 1, limit)?;
         same(&rt, any_enabled(&script, &mut runners), Some(0));
         holds(&rt, !anyone_waits(&script, &mut runners));

@@ -58,23 +58,21 @@ no_leading_zero (suc n) fits =
     and_false true = refl
     and_false false = refl
 
-pub exact_number_decimal : (n : ℕ) → n < 2 ^ 32 → exact_number (decimal n) ≡ Some n
-exact_number_decimal n small =
-    let fits : n < 2 ^ 64 = omega arith in
+pub exact_number_decimal : (n : ℕ) → n < 2 ^ 64 → exact_number (decimal n) ≡ Some n
+exact_number_decimal n fits =
     rw (
       lt-ltb 0 (length (decimal n)) (decimal_nonempty n fits),
-      le-leb (length (decimal n)) 10 (length-decimal-le 10 n (omega arith) (omega arith) fits),
+      le-leb (length (decimal n)) 20 (length-decimal-le 20 n (omega arith) (omega arith) fits),
       digits_decimal own n fits,
       no_leading_zero n fits,
       digits_value-decimal own n fits,
-      lt-ltb n (2 ^ 32) small,
+      lt-ltb n (2 ^ 64) fits,
     )
 
 -- digits without a leading zero are those of the number that they write
-pub decimal_value : (word : List ℕ) → (length word == 0) ≡ false → length word ≤ 10 → are_digits word ≡ true → has_leading_zero word ≡ false → word ≡ decimal (digits_value 10 word)
-decimal_value word some few digits none =
-    let value : digits_value 10 word < 10 ^ 10 = few_digits word 10 digits few in
-    sym (decimal-digits_value own word digits (filled word some) (leading word none) (omega arith))
+pub decimal_value : (word : List ℕ) → (length word == 0) ≡ false → length word ≤ 20 → are_digits word ≡ true → has_leading_zero word ≡ false → digits_value 10 word < 2 ^ 64 → word ≡ decimal (digits_value 10 word)
+decimal_value word some few digits none small =
+    sym (decimal-digits_value own word digits (filled word some) (leading word none) small)
   where
     filled : (word : List ℕ) → (length word == 0) ≡ false → 0 < length word
     filled [] e = absurd (cc)

@@ -19,7 +19,7 @@ has_leading_zero word = nat_lt 1 (length word) && slice_index word 0 == 48
 abbrev pub number : List ℕ → Option ℕ
 number word = if is_numeral word 9 then Some (digits_value 10 word) else None
 
--- the number below 2 ^ 32 that digits with no leading zero write
+-- the number below 2 ^ 64 that digits with no leading zero write
 abbrev pub exact_number : List ℕ → Option ℕ
 exact_number word =
-    if is_numeral word 10 && not (has_leading_zero word) && nat_lt (digits_value 10 word) (2 ^ 32) then Some (digits_value 10 word) else None
+    if is_numeral word 20 && not (has_leading_zero word) && nat_lt (digits_value 10 word) (2 ^ 64) then Some (digits_value 10 word) else None

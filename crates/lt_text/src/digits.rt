@@ -16,23 +16,23 @@ pub fn number(word: &[u8]) -> Option<u32>
     Some(value(word) as u32)
 }
 
-/// The number below 2^32 that decimal digits without a leading zero write.
-pub fn exact_number(word: &[u8]) -> Option<u32>
+/// The number below 2^64 that decimal digits without a leading zero write.
+pub fn exact_number(word: &[u8]) -> Option<u64>
     ensures number { result ≡ exact_number word.now }
     ensures found { IfSome result (λ number. word.now ≡ decimal number) }
 {
-    if word.is_empty() || word.len() > 10 || !are_digits(word) || has_leading_zero(word) {
+    if word.is_empty() || word.len() > 20 || !are_digits(word) || has_leading_zero(word) {
         return None;
     }
     let value = value(word);
-    if value > u64::from(u32::MAX) {
+    if value > u128::from(u64::MAX) {
         return None;
     }
-    Some(value as u32)
+    Some(value as u64)
 }
 
 /// Writes the number in decimal digits without leading zeros.
-pub fn push_number(out: &mut Vec<u8>, number: u32) -> Result<(), AllocError>
+pub fn push_number(out: &mut Vec<u8>, number: u64) -> Result<(), AllocError>
     ensures written { OnOk result (out.new.items ≡ out.old.items ++ decimal number) }
     ensures unchanged { OnErr result (out.new.items ≡ out.old.items) }
     ensures full { OnErr result (vec_capacity out.old < vec_len out.old + length (decimal number)) }
@@ -41,15 +41,15 @@ pub fn push_number(out: &mut Vec<u8>, number: u32) -> Result<(), AllocError>
     out.extend_from_slice(digits.format(number).as_bytes())
 }
 
-// The number that at most 10 digits write.
-fn value(word: &[u8]) -> u64
+// The number that at most 20 digits write.
+fn value(word: &[u8]) -> u128
     requires digits { are_digits word.now ≡ true }
-    requires few { length word.now ≤ 10 }
+    requires few { length word.now ≤ 20 }
     ensures value { result ≡ digits_value 10 word.now }
 {
-    let mut value: u64 = 0;
+    let mut value: u128 = 0;
     for digit in word {
-        value = value * 10 + u64::from(*digit - b'0');
+        value = value * 10 + u128::from(*digit - b'0');
     }
     value
 }

@@ -26,7 +26,7 @@ pub fn law_number()
     ensures { (n : ℕ) → n < 10 ^ 9 → number (decimal n) ≡ Some n }
 {}
 
-/// A number below 2^32 that is written is read back.
+/// A number below 2^64 that is written is read back.
 pub fn law_exact_number()
-    ensures { (n : ℕ) → n < 2 ^ 32 → exact_number (decimal n) ≡ Some n }
+    ensures { (n : ℕ) → n < 2 ^ 64 → exact_number (decimal n) ≡ Some n }
 {}

@@ -1,19 +1,15 @@
 -- The least node that can make a move, as its runner shows it.
-use Rattle.std.proofs.Common.{◌≡◌, ◌<◌, ◌≤◌, ◌+◌, ℕ, inl, inr, List, get_or, Option, Some, None, true, false, length, sym, ap, subst, arith, ◌∙◌, refl, map, zero, suc, [], ◌∷◌, ◌++◌, slice_get, sum_by, option_map, remove, length-append, append_assoc}
+use Rattle.std.proofs.Common.{◌≡◌, ◌<◌, ◌≤◌, ◌+◌, ℕ, inl, inr, List, get_or, Option, Some, None, true, false, length, sym, ap, subst, arith, ◌∙◌, refl, map, [], ◌∷◌, ◌++◌, slice_get, option_map, remove, append_assoc}
 use Rattle.std.proofs.lemmas.Bool.{cases_eq}
 use Rattle.std.proofs.lemmas.Option.{slice_get_cases, slice_get-get_or, slice_get_within, slice_get-map}
 use Rattle.std.proofs.Math.Path.{fun_ext}
-use Rattle.std.proofs.lemmas.List.Sums.{sum_by-cons}
 use Rattle.std.proofs.lemmas.List.{map-append}
 use Rattle.lt_modes.specs.Script.{ScriptData}
-use Rattle.lt_lists.specs.Below.{sum_below}
-use Rattle.lt_spec.specs.declared.moves.TheConstants.{MAX_MOVES}
+use Rattle.lt_spec.specs.declared.moves.TheConstants.{MAX_MOVES_OF_SERVICE}
 use Rattle.lt_spec.specs.World.{can_move, Logged}
-use Rattle.lt_merge.specs.Merging.{RunData, all_entries}
+use Rattle.lt_merge.specs.Merging.{RunData}
 use Rattle.lt_law_plays.specs.Merged.{merged, Part, part_or, logs_of, part_at}
 use Rattle.lt_law_plays.proofs.MergedLogs.{merged_is_one}
-use Rattle.lt_law_plays.proofs.PlayLemmas.{joined_are_plays}
-use Rattle.lt_law_ends.proofs.Short.{plays_are_short}
 use Rattle.lt_law_merged.specs.States.{RestIsNoMove}
 use Rattle.lt_law_merged.proofs.PartLogs.{joined_merges, part_is, logs_of_parts}
 use Rattle.lt_mail.specs.Words.{Alike}
@@ -44,7 +40,7 @@ crew_last script old new same crew = record {
         let before = crew.each k was.0 was.1 in record {
           script_is = same_before k was.0.node.script p.node.script script is.script before.script_is;
           me = is.me ∙ before.me;
-          limit = subst (λ (n : ℕ). n ≤ MAX_MOVES) (sym is.limit) before.limit;
+          limit = subst (λ (n : ℕ). n ≤ MAX_MOVES_OF_SERVICE) (sym is.limit) before.limit;
         }
 
 -- a crew whose runners looked twice is that crew
@@ -120,58 +116,13 @@ part_logs : (rs : List Parts) → map (λ (part : Part). part.log) (map part_of 
 part_logs [] = refl
 part_logs (p ∷ rs) = ap (λ (logs : List (List Logged)). p.log.entries ∷ logs) (part_logs rs)
 
-heads : {X : Type 0} {x y : X} {xs ys : List X} → x ∷ xs ≡ y ∷ ys → (x ≡ y) × (xs ≡ ys)
-heads e = (cc, cc)
-
--- the entries of all logs are those of the crew
-crew_entries : (rs : List Parts) (logs : List RunData) → map run_entries logs ≡ map log_of rs
-    → length (all_entries logs) ≡ sum_by (λ (part : Part). length part.log) (map part_of rs)
-crew_entries [] [] e = refl
-crew_entries [] (log ∷ logs) e = absurd (cc)
-crew_entries (p ∷ rs) [] e = absurd (cc)
-crew_entries (p ∷ rs) (log ∷ logs) e =
-    let both = heads e in
-    omega (
-      arith,
-      crew_entries rs logs both.1,
-      ap length both.0,
-      length-append log.entries (all_entries logs),
-      sum_by-cons (λ (part : Part). length part.log) (part_of p) (map part_of rs),
-    )
-
--- a sum without its first term
-sum_rest : (n : ℕ) (f : ℕ → ℕ) → sum_below (suc n) f ≡ f 0 + sum_below n (λ k. f (suc k))
-sum_rest zero f = omega arith
-sum_rest (suc n) f = omega (arith, sum_rest n f)
-
--- what the parts logged, by their places
-places_sum : (parts : List Part) (at : ℕ → Part) → ((k : ℕ) (part : Part) → slice_get parts k ≡ Some part → at k ≡ part)
-    → sum_below (length parts) (λ k. length (at k).log) ≡ sum_by (λ (part : Part). length part.log) parts
-places_sum [] at is = refl
-places_sum (part ∷ rest) at is =
-    let more = places_sum rest (λ k. at (suc k)) (λ k p e. is (suc k) p e) in
-    omega (
-      arith,
-      sum_rest (length rest) (λ k. length (at k).log),
-      more,
-      ap (λ (p : Part). length p.log) (is 0 part refl),
-      sum_by-cons (λ (p : Part). length p.log) part rest,
-    )
-
 pub crew_logs : (script : ScriptData) (old rs : List Parts) (logs : List RunData) → IsCrew script old → EachIs AsSeen old rs → AreMet AnyTwo rs → AreKept rs
     → map run_entries logs ≡ map log_of rs → AreCrewLogs script old logs
 crew_logs script old rs logs was seen met kept same =
     let crew = crew_last script old rs (each_weaker AsSeen SameRunner (λ a b s. s.same) old rs seen) was in
     let plays = joined script rs crew kept met in
-    let of_parts = logs_of_parts script (map part_of rs) logs plays (same ∙ sym (part_logs rs)) in
-    let short = (plays_are_short script (logs_of script (map part_of rs)) crew.is_script (joined_are_plays script (map part_of rs) plays)).0 in
-    let places = places_sum (map part_of rs) (part_at script (map part_of rs)) (λ k part e. part_is script (map part_of rs) k part e) in
-    let count : length (map part_of rs) ≡ script.nodes = plays.count in
-    let same_sum : sum_below (length (map part_of rs)) (λ k. length (part_at script (map part_of rs) k).log)
-    ≡ sum_below script.nodes (λ k. length (part_at script (map part_of rs) k).log) =
-    ap (λ (n : ℕ). sum_below n (λ k. length (part_at script (map part_of rs) k).log)) count in record {
+    let of_parts = logs_of_parts script (map part_of rs) logs plays (same ∙ sym (part_logs rs)) in record {
       are_logs = of_parts.are_logs;
-      few = omega (arith, short, places, same_sum, crew_entries rs logs same);
       is_run = λ run merges. (of_parts.runs run merges).is_run;
       is_crew_run = λ run merges.
           merged_is_one (logs_of script (map part_of rs)).log run (merged script.nodes (logs_of script (map part_of rs)).log)

@@ -65,8 +65,8 @@ same_in_joined script rs h k p here =
         subst (λ (o : Option Parts). AreAt script q (commands_or o)) (sym there) (h.each q x there).own
 
 pub joined_crew : (script made : ScriptData) (rs : List Parts) → AreShares script rs → made ≡ with_commands script (commands_in rs) → IsScript made
-    → IsJoined rs made
-joined_crew script made rs h e is_script = record {
+    → length (commands_in rs) ≤ MAX_COMMANDS → IsJoined rs made
+joined_crew script made rs h e is_script few = record {
   crew = record {
     is_script = is_script;
     count = h.count ∙ sym (ap (λ (s : ScriptData). s.nodes) e);
@@ -78,6 +78,7 @@ joined_crew script made rs h e is_script = record {
     links = h.links;
   };
   commands = ap (λ (s : ScriptData). s.commands) e;
+  short = omega (arith, few, ap (λ (s : ScriptData). length s.commands) e);
 }
 
 -- the commands of the first k runners, and then those of the next one
@@ -149,19 +150,19 @@ by_clients : (rs : List Parts) (script : ScriptData) → AreScripts rs → AreSh
 by_clients rs script scripts h = counted (length script.clients) (commands_in rs) (in_range (length script.clients) rs
     (λ k p here. (scripts k p here, ap (λ (s : ScriptData). length s.clients) (h.each k p here).script_is)))
 
--- more commands than a script may have are also more where they are counted by clients
+-- more commands than a text may have are also more where they are counted by clients
 pub too_many : (rs : List Parts) → AreScripts rs → MAX_COMMANDS < length (commands_in rs) → AreTooMany rs
 too_many rs scripts many script h = let all = by_clients rs script scripts h in omega (arith, many, all)
 
--- and where they are more so, a script may not have them
+-- and where they are more so, a text may not have them
 pub many : (rs : List Parts) → AreScripts rs → ShareScript rs → AreTooMany rs → MAX_COMMANDS < length (commands_in rs)
 many rs scripts shares too_many =
     let all = by_clients rs shares.0 scripts shares.1 in let more = too_many shares.0 shares.1 in omega (arith, more, all)
 
 -- what is joined, and why not
-pub joined_all : (rs : List Parts) (made : ScriptData) → ShareScript rs → IsScript made
+pub joined_all : (rs : List Parts) (made : ScriptData) → ShareScript rs → IsScript made → length (commands_in rs) ≤ MAX_COMMANDS
     → ((script : ScriptData) → AreShares script rs → made ≡ with_commands script (commands_in rs)) → IsJoined rs made
-joined_all rs made shares is_script is = joined_crew shares.0 made rs shares.1 (is shares.0 shares.1) is_script
+joined_all rs made shares is_script few is = joined_crew shares.0 made rs shares.1 (is shares.0 shares.1) is_script few
 
 pub shared_run : (rs : List Parts) (script : ScriptData) (logs : List RunData) (run : List Logged) → IsJoined rs script → AreCrewLogs script rs logs → Merges logs run
     → IsSharedRun rs script run

@@ -13,8 +13,9 @@ use Rattle.lt_spec.specs.NodeMove.{home, NodeState, node_waits, with_commands, S
 use Rattle.lt_spec.specs.FixedOrder.{can_act}
 use Rattle.lt_spec.specs.World.{is_some_letter, has_mail, can_move, is_waiting}
 use Rattle.lt_script.proofs.NameLemmas.{element_at}
-use Rattle.lt_law_plays.specs.Merged.{Joined}
+use Rattle.lt_law_plays.specs.Merged.{Part, Joined}
 use Rattle.lt_law_merged.specs.JoinedRun.{IsJoinedRun}
+use Rattle.lt_law_merged.specs.States.{FewMoves}
 use Rattle.lt_law_merged.proofs.PartLogs.{joined_merges, can_move_is_seen, states_within, asks_have_place, clocks_below, letters_left_fit}
 use Rattle.lt_desk.specs.LetterSeen.{letter_seen}
 use Rattle.lt_core.specs.declared.fits.TheConstants.{LAST_CLOCK}
@@ -26,7 +27,7 @@ use Rattle.lt_runner.specs.Choices.{least_below, may_act, may_take, act_of, act_
 use Rattle.lt_runner.specs.declared.parts.Parts.{Parts}
 use Rattle.lt_runner.specs.Kept.{in_hand, IsFromPeer, HasFetched, is_move}
 use Rattle.lt_threads.specs.Meeting.{part_of, crew_run, crew_world, IsCrew, AreKept, AreMet, AnyTwo}
-use Rattle.lt_threads.proofs.Joined.{left_for, left_is, joined}
+use Rattle.lt_threads.proofs.Joined.{left_for, left_is, part_from, joined}
 
 pub same_itself : (k : ℕ) (script : ScriptData) → SameAt k script script
 same_itself k script = record { rest = refl; own = λ client at. refl }
@@ -111,24 +112,31 @@ least_some (suc n) test h = by_test (any_below n test) (test n) refl refl h (lea
 pub part_here : (rs : List Parts) (k : ℕ) (p : Parts) → slice_get rs k ≡ Some p → slice_get (map part_of rs) k ≡ Some (part_of p)
 part_here rs k p e = slice_get-map part_of rs k ∙ ap (option_map part_of) e
 
+-- no node made more moves than one of a service may
+pub few_moves : (script : ScriptData) (rs : List Parts) → IsCrew script rs → AreKept rs → FewMoves (map part_of rs)
+few_moves script rs crew kept k part e =
+    let (p, here, same) = part_from rs k part e in
+    omega (arith, (kept k p here).bounded, (crew.each k p here).limit, ap (λ (x : Part). length x.log) same)
+
 -- what is known of the runner of node k
 record Seen (script : ScriptData) (rs : List Parts) (k : ℕ) (p : Parts) : Type 0 where
   met_crew : CrewMet script rs
   here : slice_get rs k ≡ Some p
   plays : Joined script (map part_of rs)
+  few : FewMoves (map part_of rs)
   run : IsJoinedRun script (map part_of rs) (crew_run script rs)
 
 seen_at : (script : ScriptData) (rs : List Parts) (k : ℕ) (p : Parts) → CrewMet script rs → slice_get rs k ≡ Some p → Seen script rs k p
 seen_at script rs k p s here =
     let plays = joined script rs s.crew s.kept s.met in
-    record { met_crew = s; here = here; plays = plays; run = joined_merges script (map part_of rs) plays }
+    record { met_crew = s; here = here; plays = plays; few = few_moves script rs s.crew s.kept; run = joined_merges script (map part_of rs) plays }
 
 -- the node has no clock at its bound, and keeps what leaves room
 may_move_is : (script : ScriptData) (rs : List Parts) (k : ℕ) (p : Parts) → Seen script rs k p → may_move script (state_of p.node) ≡ true
 may_move_is script rs k p seen =
     let is_script = seen.met_crew.crew.is_script in
     let part = part_here rs k p seen.here in
-    let low = clocks_below script (map part_of rs) is_script seen.plays k (part_of p) part in
+    let low = clocks_below script (map part_of rs) is_script seen.plays seen.few k (part_of p) part in
     and_from _ _ (lt-ltb p.node.clock LAST_CLOCK (omega (arith, low))) (states_within script (map part_of rs) is_script seen.plays k (part_of p) part)
 
 -- the letters on their way to node k in the world of the crew
@@ -159,7 +167,7 @@ takes_hand script rs k p seen hand e =
     let first : Contains (left_for hand.from k x p) (letter_seen hand.letter) =
     subst (λ (letters : List Letter). Contains letters (letter_seen hand.letter)) (sym left)
     (contains_first (letter_seen hand.letter) (letter_seen hand.letter) (known_from p.mail hand.from ++ waiting_to x.mail k) refl) in
-    let fitting = letters_left_fit script (map part_of rs) s.crew.is_script seen.plays hand.from k (part_of x) (part_of p) (left_for hand.from k x p)
+    let fitting = letters_left_fit script (map part_of rs) s.crew.is_script seen.plays seen.few hand.from k (part_of x) (part_of p) (left_for hand.from k x p)
     (letter_seen hand.letter) (part_here rs hand.from x there) (part_here rs k p seen.here) comes first in
     let mail = mail_is script rs k p seen hand.from x there apart ∙ left in (
       and_from _ _ (may_move_is script rs k p seen) fitting,

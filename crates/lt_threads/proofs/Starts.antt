@@ -3,7 +3,7 @@ use Rattle.std.proofs.Common.{◌≡◌, ℕ, zero, suc, ◌+◌, ◌<◌, ◌�
 use Rattle.lt_modes.specs.Script.{ScriptData}
 use Rattle.lt_spec.specs.Script.{IsScript}
 use Rattle.lt_lists.proofs.Members.{some_equal}
-use Rattle.lt_spec.specs.declared.moves.TheConstants.{MAX_MOVES}
+use Rattle.lt_spec.specs.declared.moves.TheConstants.{MAX_MOVES_OF_SERVICE}
 use Rattle.lt_desk.specs.declared.letter.Letter.{Letter}
 use Rattle.lt_mail.specs.declared.mail.Mail.{Mail}
 use Rattle.lt_mail.specs.declared.lane.OutEnd.{OutEnd}
@@ -96,7 +96,7 @@ places_at capacity letters [] other below h = absurd (omega (arith, below))
 places_at capacity letters (end ∷ ends) zero below h = h (record { end = end; outbox = letters }) refl
 places_at capacity letters (end ∷ ends) (suc other) below h = places_at capacity letters ends other (omega (arith, below)) h
 
-pub first_crew : (script : ScriptData) (capacity limit : ℕ) (left : List Mail) (rs : List Parts) → IsScript script → limit ≤ MAX_MOVES
+pub first_crew : (script : ScriptData) (capacity limit : ℕ) (left : List Mail) (rs : List Parts) → IsScript script → limit ≤ MAX_MOVES_OF_SERVICE
     → Starting script capacity limit script.nodes left rs → IsFirstCrew script capacity limit rs
 first_crew script capacity limit left rs is_script few h = record {
   crew = record {

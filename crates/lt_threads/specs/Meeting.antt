@@ -1,15 +1,15 @@
 -- The runners of a script, and the run that they have made together.
-use Rattle.std.specs.Prelude.{◌≡◌, ◌≢◌, ◌≤◌, ◌-◌, ℕ, List, Some, length, map, take, slice_get, ◌<◌, true, false, Option, None, sum_by, ◌⊎◌, ◌^◌, filter, [], ◌∷◌, ◌++◌}
+use Rattle.std.specs.Prelude.{◌≡◌, ◌≢◌, ◌≤◌, ◌-◌, ℕ, List, Some, length, map, take, slice_get, ◌<◌, true, false, Option, None, sum_by, ◌⊎◌, filter, [], ◌∷◌, ◌++◌}
 use Rattle.lt_modes.specs.Script.{ScriptData}
 use Rattle.lt_modes.specs.State.{Letter}
 use Rattle.lt_modes.specs.declared.command.Command.{Command}
 use Rattle.lt_lists.specs.Below.{sum_below}
-use Rattle.lt_spec.specs.Script.{IsScript}
+use Rattle.lt_spec.specs.Script.{IsScript, IsShort}
 use Rattle.lt_spec.specs.World.{Logged, World, world_after, is_at_rest, can_move, is_of_node, IsRun}
-use Rattle.lt_spec.specs.declared.moves.TheConstants.{MAX_MOVES}
+use Rattle.lt_spec.specs.declared.moves.TheConstants.{MAX_MOVES_OF_SERVICE}
 use Rattle.lt_spec.specs.NodeMove.{SameAt, commands_of, with_commands, AreAt}
 use Rattle.lt_spec.specs.declared.limits.TheConstants.{MAX_COMMANDS}
-use Rattle.lt_merge.specs.Merging.{RunData, all_entries, AreLogs, Merges, AreRising}
+use Rattle.lt_merge.specs.Merging.{RunData, AreLogs, Merges, AreRising}
 use Rattle.lt_law_plays.specs.Merged.{merged, Part, logs_of}
 use Rattle.lt_node.specs.NodeData.{state_of}
 use Rattle.lt_mail.specs.Words.{out_at, in_at, sent_to, taken_from, IsOpenLink, Both, Alike}
@@ -36,11 +36,11 @@ abbrev pub crew_world : ScriptData → List Parts → World
 crew_world script rs = world_after script (crew_run script rs)
 
 -- the runner of node k, whose own script is this one but for commands of the clients of other nodes; it makes no more moves than
--- a script may let a node make
+-- a node of a service may
 pub record InCrew (script : ScriptData) (k : ℕ) (p : Parts) : Type 0 where
   pub script_is : SameAt k p.node.script script
   pub me : p.node.me ≡ k
-  pub limit : p.limit ≤ MAX_MOVES
+  pub limit : p.limit ≤ MAX_MOVES_OF_SERVICE
 
 -- the runners of all nodes of a script, in order, with both ends of each ring among them
 pub record IsCrew (script : ScriptData) (rs : List Parts) : Type 0 where
@@ -184,7 +184,6 @@ HaveAll rs = (k : ℕ) (p : Parts) → slice_get rs k ≡ Some p → HasAll p
 -- they can be merged, and what is merged of them is a run of the script: the one that the runners have made
 pub record AreCrewLogs (script : ScriptData) (rs : List Parts) (logs : List RunData) : Type 0 where
   pub are_logs : AreLogs logs
-  pub few : length (all_entries logs) < 2 ^ 32
   pub is_run : (run : List Logged) → Merges logs run → IsRun script run
   pub is_crew_run : (run : List Logged) → Merges logs run → run ≡ crew_run script rs
   -- in it each node's moves are those of its runner
@@ -198,7 +197,7 @@ pub record InShares (script : ScriptData) (k : ℕ) (p : Parts) : Type 0 where
   pub script_is : p.node.script ≡ with_commands script p.node.script.commands
   pub own : AreAt script k p.node.script.commands
   pub me : p.node.me ≡ k
-  pub limit : p.limit ≤ MAX_MOVES
+  pub limit : p.limit ≤ MAX_MOVES_OF_SERVICE
 
 -- the runners of all nodes, in order, with both ends of each ring among them
 pub record AreShares (script : ScriptData) (rs : List Parts) : Type 0 where
@@ -220,12 +219,13 @@ commands_in (p ∷ rs) = p.node.script.commands ++ commands_in rs
 abbrev pub command_count : ScriptData → ℕ
 command_count script = sum_below (length script.clients) (λ client. length (commands_of script client))
 
--- the one script of which the runners are a crew, with the commands of all
+-- the one script of which the runners are a crew, with the commands of all, which are no more than those of a text
 pub record IsJoined (rs : List Parts) (script : ScriptData) : Type 0 where
   pub crew : IsCrew script rs
   pub commands : script.commands ≡ commands_in rs
+  pub short : IsShort script
 
--- the clients have more commands together than a script may have
+-- the clients have more commands together than the text of a script may have
 abbrev pub AreTooMany : List Parts → Type 0
 AreTooMany rs = (script : ScriptData) → AreShares script rs → MAX_COMMANDS < command_count (with_commands script (commands_in rs))
 

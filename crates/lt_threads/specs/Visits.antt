@@ -1,6 +1,6 @@
 -- How many visits a worker makes.
 use Rattle.std.specs.Prelude.{◌≡◌, ◌<◌, ◌≤◌, ◌+◌, ◌-◌, ◌*◌, ◌^◌, ◌⊎◌, ◌==◌, if◌then◌else◌, ℕ, length}
-use Rattle.lt_spec.specs.declared.moves.TheConstants.{MAX_MOVES}
+use Rattle.lt_spec.specs.declared.moves.TheConstants.{MAX_MOVES_OF_SERVICE}
 use Rattle.lt_pool.specs.PoolData.{PoolData}
 use Rattle.lt_pool.specs.Rule.{ContinuesAt}
 use Rattle.lt_runner.specs.declared.parts.Parts.{Parts}
@@ -37,7 +37,7 @@ most_idle count patience = patience + most_vain count patience
 
 -- how many of its visits make a move at most: as many as the nodes may make moves
 abbrev pub most_moved : ℕ → ℕ
-most_moved count = count * MAX_MOVES
+most_moved count = count * MAX_MOVES_OF_SERVICE
 
 -- it may make a further visit
 pub record MayVisit (count patience : ℕ) (v : Visits) : Type 0 where

@@ -18,7 +18,7 @@ use std::alloc::{AllocError, Global};
 pub enum JoinError {
     /// Some runner has forgotten moves or commands.
     Forgotten,
-    /// They have more commands together than a script may have.
+    /// They have more commands together than the text of a script may have.
     TooMany,
     NoMemory,
 }
@@ -69,7 +69,7 @@ pub fn join_scripts(alloc: Global, runners: &[Runner]) -> Result<Script, JoinErr
     Ok(script)
 }
 
-// Whether one script may have the commands of all.
+// Whether the text of one script may have the commands of all.
 #[tactic(auto, using(crate::proofs::Shares::count_next, crate::proofs::Shares::count_past, crate::proofs::Shares::count_all))]
 fn have_room(runners: &[Runner]) -> bool
     ensures room { result ≡ true → length (commands_in runners.now) ≤ MAX_COMMANDS }
@@ -78,7 +78,7 @@ fn have_room(runners: &[Runner]) -> bool
     let mut count = 0;
     for place in 0..runners.len() {
         let own = runners[place].commands();
-        if own > MAX_COMMANDS - count {
+        if own > u64::from(MAX_COMMANDS) - count {
             return false;
         }
         count += own;
@@ -130,7 +130,7 @@ fn add_commands(script: &mut Script, other: &Script) -> Result<(), AllocError>
 
 // Adds the command at this place of the other script.
 #[tactic(auto, using(crate::proofs::Shares::one_taken))]
-fn add_command(script: &mut Script, other: &Script, place: u32) -> Result<(), AllocError>
+fn add_command(script: &mut Script, other: &Script, place: u64) -> Result<(), AllocError>
     requires place { place < length other.now.commands }
     requires same { other.now ≡ with_commands script.old other.now.commands }
     requires room { length script.old.commands < MAX_COMMANDS }

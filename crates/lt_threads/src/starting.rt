@@ -1,5 +1,5 @@
 ghost use Rattle.std.specs.Prelude.{◌<◌, ◌≤◌, ◌+◌, IfOk, OnOk};
-ghost use Rattle.lt_spec.specs.declared.moves.TheConstants.{MAX_MOVES};
+ghost use Rattle.lt_spec.specs.declared.moves.TheConstants.{MAX_MOVES_OF_SERVICE};
 ghost use Rattle.lt_mail.specs.Opening.{IsFresh};
 ghost use Rattle.lt_node.specs.Clients.{HaveFrom};
 ghost use Rattle.lt_runner.specs.Kept.{HasAll};
@@ -18,10 +18,10 @@ pub fn start_crew(
     alloc: Global,
     script: &Script,
     capacity: u32,
-    limit: u32,
+    limit: u64,
 ) -> Result<Vec<Runner>, AllocError>
     requires capacity { (0 < capacity) × (capacity ≤ MAX_CAPACITY) }
-    requires limit { (0 < limit) × (limit ≤ MAX_MOVES) }
+    requires limit { (0 < limit) × (limit ≤ MAX_MOVES_OF_SERVICE) }
     ensures { IfOk result (λ runners. IsFirstCrew script.now capacity limit runners.items) }
 {
     let nodes = script.nodes();
@@ -50,13 +50,13 @@ fn add_runner(
     script: &Script,
     node: u8,
     _capacity: u32,
-    limit: u32,
+    limit: u64,
     commands: &mut Commands,
     mails: &mut Vec<Mail>,
     runners: &mut Vec<Runner>,
 ) -> Result<(), AllocError>
     requires node { node < script.now.nodes }
-    requires limit { (0 < limit) × (limit ≤ MAX_MOVES) }
+    requires limit { (0 < limit) × (limit ≤ MAX_MOVES_OF_SERVICE) }
     requires commands { HaveFrom script.now node commands.old }
     requires starting { Starting script.now _capacity limit node mails.old.items runners.old.items }
     ensures starting { OnOk result (Starting script.now _capacity limit (node + 1) mails.new.items runners.new.items) }
@@ -74,12 +74,12 @@ fn first_runner(
     script: &Script,
     node: u8,
     mail: Mail,
-    limit: u32,
+    limit: u64,
     commands: &mut Commands,
 ) -> Result<Runner, AllocError>
     requires node { node < script.now.nodes }
     requires mail { IsFresh script.now.nodes node mail }
-    requires limit { (0 < limit) × (limit ≤ MAX_MOVES) }
+    requires limit { (0 < limit) × (limit ≤ MAX_MOVES_OF_SERVICE) }
     requires commands { HaveFrom script.now node commands.old }
     ensures starts { IfOk result (StartsWith script.now node mail limit) }
     ensures all { IfOk result HasAll }

@@ -37,7 +37,7 @@ pub fn run_on_threads<R: Threads + Sync, G: Gate>(
     ensures { IfOk result (λ made. IsThreadRun limit made.0 script.now made.1.entries) }
 {
     law_can_move();
-    let runners = start_crew(alloc, script, capacity, limit)?;
+    let runners = start_crew(alloc, script, capacity, u64::from(limit))?;
     let (runners, ending) = run_crew(rt, alloc, script, runners, workers, patience, gate)?;
     let logs = all_logs(alloc, script, runners)?;
     let run = merge(alloc, logs)?;

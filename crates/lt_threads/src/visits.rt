@@ -2,7 +2,7 @@
 ghost use Rattle.std.specs.Prelude.{◌≡◌, ◌↔◌, IsTrue};
 ghost use Rattle.lt_threads.specs.Visits.{no_visits, after_move, after_refused, after_vain, most_vain, most_moved, MayVisit, HaveRoom};
 
-use lt_spec::MAX_MOVES;
+use lt_spec::MAX_MOVES_OF_SERVICE;
 
 /// How many visits a worker has made.
 #[derive(Clone, Copy)]
@@ -77,5 +77,5 @@ fn most_vain(count: u8, patience: u32) -> u64
 fn most_moved(count: u8) -> u64
     ensures { result ≡ most_moved count }
 {
-    u64::from(count) * u64::from(MAX_MOVES)
+    u64::from(count) * MAX_MOVES_OF_SERVICE
 }

@@ -48,14 +48,14 @@ outside numbers player number e = elim (cases_lt player (length numbers)) [
 
 -- the rank of a player that can act
 rank_is : (numbers : List (Option ℕ)) (ranks : List ℕ) (count player number : ℕ) → IsTree numbers ranks count → number_at numbers player ≡ Some number
-    → (rank_at ranks (length numbers + player) ≡ number * 65536 + player) × (player < length numbers) × (number < 2 ^ 32)
+    → (rank_at ranks (length numbers + player) ≡ number * 65536 + player) × (player < length numbers) × (number < 2 ^ 64)
 rank_is numbers ranks count player number tree e =
     let inside = outside numbers player number e in
     (tree.leaves player inside ∙ ap (λ (o : Option ℕ). rank_of o player) e, inside, tree.small player number e)
 
 -- whose rank a leaf has: a player that can act, or no one
 data Owner (numbers : List (Option ℕ)) (rank : ℕ) : Type 0 where
-  Nobody : rank ≡ 2 ^ 48 → Owner numbers rank
+  Nobody : rank ≡ 2 ^ 80 → Owner numbers rank
   Player : (player number : ℕ) → number_at numbers player ≡ Some number → rank ≡ number * 65536 + player → Owner numbers rank
 
 owner : (numbers : List (Option ℕ)) (ranks : List ℕ) (count rank : ℕ) → IsTree numbers ranks count → IsLeaf ranks (length ranks) rank → Owner numbers rank
@@ -71,12 +71,12 @@ owner numbers ranks count rank tree at = by_number (number_at numbers (at.leaf -
     by_number None e = Nobody (is ∙ ap (λ (o : Option ℕ). rank_of o (at.leaf - length numbers)) e)
     by_number (Some number) e = Player (at.leaf - length numbers) number e (is ∙ ap (λ (o : Option ℕ). rank_of o (at.leaf - length numbers)) e)
 
-nobody_of : (rank : ℕ) → rank ≡ 2 ^ 48 → player_of rank ≡ None
-nobody_of rank e = ap (λ (t : Bool). if t then None else Some (rank % 65536)) (eq-eqb rank (2 ^ 48) e)
+nobody_of : (rank : ℕ) → rank ≡ 2 ^ 80 → player_of rank ≡ None
+nobody_of rank e = ap (λ (t : Bool). if t then None else Some (rank % 65536)) (eq-eqb rank (2 ^ 80) e)
 
-player_is : (rank number player : ℕ) → rank ≡ number * 65536 + player → player < 2 ^ 16 → number < 2 ^ 32 → player_of rank ≡ Some player
+player_is : (rank number player : ℕ) → rank ≡ number * 65536 + player → player < 2 ^ 16 → number < 2 ^ 64 → player_of rank ≡ Some player
 player_is rank number player e few small =
-    ap (λ (t : Bool). if t then None else Some (rank % 65536)) (ne_eqb rank (2 ^ 48) (λ f. omega (arith, e, f, few, small)))
+    ap (λ (t : Bool). if t then None else Some (rank % 65536)) (ne_eqb rank (2 ^ 80) (λ f. omega (arith, e, f, few, small)))
     ∙ ap Some (omega (arith, e, few))
 
 -- the order of ranks is that of turns
@@ -136,7 +136,7 @@ none_counted (first ∷ rest) none =
 
 -- where no player can act
 pub none_can : (numbers : List (Option ℕ)) (ranks : List ℕ) → length ranks ≡ 2 * length numbers → length numbers < 2 ^ 16
-    → ((player : ℕ) → number_at numbers player ≡ None) → ((node : ℕ) → node < length ranks → rank_at ranks node ≡ 2 ^ 48) → IsTree numbers ranks 0
+    → ((player : ℕ) → number_at numbers player ≡ None) → ((node : ℕ) → node < length ranks → rank_at ranks node ≡ 2 ^ 80) → IsTree numbers ranks 0
 none_can numbers ranks nodes few none nobody = record {
   nodes = nodes;
   few = few;
@@ -152,7 +152,7 @@ none_can numbers ranks nodes few none nobody = record {
 
 -- with no player after this one
 no_next : (numbers : List (Option ℕ)) (ranks : List ℕ) (count player first : ℕ) → IsTree numbers ranks count
-    → first ≡ 2 ^ 48 → IsFirstAfter ranks (rank_at ranks (length numbers + player)) (length ranks) first → IsNext numbers player None
+    → first ≡ 2 ^ 80 → IsFirstAfter ranks (rank_at ranks (length numbers + player)) (length ranks) first → IsNext numbers player None
 no_next numbers ranks count player first tree e h = λ number other later has can after.
     let here = rank_is numbers ranks count player number tree has in
     let there = rank_is numbers ranks count other later tree can in
@@ -177,7 +177,7 @@ is_next numbers ranks count player first tree inside h = elim h.either [
   | inr at ↦ by_owner at.0 (owner numbers ranks count first tree at.1)
 ]
   where
-    none : first ≡ 2 ^ 48 → IsNext numbers player (player_of first)
+    none : first ≡ 2 ^ 80 → IsNext numbers player (player_of first)
     none e = subst (IsNext numbers player) (sym (nobody_of first e)) (no_next numbers ranks count player first tree e h)
 
     by_owner : rank_at ranks (length numbers + player) < first → Owner numbers first → IsNext numbers player (player_of first)

@@ -37,12 +37,12 @@ IsNext numbers player (Some next) =
 
 -- the rank of a turn: none has the greatest one
 abbrev pub rank_of : Option ℕ → ℕ → ℕ
-rank_of None player = 2 ^ 48
+rank_of None player = 2 ^ 80
 rank_of (Some number) player = number * 65536 + player
 
 -- the player whose turn has this rank
 abbrev pub player_of : ℕ → Option ℕ
-player_of rank = if rank == 2 ^ 48 then None else Some (rank % 65536)
+player_of rank = if rank == 2 ^ 80 then None else Some (rank % 65536)
 
 abbrev pub rank_at : List ℕ → ℕ → ℕ
 rank_at ranks node = slice_index_or ranks node 0
@@ -77,15 +77,15 @@ pub record IsLeaf (ranks : List ℕ) (end rank : ℕ) : Type 0 where
 
 -- the least rank, greater than this one, of the leaves before the end, or that of no turn
 pub record IsFirstAfter (ranks : List ℕ) (here end first : ℕ) : Type 0 where
-  pub either : (first ≡ 2 ^ 48) ⊎ ((here < first) × IsLeaf ranks end first)
-  pub leads : (leaf : ℕ) → length ranks ≤ 2 * leaf → leaf < end → here < rank_at ranks leaf → rank_at ranks leaf < 2 ^ 48
+  pub either : (first ≡ 2 ^ 80) ⊎ ((here < first) × IsLeaf ranks end first)
+  pub leads : (leaf : ℕ) → length ranks ≤ 2 * leaf → leaf < end → here < rank_at ranks leaf → rank_at ranks leaf < 2 ^ 80
       → first ≤ rank_at ranks leaf
 
 -- a tree over these players, of which so many can act
 pub record IsTree (numbers : List (Option ℕ)) (ranks : List ℕ) (count : ℕ) : Type 0 where
   pub nodes : length ranks ≡ 2 * length numbers
   pub few : length numbers < 2 ^ 16
-  pub small : (player number : ℕ) → number_at numbers player ≡ Some number → number < 2 ^ 32
+  pub small : (player number : ℕ) → number_at numbers player ≡ Some number → number < 2 ^ 64
   pub leaves : (player : ℕ) → player < length numbers
       → rank_at ranks (length numbers + player) ≡ rank_of (number_at numbers player) player
   pub least : AreLeast ranks

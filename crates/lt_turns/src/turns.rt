@@ -9,10 +9,10 @@ use std::marker::Model;
 /// is the first one, and of two with the same number the lesser player.
 #[derive(Drop)]
 pub struct Turns {
-    numbers: Vec<Option<u32>>,
+    numbers: Vec<Option<u64>>,
     // A tree over the players: node 1 is the root, nodes 2k and 2k + 1 stand below node k, and from the number of players
     // on each node is a player. Here is the rank of the first turn at or below each node.
-    ranks: Vec<u64>,
+    ranks: Vec<u128>,
     // How many players can act.
     count: u32,
 }
@@ -49,7 +49,7 @@ impl Turns {
     }
 
     /// The number of the player's next turn, where it can act.
-    pub fn number(&self, player: u16) -> Option<u32>
+    pub fn number(&self, player: u16) -> Option<u64>
         requires { player < length self.now }
         ensures { result ≡ slice_index_or self.now player None }
     {
@@ -58,7 +58,7 @@ impl Turns {
 
     /// From now on the player has this number; with none it can't act.
     #[inline(always)]
-    pub fn set(&mut self, player: u16, number: Option<u32>)
+    pub fn set(&mut self, player: u16, number: Option<u64>)
         requires { player < length self.old }
         ensures { self.new ≡ slice_set self.old player number }
     {
@@ -97,7 +97,7 @@ impl Turns {
 }
 
 // 1 for a player that can act.
-fn one_if(number: Option<u32>) -> u32
+fn one_if(number: Option<u64>) -> u32
     ensures { result ≡ (if is_some number then 1 else 0) }
 {
     match number {

@@ -59,7 +59,7 @@ within script run q n good is_run below is =
     carried (λ s x state. IsTrue (node_within s state)) is (nodes_within script run good is_run q below)
 
 pub can_act : (script : ScriptData) (run : List Logged) (q client : ℕ) (n : NodeData) → IsScript script → IsRun script run
-    → IsTrue (is_enabled script (world_after script run) q (Act client)) → length run + 1 < 2 ^ 32
+    → IsTrue (is_enabled script (world_after script run) q (Act client)) → length run + 1 < 2 ^ 62
     → IsNodeOf script q ((world_after script run).node q) n → CanAct n client
 can_act script run q client n good is_run enabled few is =
     let w = world_after script run in
@@ -72,12 +72,12 @@ can_act script run q client n good is_run enabled few is =
       within = within script run q n good is_run (act_inside script w q client good enabled) is;
       asks = carried (λ s x state. IsTrue (leaves_asks s state)) is
           (subst (λ (x : ℕ). IsTrue (leaves_asks script (w.node x))) act.at_home (asks_placed script run good is_run client act.client_is act.runs));
-      clock = carried (λ s x state. state.clock + 1 < 2 ^ 32) is (omega (arith, few, clock_below script run q is_run));
+      clock = carried (λ s x state. state.clock + 1 < 2 ^ 62) is (omega (arith, few, clock_below script run q is_run));
     }
 
 -- the front letter fits its receiver
 pub front_fits : (script : ScriptData) (run : List Logged) (q p : ℕ) (letter : Letter) (rest : List Letter) → IsScript script → IsRun script run
-    → IsTrue (is_enabled script (world_after script run) q (Take p)) → length run + 1 < 2 ^ 32
+    → IsTrue (is_enabled script (world_after script run) q (Take p)) → length run + 1 < 2 ^ 62
     → (world_after script run).mail p q ≡ letter ∷ rest
     → IsTrue (fits (numbers_of script) q ((world_after script run).node q).clock (((world_after script run).node q).set letter.set) letter)
 front_fits script run q p letter rest good is_run enabled few front =
@@ -90,7 +90,7 @@ front_fits script run q p letter rest good is_run enabled few front =
     (letters_fit_in_runs script run (whole script good) is_run (length run) p q letter few has.sender has.receiver on')
 
 pub can_take : (script : ScriptData) (run : List Logged) (q p : ℕ) (letter : Letter) (rest : List Letter) (n : NodeData) → IsScript script → IsRun script run
-    → IsTrue (is_enabled script (world_after script run) q (Take p)) → length run + 1 < 2 ^ 32
+    → IsTrue (is_enabled script (world_after script run) q (Take p)) → length run + 1 < 2 ^ 62
     → (world_after script run).mail p q ≡ letter ∷ rest
     → IsNodeOf script q ((world_after script run).node q) n → CanTake n letter
 can_take script run q p letter rest n good is_run enabled few front is =
@@ -101,16 +101,16 @@ can_take script run q p letter rest n good is_run enabled few front is =
     record {
       fits_here = carried (λ s x state. IsTrue (fits (numbers_of s) x state.clock (state.set letter.set) letter)) is fitting;
       within = within script run q n good is_run has.receiver is;
-      clock = carried (λ s x state. state.clock + 1 < 2 ^ 32) is (omega (arith, few, clock_below script run q is_run));
+      clock = carried (λ s x state. state.clock + 1 < 2 ^ 62) is (omega (arith, few, clock_below script run q is_run));
       stamp = early (numbers_of script) (w.node q).clock (and_parts _ _ fitting).0;
     }
   where
-    early : (numbers : Numbers) (clock : ℕ) → IsTrue (head_fits numbers clock letter) → letter.stamp.clock + 1 < 2 ^ 32
+    early : (numbers : Numbers) (clock : ℕ) → IsTrue (head_fits numbers clock letter) → letter.stamp.clock + 1 < 2 ^ 62
     early numbers clock e =
         let a = and_parts (nat_lt letter.set numbers.sets) _ e in
         let b = and_parts (nat_lt letter.link.node numbers.nodes) _ a.1 in
         let d = and_parts (nat_le letter.link.epoch letter.stamp.clock) _ b.1 in
-        ltb-true (letter.stamp.clock + 1) (2 ^ 32) (and_parts (nat_lt (letter.stamp.clock + 1) (2 ^ 32)) (nat_lt (clock + 1) (2 ^ 32)) d.1).0
+        ltb-true (letter.stamp.clock + 1) (2 ^ 62) (and_parts (nat_lt (letter.stamp.clock + 1) (2 ^ 62)) (nat_lt (clock + 1) (2 ^ 62)) d.1).0
 
 -- The code's nodes and letters after a part of a move are those of the world after it.
 
@@ -206,13 +206,13 @@ did script q state rule old had new out is does =
 -- A command of a client, from what its parts do.
 
 pub acts_before : (script : ScriptData) (q client : ℕ) (nodes : List NodeData) (boxes : MailData) (had : OutData) (run : List Logged)
-    → Holds script nodes boxes had run → IsTrue (is_enabled script (world_after script run) q (Act client)) → length run + 1 < 2 ^ 32 → CanAct (node_at nodes q) client
+    → Holds script nodes boxes had run → IsTrue (is_enabled script (world_after script run) q (Act client)) → length run + 1 < 2 ^ 62 → CanAct (node_at nodes q) client
 acts_before script q client nodes boxes had run h enabled few =
     can_act script run q client (node_at nodes q) h.is_script h.is_run enabled few
     (h.world.nodes_are q (act_inside script (world_after script run) q client h.is_script enabled))
 
 pub act_opened : (script : ScriptData) (q client : ℕ) (nodes : List NodeData) (boxes : MailData) (had : OutData) (run : List Logged)
-    → Holds script nodes boxes had run → IsTrue (is_enabled script (world_after script run) q (Act client)) → length run + 1 < 2 ^ 32
+    → Holds script nodes boxes had run → IsTrue (is_enabled script (world_after script run) q (Act client)) → length run + 1 < 2 ^ 62
     → IsOpened script q (Act client) nodes boxes had run
 act_opened script q client nodes boxes had run h enabled few = record {
   is_script = h.is_script;

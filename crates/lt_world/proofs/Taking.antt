@@ -110,7 +110,7 @@ holds_moved script q step nodes nodes' boxes boxes' had out out' run run' n stam
 pub record InHand (script : ScriptData) (q p : ℕ) (letter : Letter) (nodes : List NodeData) (boxes boxes' : MailData) (had : OutData) (run : List Logged) : Type 0 where
   pub holds : Holds script nodes boxes had run
   pub enabled : IsTrue (is_enabled script (world_after script run) q (Take p))
-  pub few : length run + 1 < 2 ^ 32
+  pub few : length run + 1 < 2 ^ 62
   pub taken : IsTaken p q letter boxes boxes'
 
 pub has_letter : (script : ScriptData) (q p : ℕ) (run : List Logged) → IsTrue (is_enabled script (world_after script run) q (Take p)) → HasLetter script (world_after script run) p q

@@ -1,5 +1,5 @@
 -- How many moves each node has made, and all nodes together.
-use Rattle.std.proofs.Common.{◌≡◌, ◌≢◌, Bool, true, false, ℕ, ◌+◌, ◌<◌, ◌≤◌, ◌^◌, List, [], ◌∷◌, ◌++◌, length, inl, inr, refl, sym, ap, subst, ◌∙◌, arith, length-set, get_or-set_same, get_or-set_other, ◌-◌, Option, Some, None, ap₂, ◌==◌, if◌then◌else◌, slice_set, slice_index_or, count_by, IsTrue, ◌&&◌, not, nat_lt, slice_get, option_map, unwrap_or, eq-eqb, ne_eqb}
+use Rattle.std.proofs.Common.{◌≡◌, ◌≢◌, Bool, true, false, ℕ, zero, suc, ◌+◌, ◌*◌, ◌<◌, ◌≤◌, ◌^◌, List, [], ◌∷◌, ◌++◌, length, inl, inr, refl, sym, ap, subst, ◌∙◌, arith, length-set, get_or-set_same, get_or-set_other, ◌-◌, Option, Some, None, ap₂, ◌==◌, if◌then◌else◌, slice_set, slice_index_or, count_by, IsTrue, ◌&&◌, not, nat_lt, slice_get, option_map, unwrap_or, eq-eqb, ne_eqb}
 use Rattle.std.proofs.lemmas.Bool.{cases_eq, and_from, or_left, or_right, false≢true, and_parts}
 use Rattle.std.proofs.lemmas.List.{length_push}
 use Rattle.std.proofs.lemmas.List.Sums.{sum_by-append}
@@ -10,7 +10,7 @@ use Rattle.lt_modes.specs.declared.stamp.Stamp.{Stamp}
 use Rattle.lt_modes.specs.State.{Letter}
 use Rattle.lt_modes.specs.Fits.{numbers_of}
 use Rattle.lt_modes.specs.Sound.{SoundSet}
-use Rattle.lt_lists.specs.Below.{any_below, put}
+use Rattle.lt_lists.specs.Below.{any_below, sum_below, put}
 use Rattle.lt_lists.proofs.Sums.{sum_below-change, sum_below-none}
 use Rattle.lt_lists.proofs.Searches.{any_below_at}
 use Rattle.lt_lists.proofs.Puts.{put-same, put-other}
@@ -24,14 +24,21 @@ use Rattle.lt_law_invariant.proofs.SoundStates.{kept_in_runs}
 use Rattle.lt_law_invariant.proofs.FewAsks.{whole}
 use Rattle.lt_law_own_lines.specs.WaitingLaws.{AreOfOthers, EachAsksKnown, SameClient}
 use Rattle.lt_law_own_lines.proofs.WaitingMoves.{waiting_in_acts, waiting_in_node_takes, known_where_sound}
-use Rattle.lt_law_ends.proofs.Short.{runs_are_short}
 use Rattle.lt_world.specs.Fields.{AreCounted, AreAtMost, AreTurns, turn_of, run_with, lines_of_last_move, OthersStand}
 use Rattle.lt_world.proofs.Premises.{act_parts, act_inside, front_fits}
 use Rattle.lt_world.proofs.Runs.{longer_world, whole_run}
 
--- a run is far from the most moves that a log may have
-pub few_moves : (script : ScriptData) (run : List Logged) → IsScript script → IsRun script run → length run + 1 < 2 ^ 32
-few_moves script run good is_run = omega (arith, runs_are_short script run good is_run)
+-- so many nodes with up to so many moves each
+few_below : (n most : ℕ) (moves : ℕ → ℕ) → ((q : ℕ) → q < n → moves q ≤ most) → most ≤ MAX_MOVES → sum_below n moves ≤ n * 2 ^ 30
+few_below zero most moves each few = omega arith
+few_below (suc n) most moves each few =
+    omega (arith, few_below n most moves (λ q below. each q (omega (arith, below))) few, each n (omega arith), few)
+
+-- a run has far fewer moves than a clock may count
+pub few_moves : (script : ScriptData) (limit : ℕ) (moves : List ℕ) (run : List Logged) → IsScript script → AreCounted script limit moves run
+    → length run + 1 < 2 ^ 62
+few_moves script limit moves run good h =
+    omega (arith, few_below script.nodes limit (λ q. moves_of q run) h.within h.small, h.all, good.few_nodes)
 
 -- one move more
 moves_more : (q : ℕ) (run : List Logged) (entry : Logged) → moves_of q (run ++ entry ∷ []) ≡ moves_of q run + (if entry.made.stamp.node == q then 1 else 0)
@@ -139,7 +146,7 @@ known_after script run q stamp good is_run below own later = λ s within.
 
 -- a move leaves a client that it doesn't name as it was
 pub same_client : (script : ScriptData) (run : List Logged) (q c : ℕ) (step : Step) → IsScript script → IsRun script run
-    → IsTrue (is_enabled script (world_after script run) q step) → length run + 1 < 2 ^ 32 → step ≢ Act c
+    → IsTrue (is_enabled script (world_after script run) q step) → length run + 1 < 2 ^ 62 → step ≢ Act c
     → AreOfOthers c (node_move script (world_after script run) q step).events
     → SameClient script ((world_after script run).node q) (node_move script (world_after script run) q step).node c
 same_client script run q c (Act client) good is_run enabled few other lines =
@@ -190,7 +197,7 @@ lines_of_last run entry =
 
 -- so after a move each client that it doesn't name has its turn
 pub others_stand : (script : ScriptData) (run run' : List Logged) (q : ℕ) (step : Step) (turns : List (Option ℕ)) → IsScript script → IsRun script run
-    → IsTrue (is_enabled script (world_after script run) q step) → length run + 1 < 2 ^ 32
+    → IsTrue (is_enabled script (world_after script run) q step) → length run + 1 < 2 ^ 62
     → AreTurns script turns (world_after script run) → run' ≡ run_with script run q step
     → OthersStand script turns (world_after script run') step (lines_of_last_move run') 0
 others_stand script run run' q step turns good is_run enabled few h longer =

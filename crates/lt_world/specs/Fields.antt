@@ -85,7 +85,7 @@ pub record IsOpened (script : ScriptData) (q : ℕ) (step : Step) (nodes : List 
   pub is_script : IsScript script
   pub is_run : IsRun script run
   pub enabled : IsTrue (is_enabled script (world_after script run) q step)
-  pub few : length run + 1 < 2 ^ 32
+  pub few : length run + 1 < 2 ^ 62
   pub world : IsWorld script nodes inboxes (opened (world_after script run) q step)
   pub no_posts : out.posts ≡ []
   pub no_events : out.events ≡ []
@@ -203,11 +203,11 @@ pub record CanAct (n : NodeData) (client : ℕ) : Type 0 where
   pub runnable : IsTrue (not (node_waits n.script (state_of n) client) && has_command n.script (state_of n) client)
   pub within : IsWithin n
   pub asks : IsTrue (leaves_asks n.script (state_of n))
-  pub clock : n.clock + 1 < 2 ^ 32
+  pub clock : n.clock + 1 < 2 ^ 62
 
 -- the node can take the letter
 pub record CanTake (n : NodeData) (letter : Letter) : Type 0 where
   pub fits_here : IsTrue (fits (numbers_of n.script) n.me n.clock ((state_of n).set letter.set) letter)
   pub within : IsWithin n
-  pub clock : n.clock + 1 < 2 ^ 32
-  pub stamp : letter.stamp.clock + 1 < 2 ^ 32
+  pub clock : n.clock + 1 < 2 ^ 62
+  pub stamp : letter.stamp.clock + 1 < 2 ^ 62

@@ -53,7 +53,7 @@ impl Network {
     pub(crate) fn step(&mut self, script: &Script, choice: Choice) -> Result<(), AllocError>
         requires holds { IsAfterRun script.now self.old }
         requires enabled { IsTrue (is_enabled script.now (world_in script.now self.old) choice.node choice.step) }
-        requires few { length self.old.run.entries + 1 < 2 ^ 32 }
+        requires few { length self.old.run.entries + 1 < 2 ^ 62 }
         ensures holds { IsAfterRun script.now self.new }
         ensures ok { OnOk result (self.new.run.entries ≡ run_with script.now self.old.run.entries choice.node choice.step) }
         ensures err { OnErr result (self.new.run.entries ≡ self.old.run.entries) }
@@ -72,7 +72,7 @@ impl Network {
     fn take_front(&mut self, script: &Script, node: u8, sender: u8) -> Result<(), AllocError>
         requires holds { IsAfterRun script.now self.old }
         requires enabled { IsTrue (is_enabled script.now (world_in script.now self.old) node (Take sender)) }
-        requires few { length self.old.run.entries + 1 < 2 ^ 32 }
+        requires few { length self.old.run.entries + 1 < 2 ^ 62 }
         ensures holds { IsAfterRun script.now self.new }
         ensures ok { OnOk result (self.new.run.entries ≡ run_with script.now self.old.run.entries node (Take sender)) }
         ensures err { OnErr result (self.new.run.entries ≡ self.old.run.entries) }
@@ -136,7 +136,11 @@ fn first_run(alloc: Global, script: &Script) -> Result<Run, AllocError>
     ensures { IfOk result (λ run. run.entries ≡ []) }
 {
     let commands = script.commands() as usize;
-    Run::with_room(alloc, 3 * commands, 4 * commands)
+    Run::with_room(
+        alloc,
+        commands.saturating_mul(3),
+        commands.saturating_mul(4),
+    )
 }
 
 // All nodes of the script at its start.
@@ -190,7 +194,6 @@ fn record_move(inboxes: &mut Inboxes, run: &mut Run, made: Move, out: &mut Out)
     requires sender { made.stamp.node < inboxes.old.nodes }
     requires targets { All (λ (post : rules.Post). post.to < inboxes.old.nodes) out.old.posts }
     requires room { InboxRoom inboxes.old run.old out.old }
-    requires few { length run.old.entries + 1 < 2 ^ 32 }
     ensures delivered { AreDelivered made.stamp.node out.old.posts inboxes.old inboxes.new }
     ensures entries { run.new.entries ≡ run.old.entries ++ record { made = made; events = out.old.events } ∷ [] }
     ensures out { (out.new.posts ≡ []) × (out.new.events ≡ []) }

@@ -12,7 +12,7 @@ use std::time::Duration;
 const ACCOUNTS: usize = 4;
 const FIRST: i64 = 1000;
 const AMOUNT: i64 = 5;
-const LIMIT: u32 = 1 << 20;
+const LIMIT: u64 = 1 << 40;
 
 /// How many transfers all callers make together before it is asked what they were served; and the commands of a transfer.
 const BETWEEN: usize = 100;

@@ -4,7 +4,7 @@ ghost use Rattle.std.specs.Prelude.{◌≡◌, ◌<◌, ◌++◌, ◌∷◌, [],
 ghost use Rattle.lt_spec.specs.Script.{is_name, IsFamilyOfNext, IsRequest, HasModesOf, most_clients, load_of, is_declared};
 ghost use Rattle.std.specs.Arc.{arc_value};
 ghost use Rattle.lt_script.specs.Views.{SayTheSame};
-ghost use Rattle.lt_spec.specs.declared.limits.TheConstants.{MAX_SETS, MAX_CLIENTS_OF_NODE, MAX_COMMANDS};
+ghost use Rattle.lt_spec.specs.declared.limits.TheConstants.{MAX_SETS, MAX_CLIENTS_OF_NODE, MAX_COMMANDS_OF_SERVICE};
 
 use crate::declarations::{ClientDecl, SetDecl};
 use crate::script::Script;
@@ -73,7 +73,7 @@ impl Script {
     /// Adds a last command, which this client makes.
     #[inline(always)]
     pub fn add_command(&mut self, client: u16, command: Command) -> Result<(), AllocError>
-        requires room { length self.old.commands < MAX_COMMANDS }
+        requires room { length self.old.commands < MAX_COMMANDS_OF_SERVICE }
         requires request { IsRequest self.old.sets self.old.clients (client, command) }
         requires modes { HasModesOf self.old.version command }
         ensures added { OnOk result

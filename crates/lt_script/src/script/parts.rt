@@ -64,7 +64,7 @@ impl Parts {
     }
 }
 
-// No commands, and room for all that a script may have, where there is memory for them.
+// No commands, and room for all that a text may have, where there is memory for them.
 fn room_for_commands(alloc: Global) -> Vec<(u16, Command)>
     ensures { result.items ≡ [] }
 {

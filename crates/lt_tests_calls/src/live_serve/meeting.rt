@@ -16,8 +16,8 @@ client b at 1\n\
 a lock s read\n\
 b lock s read\n";
 
-// For how many turns a thread waits at most.
-const TURNS: u32 = 100_000_000;
+// For how many turns a thread waits at most: hours, so that a busy machine ends no wait.
+const TURNS: u64 = 1 << 44;
 
 // Before its first move each of two nodes waits until the other one comes to its own. It counts how often each came, and
 // whether it met the other one.

@@ -9,8 +9,8 @@ pub(super) const TIMES: u64 = 1;
 // Each pass of a gate idles for fewer turns than this first; tests/gates.sh idles longer.
 const IDLE: u64 = 1;
 
-// For how many turns a thread waits at most.
-const TURNS: u32 = 100_000_000;
+// For how many turns a thread waits at most: hours, so that a busy machine ends no wait.
+const TURNS: u64 = 1 << 44;
 
 /// How often each of three nodes came to its gate, and whether it met the one that it waited for.
 #[derive(Drop)]

@@ -27,7 +27,7 @@ impl Network {
     ) -> Result<Reserved, AllocError>
         requires holds { IsAfterRun script.now self.old }
         requires enabled { IsTrue (is_enabled script.now (world_in script.now self.old) choice.node choice.step) }
-        requires few { length self.old.run.entries + 1 < 2 ^ 32 }
+        requires few { length self.old.run.entries + 1 < 2 ^ 62 }
         ensures reserved { IfOk result (IsReserved script.now self.new choice.node) }
         ensures step { IfOk result (λ reserved. step_of reserved ≡ choice.step) }
         ensures err { OnErr result (IsAfterRun script.now self.new) }
@@ -54,7 +54,7 @@ impl Network {
     ) -> Result<(), AllocError>
         requires holds { IsAfterRun script.now self.old }
         requires enabled { IsTrue (is_enabled script.now (world_in script.now self.old) node (Act client)) }
-        requires few { length self.old.run.entries + 1 < 2 ^ 32 }
+        requires few { length self.old.run.entries + 1 < 2 ^ 62 }
         ensures reserved { OnOk result (IsReserved script.now self.new node (Acting client)) }
         ensures err { OnErr result (IsAfterRun script.now self.new) }
         ensures entries { self.new.run.entries ≡ self.old.run.entries }
@@ -72,7 +72,7 @@ impl Network {
     ) -> Result<Letter, AllocError>
         requires holds { IsAfterRun script.now self.old }
         requires enabled { IsTrue (is_enabled script.now (world_in script.now self.old) node (Take sender)) }
-        requires few { length self.old.run.entries + 1 < 2 ^ 32 }
+        requires few { length self.old.run.entries + 1 < 2 ^ 62 }
         ensures reserved { IfOk result (λ letter. IsReserved script.now self.new node (Taking sender letter)) }
         ensures err { OnErr result (IsAfterRun script.now self.new) }
         ensures entries { self.new.run.entries ≡ self.old.run.entries }

@@ -92,7 +92,7 @@ fn note_turn(turns: &mut Turns, script: &Script, network: &Network, client: u16)
 }
 
 // How many commands the client has made, where it can make one more now.
-fn turn_of(script: &Script, network: &Network, client: u16) -> Option<u32>
+fn turn_of(script: &Script, network: &Network, client: u16) -> Option<u64>
     requires holds { IsAfterRun script.now network.now }
     requires client { client < length script.now.clients }
     ensures { result ≡ turn_of script.now (world_in script.now network.now) client }

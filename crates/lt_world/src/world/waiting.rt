@@ -111,7 +111,7 @@ impl World {
     }
 
     // How many locks of the mode the client holds in the set.
-    fn held(&self, set: u8, client: u16, mode: Mode) -> u32
+    fn held(&self, set: u8, client: u16, mode: Mode) -> u64
         requires set { set < length self.now.script.sets }
         requires client { client < length self.now.script.clients }
         ensures { result ≡ count_of (state_at (world_of self.now) set (home self.now.script client)).held client mode }

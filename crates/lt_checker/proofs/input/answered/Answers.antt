@@ -17,7 +17,7 @@ returns-in-Ok-clause-answer c = λ bytes read before answers.
     let ended : EndsIn script (checked script all) world = subst (IsWorldAnswer script (checked script all)) c.in-Ok.is answers.answer in
     record {
       denoted = read;
-      accepted = (c.law_means.ensures script all world.run c.requires.kept ended.run_is).1;
+      accepted = (c.law_means.ensures script all world.run c.requires.kept c.requires.short ended.run_is).1;
       finished = ended.finished;
       script_is = ended.script_is;
     }
@@ -26,7 +26,7 @@ pub returns-clause-answer : goal.returns-clause-answer
 returns-clause-answer c = λ bytes read before answers.
     let script = c.args.script in
     let bad : checked script (lines (drop (input_parts bytes).journal bytes)) ≡ Err c.in-Err-Bad.line = search rules in
-    bad_input script bytes c.args.before c.in-Err-Bad.line c.requires.kept read before bad
+    bad_input script bytes c.args.before c.in-Err-Bad.line c.requires.kept c.requires.short read before bad
 
 pub returns-in-Err-Memory-clause-answer : goal.returns-in-Err-Memory-clause-answer
 returns-in-Err-Memory-clause-answer c = λ bytes read before answers.

@@ -46,4 +46,4 @@ returns-clause-memory g c =
     let some : 0 < length first = subst (λ (b : List ℕ). 0 < length b) (sym c.deref.ensures.value) kept in
     let answer = c.in_ok-judged.ensures.answer in
     wants_ok first answer.0 room before read (g.S.Source.state c.judged.new.source) c.in_ok-judged.field-0 some head answer.2
-    c.in_ok-judged.ensures.kept answer.1
+    c.in_ok-judged.ensures.kept c.in_ok-judged.ensures.short answer.1

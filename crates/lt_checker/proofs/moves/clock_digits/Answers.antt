@@ -11,19 +11,19 @@ pub loop-count-preserved : goal.loop-count-preserved
 loop-count-preserved c =
     let bytes = c.args.bytes.now in
     let k = c.loop-count.count in
-    let few : k < 9 = omega (arith, c.loop-count-test.true) in
+    let few : k < 19 = omega (arith, c.loop-count-test.true) in
     let inside : k < length bytes = omega (arith, few, c.requires) in
     let digit : is_ascii_digit (get_or bytes k 0) ≡ true = sym c.is_ascii_digit.ensures.value ∙ c.if-is_ascii_digit.true in
     subst (λ n. AreFirstDigits bytes (k + 1) (c.loop-count.number * 10 + n)) (sym c.from.ensures) (digit_more bytes k c.loop-count.number c.loop-count.invariant inside few digit)
 
 pub overflow_mul-number : goal.overflow_mul-number
 overflow_mul-number c =
-    let few : c.loop-count.count < 9 = omega (arith, c.loop-count-test.true) in
+    let few : c.loop-count.count < 19 = omega (arith, c.loop-count-test.true) in
     omega (arith, small_value c.args.bytes.now c.loop-count.count c.loop-count.number c.loop-count.invariant few)
 
 pub overflow_add-number : goal.overflow_add-number
 overflow_add-number c =
-    let few : c.loop-count.count < 9 = omega (arith, c.loop-count-test.true) in
+    let few : c.loop-count.count < 19 = omega (arith, c.loop-count-test.true) in
     omega (
       arith,
       small_value c.args.bytes.now c.loop-count.count c.loop-count.number c.loop-count.invariant few,

@@ -7,4 +7,4 @@ abbrev pub invariant-loop-count : goal.invariant-loop-count
 invariant-loop-count l = AreFirstDigits l.bytes l.count l.number
 
 abbrev pub decreases-loop-count : goal.decreases-loop-count
-decreases-loop-count l = 9 - l.count
+decreases-loop-count l = 19 - l.count

@@ -1,10 +1,9 @@
-use Rattle.std.proofs.Common.{◌++◌, ◌∷◌, ◌∙◌, ℕ, ap, sym, arith, decimal}
+use Rattle.std.proofs.Common.{arith}
 use Rattle.lt_checker.proofs.FirstLines.{move_parts}
 use Rattle.lt_checker.proofs.moves.first_move.Goals as goal
 
 pub returns-clause-parts : goal.returns-clause-parts
 returns-clause-parts c =
-    let clock = c.in_ok-clock.ensures ∙ ap (λ (n : ℕ). decimal n ++ 32 ∷ c.in_ok-clock.words.now) (sym c.from.ensures) in
-    move_parts c.args.script.now c.args.bytes.now c.split_at.result.1.now c.in_ok-clock.words.now c.in_ok-node.words.now c.in_ok-step.later.now c.from.result
+    move_parts c.args.script.now c.args.bytes.now c.split_at.result.1.now c.in_ok-clock.words.now c.in_ok-node.words.now c.in_ok-step.later.now c.in_ok-clock.clock
     c.in_ok-node.node c.in_ok-step.step (omega (arith, c.if-bytes-lt-LONG.false)) c.if-bytes-ne109.false c.if-bytes-ne111.false c.if-bytes-ne118.false
-    c.if-bytes-ne101.false c.if-bytes-ne32.false c.split_at.ensures.back clock c.in_ok-node.ensures.parts c.in_ok-step.ensures.parts
+    c.if-bytes-ne101.false c.if-bytes-ne32.false c.split_at.ensures.back c.in_ok-clock.ensures c.in_ok-node.ensures.parts c.in_ok-step.ensures.parts

@@ -1,6 +1,6 @@
 use Rattle.std.proofs.Common.{rules, List, ℕ, Result, ap, subst, ◌∙◌}
 use Rattle.lt_spec.specs.World.{Logged}
-use Rattle.lt_spec.specs.Script.{IsScript}
+use Rattle.lt_spec.specs.Script.{IsScript, IsShort}
 use Rattle.lt_law_journals.specs.Checking.{checked_said}
 use Rattle.lt_law_journals.proofs.Feeds.{said}
 use Rattle.lt_checker.specs.Checker.{IsAnswer}
@@ -11,4 +11,5 @@ returns-clause-read c = λ all read.
     let script = c.args.script.now in
     let told : IsAnswer (checked_said script c.args.journal.now) c.finish.result = search rules in
     let is_script : IsScript script = search rules in
-    subst (λ (t : Result (List Logged) ℕ). IsAnswer t c.finish.result) (ap (checked_said script) read ∙ said script all is_script) told
+    let short : IsShort script = search rules in
+    subst (λ (t : Result (List Logged) ℕ). IsAnswer t c.finish.result) (ap (checked_said script) read ∙ said script all is_script short) told

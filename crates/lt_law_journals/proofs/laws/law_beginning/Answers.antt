@@ -9,7 +9,7 @@ pub returns-clause-read : goal.returns-clause-read
 returns-clause-read c = λ script read place is_script e. begins_all script [] (first_place script) 0 read place (first_begins script) e
 
 pub returns-clause-begun : goal.returns-clause-begun
-returns-clause-begun c = λ script read is_script beginning. begun script read beginning.0 is_script beginning.1
+returns-clause-begun c = λ script read is_script is_short beginning. begun script read beginning.0 is_script is_short beginning.1
 
 pub returns-clause-journal : goal.returns-clause-journal
 returns-clause-journal c = begins_where_right

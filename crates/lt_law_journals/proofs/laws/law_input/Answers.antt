@@ -15,6 +15,6 @@ pub returns-clause-before : goal.returns-clause-before
 returns-clause-before c = lines_counted
 
 pub returns-clause-answer : goal.returns-clause-answer
-returns-clause-answer c = λ script bytes is_script.
-    ap (counted_from (input_parts bytes).lines) (fed_all script (drop (input_parts bytes).journal bytes) is_script)
+returns-clause-answer c = λ script bytes is_script is_short.
+    ap (counted_from (input_parts bytes).lines) (fed_all script (drop (input_parts bytes).journal bytes) is_script is_short)
     ∙ ap₂ (λ (n : ℕ) (ls : List (List ℕ)). counted_from n (checked script ls)) (lines_counted bytes) (journal_part bytes)

@@ -3,16 +3,13 @@ use Rattle.std.proofs.Common.{subst, sym, refl}
 use Rattle.lt_log.specs.LogData.{LogData}
 use Rattle.lt_live.specs.Seats.{HasReadOn}
 use Rattle.lt_live.specs.Stations.{EachSeat, HaveCursors, HaveRead}
-use Rattle.lt_live.proofs.TurnParts.{cursors, keeps_few}
+use Rattle.lt_live.proofs.TurnParts.{cursors}
 use Rattle.lt_live.proofs.Forgotten.{station_read, station_forgot}
 use Rattle.lt_live.proofs.forgetting.forget_of.Goals as goal
 
-pub read_all-requires-clause-cursors : goal.read_all-requires-clause-cursors
-read_all-requires-clause-cursors c =
+pub read_all-requires : goal.read_all-requires
+read_all-requires c =
     subst (λ (log : LogData). HaveCursors log c.args.seats.now.items) (sym c.log.ensures) (cursors c.args.runner.now c.args.seats.now.items c.requires)
-
-pub read_all-requires-clause-few : goal.read_all-requires-clause-few
-read_all-requires-clause-few c = keeps_few c.args.runner.now c.args.seats.now.items c.log.result.now c.requires c.kept.ensures c.log.ensures
 
 pub returns-in_err-read_all-clause-kept : goal.returns-in_err-read_all-clause-kept
 returns-in_err-read_all-clause-kept c =

@@ -13,7 +13,7 @@ loop-place-init c = record {
 }
 
 pub read_at-requires-clause-cursor : goal.read_at-requires-clause-cursor
-read_at-requires-clause-cursor c = λ seat e. c.requires.cursors c.loop-place.place seat (sym (c.loop-place.invariant.going.rest c.loop-place.place (omega arith)) ∙ e)
+read_at-requires-clause-cursor c = λ seat e. c.requires c.loop-place.place seat (sym (c.loop-place.invariant.going.rest c.loop-place.place (omega arith)) ∙ e)
 
 pub returns-in_err-read_at-clause-reads : goal.returns-in_err-read_at-clause-reads
 returns-in_err-read_at-clause-reads c =

@@ -5,8 +5,8 @@ use Rattle.lt_live.specs.Seats.{IsCursorOf, HasReadOn}
 use Rattle.lt_live.proofs.SeatLists.{seat_set, set_here}
 use Rattle.lt_live.proofs.forgetting.read_at.Goals as goal
 
-pub read_on-requires-clause-cursor : goal.read_on-requires-clause-cursor
-read_on-requires-clause-cursor c =
+pub read_on-requires : goal.read_on-requires
+read_on-requires c =
     let d = c.index_mut.result.now in
     subst (λ (s : Seat). IsCursorOf c.args.log.now s) (sym c.index_mut.ensures.value)
     (c.requires.cursor (slice_index_or c.args.seats.now.items c.args.place d) (slice_get-get_or c.args.seats.now.items c.args.place d c.requires.inside))

@@ -4,7 +4,6 @@ use Rattle.lt_log.specs.LogData.{LogData}
 use Rattle.lt_live.specs.Words.{known_replies}
 use Rattle.lt_live.specs.Seats.{IsCursorOf, LooksBeside, HasToldAll}
 use Rattle.lt_live.proofs.OpenedStations.{seat_found, seat_inside, station_looked, seat_looked}
-use Rattle.lt_live.proofs.TurnParts.{keeps_few}
 use Rattle.lt_live.proofs.looking.beside_at.Goals as goal
 
 pub index_mut-requires : goal.index_mut-requires
@@ -21,9 +20,6 @@ beside-requires-clause-cursor c =
     let here = (seat_found c.args.seats.now.items c.args.session.now.place c.index_mut.result.now c.args.session.now c.requires.seated refl c.index_mut.ensures.value).0 in
     let is = c.requires.kept.each c.args.session.now.place c.index_mut.result.now here in
     subst (λ (log : LogData). IsCursorOf log c.index_mut.result.now) (sym c.log.ensures) (is.kept.cursor, is.gone)
-
-pub beside-requires-clause-few : goal.beside-requires-clause-few
-beside-requires-clause-few c = keeps_few c.args.runner.now c.args.seats.now.items c.log.result.now c.requires.kept c.kept.ensures c.log.ensures
 
 pub beside-requires-clause-places : goal.beside-requires-clause-places
 beside-requires-clause-places c =

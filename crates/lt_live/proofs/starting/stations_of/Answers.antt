@@ -3,22 +3,15 @@ use Rattle.std.proofs.Common.{List, [], ◌∷◌, ◌++◌, length, subst, sym,
 use Rattle.std.proofs.lemmas.Iterator.Adapters.{YieldsList-from_vec}
 use Rattle.std.proofs.lemmas.Iterator.Consumers.{YieldsList-turn}
 use Rattle.lt_live.specs.Stations.{StationData, AreSeatless}
-use Rattle.lt_live.proofs.OpenedStations.{no_commands, few_made, one_more_station}
+use Rattle.lt_live.proofs.OpenedStations.{no_commands, one_more_station}
 use Rattle.lt_live.proofs.starting.stations_of.Goals as goal
 
-pub new-requires-clause-own : goal.new-requires-clause-own
-new-requires-clause-own c =
+pub new-requires : goal.new-requires
+new-requires c =
     let gives = c.into_iter-runner-iterator.ensures.into_iter_gives in
     let turn = YieldsList-turn (YieldsList-from_vec {s = c.into_iter-runner-iterator.result} c.args.runners.items gives.0 (gives.1 ∙ c.args.runners.ok.0))
     c.loop-runner.yielded _ c.loop-runner.yielded_by c.next.result c.next.new.self c.in-Some.runner c.in-Some.is c.next.ensures.steps in
-    no_commands c.args.runners.items (length c.loop-runner.yielded) c.in-Some.runner c.requires.commands turn.0 turn.1
-
-pub new-requires-clause-few : goal.new-requires-clause-few
-new-requires-clause-few c =
-    let gives = c.into_iter-runner-iterator.ensures.into_iter_gives in
-    let turn = YieldsList-turn (YieldsList-from_vec {s = c.into_iter-runner-iterator.result} c.args.runners.items gives.0 (gives.1 ∙ c.args.runners.ok.0))
-    c.loop-runner.yielded _ c.loop-runner.yielded_by c.next.result c.next.new.self c.in-Some.runner c.in-Some.is c.next.ensures.steps in
-    few_made c.args.runners.items (length c.loop-runner.yielded) c.in-Some.runner c.requires.few turn.0 turn.1
+    no_commands c.args.runners.items (length c.loop-runner.yielded) c.in-Some.runner c.requires turn.0 turn.1
 
 pub loop-runner-preserved : goal.loop-runner-preserved
 loop-runner-preserved c =

@@ -8,7 +8,7 @@ pub loop-place-init : goal.loop-place-init
 loop-place-init c = record { going = going_starts (TellsSeat c.args.log.now.entries) c.args.seats.now.items; count = refl }
 
 pub tell_at-requires-clause-cursor : goal.tell_at-requires-clause-cursor
-tell_at-requires-clause-cursor c = λ seat e. c.requires.cursors c.loop-place.place seat (sym (c.loop-place.invariant.going.rest c.loop-place.place (omega arith)) ∙ e)
+tell_at-requires-clause-cursor c = λ seat e. c.requires c.loop-place.place seat (sym (c.loop-place.invariant.going.rest c.loop-place.place (omega arith)) ∙ e)
 
 pub loop-place-preserved : goal.loop-place-preserved
 loop-place-preserved c =

@@ -5,8 +5,8 @@ use Rattle.lt_live.specs.Seats.{IsCursorOf, TellsSeat}
 use Rattle.lt_live.proofs.SeatLists.{seat_set}
 use Rattle.lt_live.proofs.turning.tell_at.Goals as goal
 
-pub tell-requires-clause-cursor : goal.tell-requires-clause-cursor
-tell-requires-clause-cursor c =
+pub tell-requires : goal.tell-requires
+tell-requires c =
     let d = c.index_mut.result.now in
     subst (λ (s : Seat). IsCursorOf c.args.log.now s) (sym c.index_mut.ensures.value)
     (c.requires.cursor (slice_index_or c.args.seats.now.items c.args.place d) (slice_get-get_or c.args.seats.now.items c.args.place d c.requires.inside))

@@ -4,23 +4,17 @@ use Rattle.lt_log.specs.LogData.{LogData}
 use Rattle.lt_live.specs.Seats.{TellsSeat}
 use Rattle.lt_live.specs.Stations.{EachSeat, HaveCursors}
 use Rattle.lt_live.proofs.KeptStations.{station_taken, station_told, station_grew}
-use Rattle.lt_live.proofs.TurnParts.{cursors, keeps_few, turns}
+use Rattle.lt_live.proofs.TurnParts.{cursors, turns}
 use Rattle.lt_live.proofs.turning.turn_of.Goals as goal
 
 pub append_all-fits-requires : goal.append_all-fits-requires
 append_all-fits-requires g c = station_taken c.args.runner.now c.args.seats.now.items c.take_all.new.seats.items c.requires c.take_all.ensures
 
-pub tell_all-requires-clause-cursors : goal.tell_all-requires-clause-cursors
-tell_all-requires-clause-cursors g c =
+pub tell_all-requires : goal.tell_all-requires
+tell_all-requires g c =
     subst (λ (log : LogData). HaveCursors log c.append_all-fits.new.seats.items) (sym c.log.ensures)
     (cursors c.make_move-turned.new.runner c.append_all-fits.new.seats.items
     (station_grew c.append_all-fits.new.runner c.make_move-turned.new.runner c.append_all-fits.new.seats.items c.append_all-fits.ensures.kept c.make_move-turned.ensures.grew))
-
-pub tell_all-requires-clause-few : goal.tell_all-requires-clause-few
-tell_all-requires-clause-few g c =
-    keeps_few c.make_move-turned.new.runner c.append_all-fits.new.seats.items c.log.result.now
-    (station_grew c.append_all-fits.new.runner c.make_move-turned.new.runner c.append_all-fits.new.seats.items c.append_all-fits.ensures.kept c.make_move-turned.ensures.grew)
-    c.kept.ensures c.log.ensures
 
 pub returns-clause-kept : goal.returns-clause-kept
 returns-clause-kept g c =

@@ -12,7 +12,7 @@ use Rattle.lt_live_callers.proofs.ending.end_run.Goals as goal
 pub join-requires-clause-few : goal.join-requires-clause-few
 join-requires-clause-few c =
     never_many c.args.stations.items c.settle_all.new.stations.items c.args.sessions.items c.settle_all.new.sessions.items c.deref.result.now
-    c.requires.live c.settle_all.ensures (c.deref.ensures.value ∙ c.take_runners-runners.ensures)
+    c.requires.live c.settle_all.ensures (c.deref.ensures.value ∙ c.take_runners-runners.ensures) c.requires.shares
 
 pub join-requires-clause-all : goal.join-requires-clause-all
 join-requires-clause-all c =
@@ -37,6 +37,9 @@ returns-clause-served c =
     c.in_ok-script.script c.in_ok-ending.ending c.in_ok-logs.logs.items c.in_ok-run.run'.entries c.settle_all.ensures c.take_runners-runners.ensures
     (subst (λ (rs : List Parts). IsJoined rs c.in_ok-script.script) c.deref.ensures.value c.in_ok-script.ensures) c.in_ok-ending.ensures
     c.in_ok-logs.ensures c.in_ok-run.ensures c.law_live_lasts.ensures.last
+
+pub returns-clause-short : goal.returns-clause-short
+returns-clause-short c = c.in_ok-script.ensures.short
 
 pub returns-clause-ends : goal.returns-clause-ends
 returns-clause-ends c =

@@ -1,8 +1,8 @@
-use Rattle.std.proofs.Common.{◌++◌, List, take, length, ap, sym, subst, arith, ◌∙◌, slice_get, eqb-true, append_assoc, length-append}
+use Rattle.std.proofs.Common.{◌++◌, List, take, ap, sym, subst, arith, ◌∙◌, eqb-true, append_assoc}
 use Rattle.lt_spec.specs.World.{Logged}
 use Rattle.lt_merge.specs.Merging.{Merges}
-use Rattle.lt_merge.specs.Heads.{entries_in, rest_of}
-use Rattle.lt_merge.proofs.Taking.{length_copied, all_taken, head_inside, log_inside, not_empty}
+use Rattle.lt_merge.specs.Heads.{rest_of}
+use Rattle.lt_merge.proofs.Taking.{all_taken, head_inside, log_inside, not_empty}
 use Rattle.lt_merge.proofs.logs.merge_heads.Goals as goal
 
 pub take_move-requires-clause-place : goal.take_move-requires-clause-place
@@ -21,20 +21,10 @@ loop-heads-preserved c =
     let one = take 1 (rest_of logs head) in
     let before = c.loop-heads.run.entries in
     let invariant = c.loop-heads.invariant in
-    let some = not_empty c.loop-heads.heads.len (sym c.is_empty.ensures ∙ c.loop-heads-test.true) in
-    let inside = head_inside logs c.loop-heads.heads.items head invariant.are_heads (omega (arith, some, c.loop-heads.heads.ok.0)) c.index-head.ensures in
     record {
       are_heads = c.advance.ensures.are_heads;
       more = λ run merged. subst (Merges logs) (sym (ap (λ (l : List Logged). l ++ run) c.in_ok-take_move.ensures ∙ append_assoc before one run))
           (invariant.more (one ++ run) (c.advance.ensures.next run merged));
-      count = omega (
-        arith,
-        ap length c.in_ok-take_move.ensures,
-        length-append before one,
-        length_copied (entries_in (slice_get logs head.log)) head.place inside,
-        c.advance.ensures.count,
-        invariant.count,
-      );
     }
 
 pub returns : goal.returns

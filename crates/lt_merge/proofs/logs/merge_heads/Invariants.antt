@@ -1,4 +1,4 @@
-use Rattle.std.proofs.Common.{◌≡◌, ◌+◌, ◌++◌, List, length}
+use Rattle.std.proofs.Common.{◌++◌, List, length}
 use Rattle.lt_spec.specs.World.{Logged}
 use Rattle.lt_merge.specs.Merging.{all_entries, Merges}
 use Rattle.lt_merge.specs.Heads.{AreHeads, rests_of}
@@ -8,7 +8,6 @@ abbrev pub invariant-loop-heads : goal.invariant-loop-heads
 invariant-loop-heads l = record {
   are_heads : AreHeads l.logs l.heads.items;
   more : (run : List Logged) → Merges (rests_of l.logs l.heads.items) run → Merges l.logs (l.run.entries ++ run);
-  count : length l.run.entries + length (all_entries (rests_of l.logs l.heads.items)) ≡ length (all_entries l.logs);
 }
 
 abbrev pub decreases-loop-heads : goal.decreases-loop-heads

@@ -9,7 +9,7 @@ pub overflow_add-locks : goal.overflow_add-locks
 overflow_add-locks c =
     let inside : c.loop-k.k < length c.args.cores.now = omega (arith, c.loop-k-test.true, c.sets-k-end.ensures, c.requires.count) in
     let few = few_of c.args.cores.now c.from.result c.loop-k.k c.args.client c.index-cores-from.result c.requires.few inside c.from.ensures c.index-cores-from.is in
-    omega (arith, few, c.held_count-locks.ensures, c.loop-k.invariant.few, c.loop-k-test.true, c.sets-k-end.ensures, c.sets-k-end.type_inv)
+    omega (arith, few, c.held_count-locks.ensures, c.loop-k.invariant.few, c.loop-k-test.true, c.sets-k-end.ensures, c.requires.few_sets)
 
 pub loop-k-preserved : goal.loop-k-preserved
 loop-k-preserved c =

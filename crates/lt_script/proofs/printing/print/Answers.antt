@@ -10,4 +10,4 @@ returns c =
     let written : c.push_commands.new.out.items ≡ print_of c.args.script.now =
     rw (c.in_ok-push_commands.ensures, c.in_ok-push_clients.ensures, c.in_ok-push_sets.ensures, c.in_ok-push_nodes.ensures, c.in_ok-push_version.ensures, c.new-out.ensures.items, c.nodes.ensures.nodes, c.version.ensures.version)
     (sym (print_parts c.args.script.now)) in
-    record { text = written; read_back = ap read_of written ∙ read_printed c.args.script.now c.nodes.ensures.kept }
+    record { text = written; read_back = λ short. ap read_of written ∙ read_printed c.args.script.now c.nodes.ensures.kept short }

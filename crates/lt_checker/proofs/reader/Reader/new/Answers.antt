@@ -1,5 +1,6 @@
 use Rattle.std.proofs.Common.{◌≡◌, ◌++◌, ◌∙◌, [], List, ap, ap₂, arith, subst, sym}
 use Rattle.lt_spec.specs.World.{Logged}
+use Rattle.lt_spec.specs.Script.{IsShort}
 use Rattle.lt_journal.specs.declared.line.Line.{Line}
 use Rattle.lt_journal.specs.RunLines.{first_lines}
 use Rattle.lt_spec.specs.declared.moves.TheConstants.{MAX_MOVES}
@@ -13,6 +14,7 @@ pub invariant_of-result : goal.invariant_of-result
 invariant_of-result c =
     let script = c.args.script.now in
     let world = c.in_ok-world.world in
+    let short : IsShort script = omega (arith, c.if-commands-from.false, c.from.ensures, c.commands.ensures) in
     let later = c.push_closing.new.due.items in
     let due = due_lines script world.run 0 later in
     let world_is : world ≡ record { script = script; limit = MAX_MOVES; run = [] } = c.in_ok-world.ensures in
@@ -23,9 +25,11 @@ invariant_of-result c =
     c.in_ok-push_closing.ensures ∙ ap₂ (λ (t : List Line) (run : List Logged). t ++ closing_at_rest script run) first run_is in
     let at : first_place script ≡ record { run = world.run; due = due } = λ i. record { run = sym run_is i; due = sym due_is i } in rw c.in_ok-wording.ensures (
       c.in_ok-push_first.ensures.is_script,
+      short,
       omega arith,
       record {
         is_script = c.in_ok-push_first.ensures.is_script;
+        is_short = short;
         script_is = ap (λ (w : WorldData). w.script) world_is;
         limit = ap (λ (w : WorldData). w.limit) world_is;
         come = subst (λ (p : Place). HasCome script p) at ([], first_begins script);

@@ -1,7 +1,7 @@
 use Rattle.std.proofs.Common.{rules, ◌≡◌, ◌≢◌, ◌-◌, ◌≤◌, ◌<◌, List, slice_index_or, ap, arith, length}
 use Rattle.std.proofs.lemmas.List.{get_or_default}
 use Rattle.lt_modes.specs.declared.parts.Row.{Row}
-use Rattle.lt_held.specs.HeldData.{IsCounted}
+use Rattle.lt_held.specs.HeldData.{IsCounted, most_locks}
 use Rattle.lt_held.proofs.RowLemmas.{rows_set, rows_removed, count_removed}
 use Rattle.lt_held.proofs.held.Held.take.Goals as goal
 
@@ -21,7 +21,7 @@ invariant_of-self-else-index-eq1 c =
     let count : row.count ≡ read.count = omega (arith, ap (λ (r : Row). r.count) same, ap (λ (r : Row). r.count) same_read, ap (λ (r : Row). r.count) (get_or_default rows c.in-Some.k row read within)) in
     let several : row.count ≢ 1 = λ e. c.if-index-eq1.false (omega (arith, e, count)) in
     let some : 1 ≤ row.count - 1 = omega (arith, several, counted.some, ap (λ (r : Row). r.count) same) in
-    let bound : row.count - 1 ≤ 65536 = omega (arith, counted.within, ap (λ (r : Row). r.count) same) in
+    let bound : row.count - 1 ≤ most_locks = omega (arith, counted.within, ap (λ (r : Row). r.count) same) in
     rows_set rows c.in-Some.k row (record row { count = row.count - 1 }) c.self.invariant within (record { some = some; within = bound }) (ap (λ (r : Row). r.client) same) (ap (λ (r : Row). r.mode) same)
 
 pub returns-then-index-eq1-clause-fewer : goal.returns-then-index-eq1-clause-fewer

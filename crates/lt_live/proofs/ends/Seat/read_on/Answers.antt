@@ -20,4 +20,4 @@ loop-self-preserved c =
 
 pub returns-clause-all : goal.returns-clause-all
 returns-clause-all c =
-    reads_all c.args.log.now.entries c.args.self.now c.loop-self.self c.requires.cursor.0 c.loop-self.invariant (omega (arith, c.loop-self-test.false, c.len.ensures))
+    reads_all c.args.log.now.entries c.args.self.now c.loop-self.self c.requires.0 c.loop-self.invariant (omega (arith, c.loop-self-test.false, c.len.ensures))

@@ -33,4 +33,11 @@ invariant_of-self c =
             length-with_event c.self.inside.kept.entries c.args.event,
             c.self.invariant.few,
           );
+      few_kept =
+          omega (
+            arith,
+            ap length c.add_event.ensures.entries,
+            length-with_event c.self.inside.kept.entries c.args.event,
+            c.self.invariant.few_kept,
+          );
     }

@@ -5,7 +5,7 @@ use Rattle.lt_spec.specs.World.{Logged}
 use Rattle.lt_merge.specs.declared.run.Mark.{Mark}
 use Rattle.lt_merge.specs.Merging.{RunData}
 use Rattle.lt_merge.specs.Marks.{entries_of, IsLaid}
-use Rattle.lt_merge.proofs.Laid.{laid_add, entries_of-add, length-entries_of}
+use Rattle.lt_merge.proofs.Laid.{laid_add, entries_of-add}
 use Rattle.lt_merge.proofs.Taking.{copied}
 use Rattle.lt_merge.proofs.run.Run.copy_move.Goals as goal
 
@@ -15,16 +15,8 @@ invariant_of-self-2 c =
     let mark = c.new-mark.result in
     let marks : c.push_reserved.new.self.items ≡ before.moves.items ++ mark ∷ [] =
     c.push_reserved.ensures.items ∙ ap (λ (ms : List Mark). ms ++ mark ∷ []) c.in_ok-reserve.ensures.items in (
-      omega (
-        arith,
-        length-entries_of before.moves.items before.events.items,
-        before.moves.ok.0,
-        ap (λ (run : RunData). length run.entries) c.self.view_is,
-        c.requires.few,
-        c.push_reserved.ensures.len,
-        c.in_ok-reserve.ensures.len,
-      ),
-      omega (arith, c.in_ok-extend_from_slice.ensures.len, c.len-start.ensures, c.in_ok-check_events.ensures.few),
+      omega (arith, c.push_reserved.ensures.len, c.in_ok-reserve.ensures.len, c.len.ensures, c.in_ok-check_count.ensures.few),
+      omega (arith, c.in_ok-extend_from_slice.ensures.len, c.len-start.ensures, c.in_ok-check_count-2.ensures.few),
       subst (λ (ms : List Mark). IsLaid ms (vec_len c.extend_from_slice.new.self)) (sym marks)
           (laid_add before.moves.items mark (vec_len before.events) _ (c.new-mark.ensures.start ∙ c.len-start.ensures) (omega (arith, c.in_ok-extend_from_slice.ensures.len)) c.self.invariant.2),
     )

@@ -9,9 +9,21 @@ use Rattle.lt_merge.proofs.run.Run.push.Goals as goal
 pub invariant_of-self : goal.invariant_of-self
 invariant_of-self c =
     let before = c.self.inside in (
-      omega (arith, length-entries_of before.moves.items before.events.items, before.moves.ok.0, ap (λ (run : RunData). length run.entries) c.self.view_is, c.push_reserved.ensures.len),
+      omega (arith, c.push_reserved.ensures.len, ap (λ (run : RunData). run.spare) c.self.view_is, c.requires.spare),
       c.self.invariant.1,
       rw c.push_reserved.ensures.items (laid_add before.moves.items _ _ _ (c.new.ensures.start ∙ c.len-start.ensures) (omega arith) c.self.invariant.2),
+    )
+
+pub returns-clause-few : goal.returns-clause-few
+returns-clause-few c =
+    let before = c.self.inside in
+    omega (
+      arith,
+      length-entries_of c.push_reserved.new.self.items before.events.items,
+      c.push_reserved.new.self.ok.0,
+      c.push_reserved.ensures.len,
+      ap (λ (run : RunData). run.spare) c.self.view_is,
+      c.requires.spare,
     )
 
 pub returns-clause-entries : goal.returns-clause-entries

@@ -1,6 +1,6 @@
 use Rattle.std.proofs.Common.{◌∙◌, ◌<◌, length, sym, subst}
 use Rattle.lt_modes.specs.Script.{ScriptData}
-use Rattle.lt_spec.specs.declared.limits.TheConstants.{MAX_COMMANDS}
+use Rattle.lt_spec.specs.declared.limits.TheConstants.{MAX_COMMANDS_OF_SERVICE}
 use Rattle.lt_spec.specs.Script.{IsRequest, HasModesOf}
 use Rattle.lt_script.specs.Views.{script_data}
 use Rattle.lt_script.proofs.ScriptLemmas.{command_added}
@@ -10,7 +10,7 @@ pub invariant_of-self-2 : goal.invariant_of-self-2
 invariant_of-self-2 c =
     let s = script_data c.self.inside in
     let at = c.self.view_is ∙ c.in_ok-part.ensures in
-    let room = subst (λ (v : ScriptData). length v.commands < MAX_COMMANDS) (sym at) c.requires.room in
+    let room = subst (λ (v : ScriptData). length v.commands < MAX_COMMANDS_OF_SERVICE) (sym at) c.requires.room in
     let request = subst (λ (v : ScriptData). IsRequest v.sets v.clients (c.args.client, c.args.command)) (sym at) c.requires.request in
     let modes = subst (λ (v : ScriptData). HasModesOf v.version c.args.command) (sym at) c.requires.modes in
     rw (c.in_ok-push.ensures.items, c.in-Some.ensures.value) (record { script = command_added s c.args.client c.args.command c.self.invariant.script room request modes; noted = c.self.invariant.noted })

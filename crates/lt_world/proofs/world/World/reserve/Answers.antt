@@ -7,7 +7,7 @@ use Rattle.lt_world.proofs.world.World.reserve.Goals as goal
 pub reserve-requires-clause-few : goal.reserve-requires-clause-few
 reserve-requires-clause-few c =
     let s = c.of-parts.result in
-    few_moves s.script s.network.run.entries c.of-parts.ensures.whole.holds.is_script c.of-parts.ensures.whole.holds.is_run
+    few_moves s.script s.limit s.moves.items s.network.run.entries c.of-parts.ensures.whole.holds.is_script c.of-parts.ensures.whole.counted
 
 pub invariant_of-result : goal.invariant_of-result
 invariant_of-result c =

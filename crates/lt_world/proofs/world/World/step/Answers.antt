@@ -8,7 +8,7 @@ use Rattle.lt_world.proofs.world.World.step.Goals as goal
 pub step-requires-clause-few : goal.step-requires-clause-few
 step-requires-clause-few c =
     let s = c.self.inside in
-    few_moves s.script s.network.run.entries c.self.invariant.holds.is_script c.self.invariant.holds.is_run
+    few_moves s.script s.limit s.moves.items s.network.run.entries c.self.invariant.holds.is_script c.self.invariant.counted
 
 pub invariant_of-self : goal.invariant_of-self
 invariant_of-self c =
@@ -28,7 +28,7 @@ note_turns-requires-clause-others c =
     let holds = c.self.invariant.holds in
     others_stand s.script s.network.run.entries c.step.new.self.run.entries q c.args.choice.step s.turns holds.is_script holds.is_run
     (subst (λ (w : WorldData). IsTrue (is_enabled w.script (world_of w) q c.args.choice.step)) (sym c.self.view_is) c.requires.enabled)
-    (few_moves s.script s.network.run.entries holds.is_script holds.is_run)
+    (few_moves s.script s.limit s.moves.items s.network.run.entries holds.is_script c.self.invariant.counted)
     c.self.invariant.acts c.in_ok-step.ensures.ok
 
 pub invariant_of-self-2 : goal.invariant_of-self-2
