@@ -148,7 +148,7 @@ impl Core {
 fn head_fits(clock: u64, letter: &Letter, numbers: &Numbers) -> bool
     ensures { result ≡ head_fits (rule_numbers numbers.now) clock (letter_seen letter.now) }
 {
-    u16::from(letter.set) < numbers.sets
+    letter.set < numbers.sets
         && (letter.link.node < numbers.nodes
             && (letter.link.epoch <= letter.stamp.clock
                 && (is_early(letter.stamp.clock) && is_early(clock))))

@@ -8,7 +8,7 @@ use lt_modes::Ask;
 #[derive(Clone, Copy)]
 pub struct Numbers<'a> {
     pub nodes: u8,
-    pub sets: u16,
+    pub sets: u32,
     /// The node of each client.
     pub homes: &'a [u8],
 }

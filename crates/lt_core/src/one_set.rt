@@ -21,7 +21,7 @@ use std::marker::Model;
 /// One lock set at one node.
 #[derive(Drop)]
 pub struct Core {
-    pub(crate) set: u8,
+    pub(crate) set: u32,
     pub(crate) held: Held,
     // The modes that the desk knows of, or was told, as those of this node.
     pub(crate) charge: ModeSet,
@@ -74,7 +74,7 @@ impl Core {
         nodes: u8,
         clients: u16,
         node: u8,
-        set: u8,
+        set: u32,
     ) -> Result<Core, AllocError>
         requires { nodes ≤ 64 }
         ensures state { IfOk result (λ core. core.state ≡ first_state nodes node) }

@@ -127,7 +127,7 @@ pub(crate) fn give(held: &mut Held, client: u16, mode: Mode, gives_up: Option<Mo
 }
 
 /// The line that tells that the ask is granted.
-fn answer_event(set: u8, ask: &Ask) -> Event
+fn answer_event(set: u32, ask: &Ask) -> Event
     ensures { result ≡ answer_event set ask.now }
 {
     match ask.gives_up {

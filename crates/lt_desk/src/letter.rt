@@ -29,7 +29,7 @@ pub struct News {
 #[derive(Drop)]
 pub struct Letter {
     pub stamp: Stamp,
-    pub set: u8,
+    pub set: u32,
     /// The sender's firm link.
     pub link: Link,
     pub body: Body,

@@ -5,7 +5,7 @@ use Rattle.std.proofs.lemmas.List.{length-map}
 use Rattle.std.proofs.lemmas.List.Elements.{All-contains, All-weaker}
 use Rattle.std.proofs.lemmas.List.Sums.{sum_by-cons}
 use Rattle.lt_modes.specs.declared.ask.Ask.{Ask}
-use Rattle.lt_modes.specs.Script.{ScriptData, ClientData, home_at}
+use Rattle.lt_modes.specs.Script.{ScriptData, SetData, ClientData, home_at}
 use Rattle.lt_modes.specs.State.{SetState, Desk}
 use Rattle.lt_modes.specs.Serving.{waits}
 use Rattle.lt_modes.specs.Fits.{has_client, are_apart, asks_here, is_at_home, numbers_of}
@@ -15,20 +15,21 @@ use Rattle.lt_modes.specs.declared.parts.Row.{Row}
 use Rattle.lt_modes.specs.Modes.{is_of, locks_of, locks_in}
 use Rattle.lt_modes.specs.declared.command.Command.TheVariants as command
 use Rattle.lt_lists.specs.Below.{sum_below, one_if, any_below}
-use Rattle.lt_lists.proofs.Members.{contains_first, contains_later}
+use Rattle.lt_lists.proofs.Members.{contains_first, contains_later, few_filtered}
 use Rattle.lt_lists.proofs.Sums.{sum_below-add, sum_below-at, sum_below-most, sum_below-same, sum_below-one, sum_below-none}
 use Rattle.lt_lists.proofs.Searches.{any_below_none}
 use Rattle.lt_spec.specs.Script.{IsScript, load_of, IsRequest}
 use Rattle.lt_spec.specs.declared.limits.TheConstants.{MAX_CLIENTS, MAX_CLIENTS_OF_NODE, MAX_COMMANDS_OF_SERVICE}
-use Rattle.lt_spec.specs.NodeMove.{home, NodeState, command_if, commands_of, node_waits, IsWhole, HasTargetsAt, desk_within, set_within, leaves_ask}
+use Rattle.lt_spec.specs.NodeMove.{home, family, related, locks_in_sets, NodeState, command_if, commands_of, node_waits, IsWhole, HasTargetsAt, desk_within, set_within, leaves_ask}
 use Rattle.lt_spec.specs.Script as of_script
 use Rattle.lt_spec.specs.World.{Logged, world_after, IsRun}
 use Rattle.lt_model.specs.Homes.{IsAskOf, IsRowAtHome, Homes}
 use Rattle.lt_model.specs.Invariant.{ClientsKept, WorldInvariant}
 use Rattle.lt_model.proofs.HomesMove.{homes_in_runs}
+use Rattle.lt_model.proofs.CountMove.{sum_places}
 use Rattle.lt_law_invariant.proofs.Counting.{weight_at, by_key, few_keys, length_sum, filtered_weight}
 use Rattle.lt_law_invariant.proofs.SoundStates.{kept_in_runs}
-use Rattle.lt_law_invariant.specs.InvariantLaws.{NodesStayWithin, AsksArePlaced}
+use Rattle.lt_law_invariant.specs.InvariantLaws.{NodesStayWithin, DropsStayWithin, AsksArePlaced}
 use Rattle.lt_law_invariant.proofs.RowsKept.{made_in_runs}
 
 abbrev asks_by : List Ask → ℕ → ℕ
@@ -256,6 +257,16 @@ nodes_within script run is_script is_run q below =
     and_from _ _ (le-leb _ _ (few_locks script q s n is_script (kept.clients q below) made (homes.states q s).rows within))
     (and_from _ _ (le-leb _ _ (few_here script q (n.set s) is_script sound.here sound.apart))
     (desk_is_within script n.clock (n.set s) (n.set s).desk sound.desk)))
+
+pub drops_within : DropsStayWithin
+drops_within script run is_script is_run q below client s =
+    let n = (world_after script run).node q in
+    let clients = (kept_after script run is_script is_run).clients q below in
+    let locks : ℕ → ℕ = λ t. locks_of (n.set t).held client in
+    let part = sum_places (λ k (set : SetData). set.family == family script s) locks 0 script.sets in
+    let same : sum_below (0 + length script.sets) locks ≡ sum_below (length script.sets) locks = ap (λ (m : ℕ). sum_below m locks) (omega arith) in
+    let few = few_filtered (command_if client) script.commands in
+    omega (arith, part, same, clients.counts client, made_in_runs script run is_run q client, few, is_script.few_commands)
 
 pub asks_placed : AsksArePlaced
 asks_placed script run is_script is_run client declared runnable =

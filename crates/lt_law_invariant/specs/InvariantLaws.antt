@@ -1,5 +1,5 @@
 -- What nodes keep in runs stays within the limits of scripts, as statements.
-use Rattle.std.specs.Prelude.{ℕ, ◌<◌, List, length, IsTrue, ◌≡◌, ◌⊎◌, [], is_some, Contains, All, ◌+◌, ◌^◌, Some, remove, ◌≢◌, Option, None, IsFalse, take}
+use Rattle.std.specs.Prelude.{ℕ, ◌<◌, ◌≤◌, List, length, IsTrue, ◌≡◌, ◌⊎◌, [], is_some, Contains, All, ◌+◌, ◌^◌, Some, remove, ◌≢◌, Option, None, IsFalse, take}
 use Rattle.lt_modes.specs.Script.{ScriptData}
 use Rattle.lt_modes.specs.declared.ask.Ask.{Ask}
 use Rattle.lt_modes.specs.Modes.{excludes_itself, conflicts}
@@ -12,8 +12,9 @@ use Rattle.lt_modes.specs.declared.stamp.Stamp.{Stamp}
 use Rattle.lt_modes.specs.Freezing.{frozen_by}
 use Rattle.lt_modes.specs.declared.event.Event.{Event}
 use Rattle.lt_spec.specs.Script.{IsScript}
+use Rattle.lt_spec.specs.declared.limits.TheConstants.{MAX_COMMANDS_OF_SERVICE}
 use Rattle.lt_spec.specs.World.{Logged, world_after, is_runnable, IsRun, World, is_enabled, after, after_made, is_at_rest}
-use Rattle.lt_spec.specs.NodeMove.{home, node_within, leaves_asks, IsWhole, touched}
+use Rattle.lt_spec.specs.NodeMove.{home, related, locks_in_sets, node_within, leaves_asks, IsWhole, touched}
 use Rattle.lt_spec.specs.Facts.{state_at, DeskIs, IsFirstWaiter, IsLedToQueue}
 use Rattle.lt_spec.specs.Holdings.{IsBarredByLines}
 use Rattle.lt_model.specs.Invariant.{WorldInvariant, DeskKept, SetKept, LinesKept}
@@ -24,6 +25,11 @@ use Rattle.lt_model.specs.AccountRules.{IsCopyFree}
 abbrev pub NodesStayWithin : Type 0
 NodesStayWithin = (script : ScriptData) (run : List Logged) → IsScript script → IsRun script run → (q : ℕ) → q < script.nodes
     → IsTrue (node_within script ((world_after script run).node q))
+
+-- no client has more locks in a family there than a service has commands
+abbrev pub DropsStayWithin : Type 0
+DropsStayWithin = (script : ScriptData) (run : List Logged) → IsScript script → IsRun script run → (q : ℕ) → q < script.nodes
+    → (client s : ℕ) → locks_in_sets ((world_after script run).node q) client (related script s) ≤ MAX_COMMANDS_OF_SERVICE
 
 -- and where a client of it can act, there is a place for a further ask in each set
 abbrev pub AsksArePlaced : Type 0

@@ -1,5 +1,5 @@
 ghost use Rattle.lt_model.specs.Laws.{OnePlace};
-ghost use Rattle.lt_law_invariant.specs.InvariantLaws.{KeptStays, LettersFit, KeptInRuns, LocksNeverConflict, LettersFitInRuns, FirstWaiterInRuns, LedInRuns, FrozenInRuns, CopyServiceKeeps, HandOverKeeps, AllLocksAgree, MovesHoldUp, MovesKeepLedgers, FirstWaiterConflicts, BarredByLines, AsksAreLed, HoldersAreFrozen, NodesStayWithin, AsksArePlaced};
+ghost use Rattle.lt_law_invariant.specs.InvariantLaws.{KeptStays, LettersFit, KeptInRuns, LocksNeverConflict, LettersFitInRuns, FirstWaiterInRuns, LedInRuns, FrozenInRuns, CopyServiceKeeps, HandOverKeeps, AllLocksAgree, MovesHoldUp, MovesKeepLedgers, FirstWaiterConflicts, BarredByLines, AsksAreLed, HoldersAreFrozen, NodesStayWithin, DropsStayWithin, AsksArePlaced};
 ghost use Rattle.lt_spec.specs.Promised.{LinesOfServices, ServedInTurn};
 
 /// Every enabled move of a world that has the invariant leads to one that has it, and each letter that is on its way
@@ -60,5 +60,6 @@ pub fn law_rest()
 /// In every run of a script each node keeps what leaves room for one move more.
 pub fn law_within()
     ensures within { NodesStayWithin }
+    ensures drops { DropsStayWithin }
     ensures asks { AsksArePlaced }
 {}

@@ -13,15 +13,16 @@ use Rattle.lt_lists.specs.Below.{any_below, sum_below}
 use Rattle.lt_lists.proofs.Searches.{any_below_at, any_below_same}
 use Rattle.lt_lists.proofs.AllLemmas.{all_weaker}
 use Rattle.lt_spec.specs.World.{World, is_runnable, has_mail, is_enabled, is_at_rest, can_move, Logged, world_after, start, is_of_node}
-use Rattle.lt_spec.specs.NodeMove.{home, NodeState, node_within, leaves_asks}
+use Rattle.lt_spec.specs.NodeMove.{home, related, locks_in_sets, NodeState, node_within, leaves_asks}
 use Rattle.lt_spec.specs.Script.{IsScript}
+use Rattle.lt_spec.specs.declared.limits.TheConstants.{MAX_COMMANDS_OF_SERVICE}
 use Rattle.lt_spec.specs.FixedOrder.{can_act}
 use Rattle.lt_merge.specs.Merging.{RunData, AreRising, AreLogs, by_node, all_entries}
 use Rattle.lt_merge.proofs.MergedLists.{all_pass}
 use Rattle.lt_merge.proofs.Placing.{join_empty}
 use Rattle.lt_law_enabled.specs.OrderLaws.{RestsWithoutMove}
 use Rattle.lt_law_invariant.proofs.SoundStates.{letters_fit_in_runs}
-use Rattle.lt_law_invariant.proofs.FewAsks.{whole, nodes_within, asks_placed}
+use Rattle.lt_law_invariant.proofs.FewAsks.{whole, nodes_within, drops_within, asks_placed}
 use Rattle.lt_law_plays.specs.Merged.{merged, Part, part_or, part_at, logs_of, Joined}
 use Rattle.lt_law_plays.proofs.PlayLemmas.{joined_are_plays, plays_rise}
 use Rattle.lt_law_plays.proofs.MergedLogs.{merged_exists, merged_has_all, IsOwn, none_of_other, head_or}
@@ -29,7 +30,7 @@ use Rattle.lt_law_plays.proofs.MergedRun.{merged_is_run, merged_ends}
 use Rattle.lt_law_plays.proofs.LowClocks.{same_runnable, clocks_are_counted}
 use Rattle.lt_law_ends.proofs.Reach.{any_below_which}
 use Rattle.lt_law_merged.specs.JoinedRun.{JoinedRuns, JoinedMerges, LogsOfParts}
-use Rattle.lt_law_merged.specs.States.{CanMoveIsSeen, CanMoveIsEnabled, RestIsNoMove, StatesWithin, AsksHavePlace, FewMoves, ClocksBelow, LettersLeftFit}
+use Rattle.lt_law_merged.specs.States.{CanMoveIsSeen, CanMoveIsEnabled, RestIsNoMove, StatesWithin, DropsWithin, AsksHavePlace, FewMoves, ClocksBelow, LettersLeftFit}
 
 -- the part at its place
 pub part_is : (script : ScriptData) (parts : List Part) (x : ℕ) (part : Part) → slice_get parts x ≡ Some part → part_at script parts x ≡ part
@@ -126,6 +127,12 @@ states_within script parts is_script joined q part is_part =
     let run = joined_merges script parts joined in
     subst (λ (n : NodeState). IsTrue (node_within script n)) (run.node q part is_part)
     (nodes_within script _ is_script run.is_run q (below script parts joined q part is_part))
+
+pub drops_are_within : DropsWithin
+drops_are_within script parts is_script joined q part is_part client s =
+    let run = joined_merges script parts joined in
+    subst (λ (n : NodeState). locks_in_sets n client (related script s) ≤ MAX_COMMANDS_OF_SERVICE) (run.node q part is_part)
+    (drops_within script _ is_script run.is_run q (below script parts joined q part is_part) client s)
 
 pub asks_have_place : AsksHavePlace
 asks_have_place script parts is_script joined q client part is_part can =

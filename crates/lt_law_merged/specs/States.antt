@@ -7,9 +7,10 @@ use Rattle.lt_modes.specs.Fits.{fits, numbers_of}
 use Rattle.lt_lists.specs.Below.{any_below}
 use Rattle.lt_spec.specs.World.{World, has_mail, is_enabled, is_at_rest, can_move}
 use Rattle.lt_spec.specs.Script.{IsScript}
+use Rattle.lt_spec.specs.declared.limits.TheConstants.{MAX_COMMANDS_OF_SERVICE}
 use Rattle.lt_spec.specs.declared.moves.TheConstants.{MAX_MOVES_OF_SERVICE}
 use Rattle.lt_spec.specs.FixedOrder.{can_act}
-use Rattle.lt_spec.specs.NodeMove.{node_within, leaves_asks}
+use Rattle.lt_spec.specs.NodeMove.{related, locks_in_sets, node_within, leaves_asks}
 use Rattle.lt_law_plays.specs.Merged.{Part, Joined}
 
 -- a node can make a move where a letter is on its way to it, or a client can act by what the node alone knows
@@ -33,6 +34,12 @@ RestIsNoMove = (script : ScriptData) (w : World) → IsScript script
 abbrev pub StatesWithin : Type 0
 StatesWithin = (script : ScriptData) (parts : List Part) → IsScript script → Joined script parts
     → (q : ℕ) (part : Part) → slice_get parts q ≡ Some part → IsTrue (node_within script part.last)
+
+-- no client has more locks in a family there than a service has commands
+abbrev pub DropsWithin : Type 0
+DropsWithin = (script : ScriptData) (parts : List Part) → IsScript script → Joined script parts
+    → (q : ℕ) (part : Part) → slice_get parts q ≡ Some part → (client s : ℕ)
+    → locks_in_sets part.last client (related script s) ≤ MAX_COMMANDS_OF_SERVICE
 
 -- and where a client of it can act, there is a place for a further ask in each set
 abbrev pub AsksHavePlace : Type 0

@@ -1,5 +1,5 @@
 ghost use Rattle.lt_law_merged.specs.JoinedRun.{JoinedRuns, JoinedMerges, LogsOfParts};
-ghost use Rattle.lt_law_merged.specs.States.{StatesWithin, AsksHavePlace, ClocksBelow, LettersLeftFit, CanMoveIsSeen, CanMoveIsEnabled, RestIsNoMove};
+ghost use Rattle.lt_law_merged.specs.States.{StatesWithin, DropsWithin, AsksHavePlace, ClocksBelow, LettersLeftFit, CanMoveIsSeen, CanMoveIsEnabled, RestIsNoMove};
 
 use lt_law_enabled::law_order;
 
@@ -15,6 +15,7 @@ pub fn law_joined()
 /// clock meets its bound, and each letter that is left fits its receiver, so also the one that is in its hand.
 pub fn law_hand_fits()
     ensures within { StatesWithin }
+    ensures drops { DropsWithin }
     ensures asks { AsksHavePlace }
     ensures clocks { ClocksBelow }
     ensures letters { LettersLeftFit }

@@ -1,5 +1,5 @@
 -- What is in a list, and in what a filter or a map makes of it.
-use Rattle.std.proofs.Common.{◌≡◌, ℕ, zero, suc, ◌<◌, inl, inr, List, [], ◌∷◌, length, Bool, true, false, refl, sym, ap, arith, ◌∙◌, Option, Some, None, ◌⊎◌, if◌then◌else◌, All, Contains, filter, map, slice_index_or, remove, slice_set, filter_map}
+use Rattle.std.proofs.Common.{◌≡◌, ℕ, zero, suc, ◌<◌, ◌≤◌, inl, inr, List, [], ◌∷◌, length, Bool, true, false, refl, sym, ap, arith, ◌∙◌, Option, Some, None, ◌⊎◌, if◌then◌else◌, All, Contains, filter, map, slice_index_or, remove, slice_set, filter_map}
 use Rattle.std.specs.List.{list_any, cons_option}
 use Rattle.std.proofs.lemmas.Bool.{or_cases, or_left, or_right}
 use Rattle.std.proofs.lemmas.List.Elements.{Contains-get_or}
@@ -155,3 +155,12 @@ contains_left (first ∷ rest) (suc k) x h other = elim (contains_cases first x 
   | inl same ↦ contains_first first x (remove rest k) same
   | inr later ↦ contains_later first x (remove rest k) (contains_left rest k x later (λ within e. other (omega (arith, within)) e))
 ]
+
+-- no more come out of a list by a filter than stand in it
+pub few_filtered : {X Y : Type 0} (f : X → Option Y) (xs : List X) → length (filter_map f xs) ≤ length xs
+few_filtered f [] = omega arith
+few_filtered {Y = Y} f (x ∷ rest) = by_first (f x) (few_filtered f rest)
+  where
+    by_first : (o : Option Y) → length (filter_map f rest) ≤ length rest → length (cons_option o (filter_map f rest)) ≤ length (x ∷ rest)
+    by_first None h = omega (arith, h)
+    by_first (Some y) h = omega (arith, h)

@@ -174,7 +174,7 @@ plus_none k = omega arith
 plus_one : (k : ℕ) → k + 1 ≡ suc k
 plus_one k = omega arith
 
-sum_places : {X : Type 0} (test : ℕ → X → Bool) (f : ℕ → ℕ) (k : ℕ) (xs : List X)
+pub sum_places : {X : Type 0} (test : ℕ → X → Bool) (f : ℕ → ℕ) (k : ℕ) (xs : List X)
     → sum_below k f + sum_by f (places_from test k xs) ≤ sum_below (k + length xs) f
 sum_places test f k [] = omega (arith, ap (λ (n : ℕ). sum_below n f) (plus_none k))
 sum_places test f k (x ∷ xs) =

@@ -6,33 +6,33 @@ use crate::mode_set::ModeSet;
 pub enum Event {
     Grant {
         client: u16,
-        set: u8,
+        set: u32,
         mode: Mode,
     },
     Wait {
         client: u16,
-        set: u8,
+        set: u32,
         mode: Mode,
     },
     Try {
         client: u16,
-        set: u8,
+        set: u32,
         mode: Mode,
         got: bool,
     },
     Unlock {
         client: u16,
-        set: u8,
+        set: u32,
         mode: Mode,
     },
     NotHeld {
         client: u16,
-        set: u8,
+        set: u32,
         mode: Mode,
     },
     Change {
         client: u16,
-        set: u8,
+        set: u32,
         gives_up: Mode,
         mode: Mode,
     },
@@ -40,29 +40,29 @@ pub enum Event {
     DropAll {
         client: u16,
         other: u16,
-        set: u8,
+        set: u32,
         count: u64,
     },
     /// `other` waits, so `client` dropped nothing.
     Busy {
         client: u16,
         other: u16,
-        set: u8,
+        set: u32,
     },
     Copy {
-        set: u8,
+        set: u32,
         to: u8,
         client: u16,
         mode: Mode,
     },
     Freeze {
-        set: u8,
+        set: u32,
         to: u8,
         number: u64,
         modes: ModeSet,
     },
     Token {
-        set: u8,
+        set: u32,
         to: u8,
         epoch: u64,
     },

@@ -11,7 +11,7 @@ use Rattle.lt_modes.specs.FiveModes.{is_of_version}
 use Rattle.lt_spec.specs.Holdings.{lines_of, Holding, after_line}
 use Rattle.lt_spec.specs.World.{Logged, world_after, made_by, replies_of}
 use Rattle.lt_spec.specs.NodeMove.{commands_of}
-use Rattle.lt_spec.specs.declared.limits.TheConstants.{MAX_NAME, MAX_NODES, MAX_NODES_OF_FIRST, MAX_SETS, MAX_CLIENTS, MAX_CLIENTS_OF_FIRST, MAX_CLIENTS_OF_NODE, MAX_COMMANDS, MAX_COMMANDS_OF_SERVICE}
+use Rattle.lt_spec.specs.declared.limits.TheConstants.{MAX_NAME, MAX_NODES, MAX_NODES_OF_FIRST, MAX_SETS, MAX_SETS_OF_SERVICE, MAX_CLIENTS, MAX_CLIENTS_OF_FIRST, MAX_CLIENTS_OF_NODE, MAX_COMMANDS, MAX_COMMANDS_OF_SERVICE}
 
 -- the line is one with which this command of the client is answered
 abbrev pub AnswersCommand : ℕ → Command → Event → Type 0
@@ -164,9 +164,10 @@ HasModesOf version (DropAll other set) = Unit {0}
 abbrev pub IsRequest : List SetData → List ClientData → ℕ × Command → Type 0
 IsRequest sets clients request = (request.0 < length clients) × HasTargets sets clients request.0 request.1
 
--- the script has no more commands than a text may have
-abbrev pub IsShort : ScriptData → Type 0
-IsShort s = length s.commands ≤ MAX_COMMANDS
+-- the script has no more sets and no more commands than a text may have
+pub record IsShort (s : ScriptData) : Type 0 where
+  pub sets : length s.sets ≤ MAX_SETS
+  pub commands : length s.commands ≤ MAX_COMMANDS
 
 -- the data is a script: it keeps the limits of its version, its names are names and all apart, so that each is found at its number,
 -- and its numbers are those of its nodes, sets and clients
@@ -175,7 +176,7 @@ pub record IsScript (s : ScriptData) : Type 0 where
   pub some_node : 0 < s.nodes
   pub few_nodes : s.nodes ≤ MAX_NODES
   pub nodes_of_version : s.nodes ≤ most_nodes s.version
-  pub few_sets : length s.sets ≤ MAX_SETS
+  pub few_sets : length s.sets ≤ MAX_SETS_OF_SERVICE
   pub sets_named : (set : ℕ) → set < length s.sets → is_name (set_name s set) ≡ true
   pub sets_found : (set : ℕ) → set < length s.sets → set_number s (set_name s set) ≡ Some set
   pub families_not_later : (set : ℕ) → set < length s.sets → family_at s.sets set ≤ set

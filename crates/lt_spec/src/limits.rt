@@ -4,8 +4,11 @@ pub const MAX_NODES: u8 = 64;
 /// The most nodes of a script of version 1.
 pub const MAX_NODES_OF_FIRST: u8 = 16;
 
-/// The most sets of a script.
-pub const MAX_SETS: u8 = 8;
+/// The most sets that the text of a script has.
+pub const MAX_SETS: u32 = 8;
+
+/// The most sets of a service.
+pub const MAX_SETS_OF_SERVICE: u32 = 65_536;
 
 /// The most clients of a script.
 pub const MAX_CLIENTS: u16 = 256;
