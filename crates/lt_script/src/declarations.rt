@@ -8,7 +8,7 @@ use std::marker::Model;
 #[derive(Debug, Drop)]
 pub struct SetDecl {
     name: Vec<u8>,
-    family: u8,
+    family: u32,
 }
 
 impl Model for SetDecl {
@@ -28,7 +28,7 @@ impl Clone for SetDecl {
 }
 
 impl SetDecl {
-    pub fn new(alloc: Global, name: &[u8], family: u8) -> Result<SetDecl, AllocError>
+    pub fn new(alloc: Global, name: &[u8], family: u32) -> Result<SetDecl, AllocError>
         ensures { IfOk result (λ d. d ≡ record { name = name.now; family = family }) }
     {
         let name = Vec::from_slice(alloc, name)?;
@@ -42,7 +42,7 @@ impl SetDecl {
     }
 
     /// The number of the first set of the set's family.
-    pub fn family(&self) -> u8
+    pub fn family(&self) -> u32
         ensures { result ≡ self.now.family }
     {
         self.family

@@ -148,7 +148,7 @@ pub fn request_of(
 }
 
 // The set and the mode with these names, or the first fault of a command that names them.
-fn set_and_mode(script: &Script, set: &[u8], mode: &[u8]) -> Result<(u8, Mode), Fault>
+fn set_and_mode(script: &Script, set: &[u8], mode: &[u8]) -> Result<(u32, Mode), Fault>
     ensures { FindsSetAndMode script.now set.now mode.now result }
 {
     let Some(set) = script.set_number(set) else {
@@ -169,7 +169,7 @@ fn client_and_set(
     client: u16,
     other: &[u8],
     set: &[u8],
-) -> Result<(u16, u8), Fault>
+) -> Result<(u16, u32), Fault>
     requires { client < length script.now.clients }
     ensures { FindsDrop script.now client other.now set.now result }
 {

@@ -86,7 +86,7 @@ pub fn request_of_one_mode(
 
 // The command with this verb.
 #[inline(always)]
-fn command_of(verb: Verb, set: u8, mode: Mode) -> Command
+fn command_of(verb: Verb, set: u32, mode: Mode) -> Command
     ensures { result ≡ one_mode_command verb set mode }
 {
     match verb {

@@ -116,10 +116,10 @@ impl Script {
     }
 
     /// The number of sets.
-    pub fn sets(&self) -> u8
+    pub fn sets(&self) -> u32
         ensures { result ≡ length self.now.sets }
     {
-        self.parts.sets.len() as u8
+        self.parts.sets.len() as u32
     }
 
     /// The number of clients.
@@ -137,21 +137,21 @@ impl Script {
         self.parts.commands.len() as u64
     }
 
-    pub fn set_name(&self, set: u8) -> &[u8]
+    pub fn set_name(&self, set: u32) -> &[u8]
         requires { set < length self.now.sets }
         ensures { result.now ≡ set_name self.now set }
     {
-        self.parts.sets[usize::from(set)].name()
+        self.parts.sets[set as usize].name()
     }
 
     /// The number of the first set of the set's family.
-    pub fn family(&self, set: u8) -> u8
+    pub fn family(&self, set: u32) -> u32
         requires { set < length self.now.sets }
         ensures family { result ≡ family_at self.now.sets set }
         ensures earlier { result ≤ set }
         ensures first { family_at self.now.sets result ≡ result }
     {
-        self.parts.sets[usize::from(set)].family()
+        self.parts.sets[set as usize].family()
     }
 
     pub fn client_name(&self, client: u16) -> &[u8]

@@ -4,7 +4,7 @@ ghost use Rattle.std.specs.Prelude.{◌≡◌, ◌<◌, ◌++◌, ◌∷◌, [],
 ghost use Rattle.lt_spec.specs.Script.{is_name, IsFamilyOfNext, IsRequest, HasModesOf, most_clients, load_of, is_declared};
 ghost use Rattle.std.specs.Arc.{arc_value};
 ghost use Rattle.lt_script.specs.Views.{SayTheSame};
-ghost use Rattle.lt_spec.specs.declared.limits.TheConstants.{MAX_SETS, MAX_CLIENTS_OF_NODE, MAX_COMMANDS_OF_SERVICE};
+ghost use Rattle.lt_spec.specs.declared.limits.TheConstants.{MAX_SETS_OF_SERVICE, MAX_CLIENTS_OF_NODE, MAX_COMMANDS_OF_SERVICE};
 
 use crate::declarations::{ClientDecl, SetDecl};
 use crate::script::Script;
@@ -26,10 +26,10 @@ impl Script {
     }
 
     /// Adds a last set. Its family is its own number, or that of the first set of an earlier family.
-    pub fn add_set(&mut self, name: &[u8], family: u8) -> Result<(), AllocError>
+    pub fn add_set(&mut self, name: &[u8], family: u32) -> Result<(), AllocError>
         requires name { is_name name.now ≡ true }
         requires new { is_declared self.old name.now ≡ false }
-        requires room { length self.old.sets < MAX_SETS }
+        requires room { length self.old.sets < MAX_SETS_OF_SERVICE }
         requires family { IsFamilyOfNext self.old.sets family }
         ensures added { OnOk result (self.new ≡ record self.old {
           sets = self.old.sets ++ record { name = name.now; family = family } ∷ [];

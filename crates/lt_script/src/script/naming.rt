@@ -10,18 +10,18 @@ use crate::script::Script;
 impl Script {
     /// The set with this name.
     #[inline(always)]
-    pub fn set_number(&self, name: &[u8]) -> Option<u8>
+    pub fn set_number(&self, name: &[u8]) -> Option<u32>
         ensures number { result ≡ set_number self.now name.now }
         ensures inside { IfSome result (λ set. set < length self.now.sets) }
     {
-        let guess = self.parts.set_hints.guess(name);
+        let guess = u32::from(self.parts.set_hints.guess(name));
         if self.is_set(guess, name) {
             return Some(guess);
         }
         let Some(place) = place_of_set(&self.parts.sets, name) else {
             return None;
         };
-        Some(place as u8)
+        Some(place as u32)
     }
 
     /// The client with this name.
@@ -51,10 +51,10 @@ impl Script {
     }
 
     // Whether the set with this number has this name.
-    fn is_set(&self, set: u8, name: &[u8]) -> bool
+    fn is_set(&self, set: u32, name: &[u8]) -> bool
         ensures { IsTrue result → (set < length self.now.sets) × (set_number self.now name.now ≡ Some set) }
     {
-        match self.parts.sets.get(usize::from(set)) {
+        match self.parts.sets.get(set as usize) {
             Some(found) => found.is_named(name),
             None => false,
         }
