@@ -2,3 +2,4 @@ pub mod NodeData
 pub mod Clients
 pub mod Marks
 pub mod Forgetting
+pub mod Touched

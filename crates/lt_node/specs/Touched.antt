@@ -1,0 +1,66 @@
+-- Which sets a command touches, and what has to be free there before it is made.
+use Rattle.std.specs.Prelude.{ℕ, Bool, true, List, [], ◌∷◌, Option, None, Some, All, sum_by, ◌+◌, ◌&&◌, nat_le}
+use Rattle.std.specs.List.{list_all}
+use Rattle.lt_modes.specs.declared.command.Command.{Command}
+use Rattle.lt_modes.specs.declared.command.Command.TheVariants as commands
+use Rattle.lt_modes.specs.Script.{ScriptData}
+use Rattle.lt_modes.specs.State.{Letter}
+use Rattle.lt_spec.specs.NodeMove.{NodeState, next_command, related, set_within, leaves_ask, locks_in_sets}
+use Rattle.lt_spec.specs.declared.limits.TheConstants.{MAX_COMMANDS_OF_SERVICE}
+use Rattle.lt_desk.specs.DeskData.{OutData}
+use Rattle.lt_core.specs.CoreData.{HasMemory}
+use Rattle.lt_core.specs.Bound.{RoomToSend}
+use Rattle.lt_node.specs.NodeData.{NodeData, core_at, state_of, most_sent}
+
+-- the set that the command names, and for a drop all sets of its family
+abbrev pub touched_sets : ScriptData → Command → List ℕ
+touched_sets script (commands.Lock s mode) = s ∷ []
+touched_sets script (commands.Try s mode) = s ∷ []
+touched_sets script (commands.Unlock s mode) = s ∷ []
+touched_sets script (commands.Change s gives_up mode) = s ∷ []
+touched_sets script (commands.DropAll other s) = related script s
+
+abbrev pub touched_by : ScriptData → Option Command → List ℕ
+touched_by script None = []
+touched_by script (Some command) = touched_sets script command
+
+-- the sets that the client's next command touches
+abbrev pub touches : ScriptData → NodeState → ℕ → List ℕ
+touches script n client = touched_by script (next_command script n client)
+
+-- what the node keeps for these sets leaves room for a move
+abbrev pub sets_within : NodeState → List ℕ → Bool
+sets_within n sets = list_all (λ s. set_within n.clock (n.set s)) sets
+
+-- one client more may wait in each of these sets
+abbrev pub sets_leave_asks : NodeState → List ℕ → Bool
+sets_leave_asks n sets = list_all (λ s. leaves_ask (n.set s)) sets
+
+-- where locks are dropped, no more are so than a service has commands
+abbrev pub drops_few : ScriptData → NodeState → Option Command → Bool
+drops_few script n None = true
+drops_few script n (Some (commands.Lock s mode)) = true
+drops_few script n (Some (commands.Try s mode)) = true
+drops_few script n (Some (commands.Unlock s mode)) = true
+drops_few script n (Some (commands.Change s gives_up mode)) = true
+drops_few script n (Some (commands.DropAll other s)) =
+    nat_le (locks_in_sets n other (related script s)) MAX_COMMANDS_OF_SERVICE
+
+-- what the node keeps for the sets that the command touches leaves room for it
+abbrev pub leaves_room_to_obey : ScriptData → NodeState → Option Command → Bool
+leaves_room_to_obey script n command =
+    sets_within n (touched_by script command)
+    && (sets_leave_asks n (touched_by script command) && drops_few script n command)
+
+-- the same of the client's next command
+abbrev pub leaves_room_to_act : ScriptData → NodeState → ℕ → Bool
+leaves_room_to_act script n client = leaves_room_to_obey script n (next_command script n client)
+
+-- and of a letter
+abbrev pub leaves_room_to_take : NodeState → Letter → Bool
+leaves_room_to_take n letter = set_within n.clock (n.set letter.set)
+
+-- room for the client's next command: in each set that it touches, and for what they all send, with a line of its own
+pub record RoomToAct (client : ℕ) (n : NodeData) (out : OutData) : Type 0 where
+  pub cores : All (λ s. HasMemory 0 (core_at n s)) (touches n.script (state_of n) client)
+  pub send : RoomToSend (sum_by (λ s. most_sent (core_at n s)) (touches n.script (state_of n) client) + 1) out
