@@ -13,18 +13,18 @@ const AMOUNT: u64 = 5;
 /// An account, and the set by which it is locked.
 #[derive(Drop)]
 pub struct Account {
-    pub set: u8,
+    pub set: u32,
     pub money: AtomicU64,
 }
 
 /// The bank's accounts, and the set that stands for all of them.
 #[derive(Drop)]
 pub struct Bank {
-    pub set: u8,
+    pub set: u32,
     pub accounts: Vec<Account>,
 }
 
-fn set_named(script: &Script, name: &str) -> Result<u8> {
+fn set_named(script: &Script, name: &str) -> Result<u32> {
     match script.set_number(name.as_bytes()) {
         Some(set) => Ok(set),
         None => bail!("the script has no set {name}"),

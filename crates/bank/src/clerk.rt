@@ -77,10 +77,10 @@ impl Caller for Clerk<'_> {
     }
 }
 
-pub fn lock(set: u8, mode: Mode) -> Command {
+pub fn lock(set: u32, mode: Mode) -> Command {
     Command::Lock { set, mode }
 }
 
-pub fn unlock(set: u8, mode: Mode) -> Command {
+pub fn unlock(set: u32, mode: Mode) -> Command {
     Command::Unlock { set, mode }
 }

@@ -6,7 +6,7 @@ ghost use Rattle.lt_live.specs.Stations.{may_ask, has_set, is_neighbour};
 use lt_modes::{Command, Mode};
 use lt_script::Script;
 
-fn has_set(script: &Script, set: u8) -> bool
+fn has_set(script: &Script, set: u32) -> bool
     ensures { result ≡ has_set script.now set }
 {
     set < script.sets()

@@ -2,7 +2,7 @@
 ghost use Rattle.std.specs.Prelude.{◌≡◌, ◌≢◌, ◌≤◌, ◌<◌, ◌⊎◌, [], Err, length, map, vec_capacity, IfOk, IfErr};
 ghost use Rattle.lt_modes.specs.Script.{ScriptData};
 ghost use Rattle.lt_spec.specs.NodeMove.{home};
-ghost use Rattle.lt_spec.specs.Script.{IsShort};
+ghost use Rattle.lt_spec.specs.declared.limits.TheConstants.{MAX_COMMANDS};
 ghost use Rattle.lt_threads.specs.Meeting.{HaveAll, AreTooMany};
 ghost use Rattle.lt_live.specs.declared.finishing.FinishError.TheVariants as errors;
 ghost use Rattle.lt_live.specs.Stations.{runner_of, HaveEqualShares};
@@ -47,7 +47,7 @@ pub fn finish(
 ) -> Result<(Script, Run), FinishError>
     requires { LiveScript stations.items sessions.items }
     ensures run { IfOk result (λ made. (script : ScriptData) → AreLive script stations.items sessions.items → IsServedRun script sessions.items made.0 made.1.entries) }
-    ensures short { IfOk result (λ made. IsShort made.0) }
+    ensures few_commands { IfOk result (λ made. length made.0.commands ≤ MAX_COMMANDS) }
     ensures forgotten { IfErr result (λ error. error ≡ errors.Forgotten → ¬ HaveAll (map runner_of stations.items)) }
     ensures many { IfErr result (λ error. error ≡ errors.TooMany → AreTooMany (map runner_of stations.items)) }
     ensures told { HaveAll (map runner_of stations.items) → AreTooMany (map runner_of stations.items) → (result ≡ Err errors.TooMany) ⊎ (result ≡ Err errors.NoMemory) }

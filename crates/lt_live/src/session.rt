@@ -2,7 +2,7 @@
 ghost use Rattle.std.specs.Prelude.{◌≡◌, ◌+◌, ◌-◌, ◌≤◌, ◌<◌, ◌++◌, ◌∷◌, [], true, length, IfSome, IfNone, IfErr, IsOk, OnOk};
 ghost use mathlib.Core.List.{IsPrefix};
 ghost use Rattle.rtrb.specs.Ring.{known_free};
-ghost use Rattle.lt_spec.specs.Script.{HasTargets, HasModesOf};
+ghost use Rattle.lt_spec.specs.Script.{HasTargets, HasModesOf, set_number};
 ghost use Rattle.lt_live.specs.Words.{submitted, polled, known_replies, places, SameSession};
 
 use crate::asking::may_ask;
@@ -18,6 +18,14 @@ impl Session {
         ensures { result.now ≡ self.now.script }
     {
         &self.script
+    }
+
+    /// The number of the set with this name.
+    pub fn set(&self, name: &[u8]) -> Option<u32>
+        ensures number { result ≡ set_number self.now.script name.now }
+        ensures inside { IfSome result (λ set. set < length self.now.script.sets) }
+    {
+        self.script.set_number(name)
     }
 
     /// The client whose commands are submitted here.

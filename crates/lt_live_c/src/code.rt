@@ -69,7 +69,7 @@ pub fn number_of_reply(reply: Reply, count: &mut u64) -> u32
 }
 
 /// The command of this kind.
-pub fn command_numbered(kind: u32, set: u8, first: u32, second: u32) -> Option<Command>
+pub fn command_numbered(kind: u32, set: u32, first: u32, second: u32) -> Option<Command>
     ensures { result ≡ command_numbered kind set first second }
 {
     match kind {
@@ -96,7 +96,7 @@ fn mode_numbered(number: u32) -> Option<Mode>
     }
 }
 
-fn lock(set: u8, mode: Option<Mode>) -> Option<Command>
+fn lock(set: u32, mode: Option<Mode>) -> Option<Command>
     ensures { result ≡ command_with_mode (λ mode. commands.Lock set mode) mode }
 {
     match mode {
@@ -105,7 +105,7 @@ fn lock(set: u8, mode: Option<Mode>) -> Option<Command>
     }
 }
 
-fn try_lock(set: u8, mode: Option<Mode>) -> Option<Command>
+fn try_lock(set: u32, mode: Option<Mode>) -> Option<Command>
     ensures { result ≡ command_with_mode (λ mode. commands.Try set mode) mode }
 {
     match mode {
@@ -114,7 +114,7 @@ fn try_lock(set: u8, mode: Option<Mode>) -> Option<Command>
     }
 }
 
-fn unlock(set: u8, mode: Option<Mode>) -> Option<Command>
+fn unlock(set: u32, mode: Option<Mode>) -> Option<Command>
     ensures { result ≡ command_with_mode (λ mode. commands.Unlock set mode) mode }
 {
     match mode {
@@ -123,7 +123,7 @@ fn unlock(set: u8, mode: Option<Mode>) -> Option<Command>
     }
 }
 
-fn change(set: u8, gives_up: Option<Mode>, mode: Option<Mode>) -> Option<Command>
+fn change(set: u32, gives_up: Option<Mode>, mode: Option<Mode>) -> Option<Command>
     ensures { result ≡ with_modes (λ gives_up mode. commands.Change set gives_up mode) gives_up mode }
 {
     match (gives_up, mode) {
@@ -136,7 +136,7 @@ fn change(set: u8, gives_up: Option<Mode>, mode: Option<Mode>) -> Option<Command
     }
 }
 
-fn drop_locks(set: u8, client: u32) -> Option<Command>
+fn drop_locks(set: u32, client: u32) -> Option<Command>
     ensures { result ≡ drop_of set client }
 {
     if client < 65536 {

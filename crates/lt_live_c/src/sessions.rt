@@ -45,7 +45,7 @@ pub extern "C" fn lockrun_submit(
     alloc: Global,
     session: &mut Handle,
     kind: u32,
-    set: u8,
+    set: u32,
     first: u32,
     second: u32,
 ) -> u32

@@ -121,7 +121,7 @@ module _ {C : Type 0} where
       sessions = map session_of desks;
       count = serving.live.count;
       serves = ended.serves;
-      is_short = ended.is_short;
+      few_commands = ended.few_commands;
       ends = ended.ends;
       each = λ client s here. (calls_so client s here).0;
       refused = λ client s called here there.

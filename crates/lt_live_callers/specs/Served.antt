@@ -107,7 +107,7 @@ module _ {C : Type 0} where
     pub sessions : List Session
     pub count : length sessions ≡ length first.clients
     pub serves : IsServedRun first sessions served.script served.run.entries
-    pub is_short : length served.script.commands ≤ MAX_COMMANDS
+    pub few_commands : length served.script.commands ≤ MAX_COMMANDS
     pub ends : CallersEndSo served.ending served.script served.run.entries
     pub each : (client : ℕ) (s : Session) → slice_get sessions client ≡ Some s
         → CallsAt goes (slice_get callers client) s (slice_get served.callers.items client)
@@ -169,7 +169,7 @@ module _ {C : Type 0} where
   pub record AreEnded (script : ScriptData) (limit : ℕ) (stations : List StationData) (desks : List (Desk C))
       (served : Served C) : Type 0 where
     pub serves : IsServedRun script (map session_of desks) served.script served.run.entries
-    pub is_short : length served.script.commands ≤ MAX_COMMANDS
+    pub few_commands : length served.script.commands ≤ MAX_COMMANDS
     pub ends : CallersEndSo served.ending served.script served.run.entries
     pub within : StaysWithin limit served.script served.run.entries
     pub far : GoesFar limit served.script served.run.entries

@@ -1,7 +1,7 @@
 // The run of the stations, and how it ended.
-ghost use Rattle.std.specs.Prelude.{◌≡◌, map, IfOk};
+ghost use Rattle.std.specs.Prelude.{◌≡◌, ◌≤◌, length, map, IfOk};
 ghost use Rattle.lt_modes.specs.Script.{ScriptData};
-ghost use Rattle.lt_spec.specs.Script.{IsShort};
+ghost use Rattle.lt_spec.specs.declared.limits.TheConstants.{MAX_COMMANDS};
 ghost use Rattle.lt_threads.specs.Meeting.{ShareScript, AreTooMany, HaveAll, IsCrew, IsJoined, AreCrewLogs};
 ghost use Rattle.lt_threads.specs.Pushes.{HasLimit};
 ghost use Rattle.lt_threads.specs.Threads.{StaysWithin, GoesFar};
@@ -56,7 +56,7 @@ pub(crate) fn end_run(
     ensures served { IfOk result (λ made.
         (script : ScriptData) → AreLive script stations.items sessions.items → IsServedRun script sessions.items
         made.0 made.1.entries) }
-    ensures short { IfOk result (λ made. IsShort made.0) }
+    ensures few_commands { IfOk result (λ made. length made.0.commands ≤ MAX_COMMANDS) }
     ensures ends { IfOk result (λ made. CallersEndSo made.2 made.0 made.1.entries) }
     ensures within { IfOk result (λ made. StaysWithin _limit made.0 made.1.entries) }
     ensures far { IfOk result (λ made. GoesFar _limit made.0 made.1.entries) }

@@ -23,6 +23,7 @@ pub use lt_spec::{
     MAX_CLIENTS, MAX_CLIENTS_OF_FIRST, MAX_CLIENTS_OF_NODE, MAX_COMMANDS, MAX_COMMANDS_OF_SERVICE,
     MAX_LINE, MAX_NAME, MAX_NODES, MAX_NODES_OF_FIRST, MAX_SETS, MAX_SETS_OF_SERVICE,
 };
+pub use name::is_name;
 pub use printing::print;
 pub use reading::read;
 pub use script::Script;

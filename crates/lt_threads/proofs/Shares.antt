@@ -78,7 +78,7 @@ joined_crew script made rs h e is_script few = record {
     links = h.links;
   };
   commands = ap (λ (s : ScriptData). s.commands) e;
-  short = omega (arith, few, ap (λ (s : ScriptData). length s.commands) e);
+  few_commands = omega (arith, few, ap (λ (s : ScriptData). length s.commands) e);
 }
 
 -- the commands of the first k runners, and then those of the next one

@@ -4,7 +4,7 @@ use Rattle.lt_modes.specs.Script.{ScriptData}
 use Rattle.lt_modes.specs.State.{Letter}
 use Rattle.lt_modes.specs.declared.command.Command.{Command}
 use Rattle.lt_lists.specs.Below.{sum_below}
-use Rattle.lt_spec.specs.Script.{IsScript, IsShort}
+use Rattle.lt_spec.specs.Script.{IsScript}
 use Rattle.lt_spec.specs.World.{Logged, World, world_after, is_at_rest, can_move, is_of_node, IsRun}
 use Rattle.lt_spec.specs.declared.moves.TheConstants.{MAX_MOVES_OF_SERVICE}
 use Rattle.lt_spec.specs.NodeMove.{SameAt, commands_of, with_commands, AreAt}
@@ -223,7 +223,7 @@ command_count script = sum_below (length script.clients) (λ client. length (com
 pub record IsJoined (rs : List Parts) (script : ScriptData) : Type 0 where
   pub crew : IsCrew script rs
   pub commands : script.commands ≡ commands_in rs
-  pub short : IsShort script
+  pub few_commands : length script.commands ≤ MAX_COMMANDS
 
 -- the clients have more commands together than the text of a script may have
 abbrev pub AreTooMany : List Parts → Type 0

@@ -39,13 +39,13 @@ const ITEMS: [&str; 4] = ["pens", "cups", "mats", "bags"];
 // The set that an item is locked by, and how many are in stock.
 #[derive(Drop)]
 struct Item {
-    set: u8,
+    set: u32,
     stock: AtomicU64,
 }
 
 #[derive(Drop)]
 struct Shop {
-    order: u8,
+    order: u32,
     items: Vec<Item>,
 }
 
@@ -59,7 +59,7 @@ struct Buyer<'a> {
     stock: u64,
 }
 
-fn set_named(script: &Script, name: &str) -> Result<u8> {
+fn set_named(script: &Script, name: &str) -> Result<u32> {
     match script.set_number(name.as_bytes()) {
         Some(set) => Ok(set),
         None => bail!("the script has no set {name}"),
@@ -81,7 +81,7 @@ fn shop_of(alloc: Global, script: &Script) -> Result<Shop> {
 }
 
 // Reads the stock under an upgrade, which lets others read, and writes one less under a write.
-fn buy(part: u32, order: u8, item: &Item, stock: &mut u64) -> Command {
+fn buy(part: u32, order: u32, item: &Item, stock: &mut u64) -> Command {
     match part {
         0 => lock(order, Mode::IntentionWrite),
         1 => lock(item.set, Mode::Upgrade),
@@ -130,11 +130,11 @@ impl Caller for Buyer<'_> {
     }
 }
 
-fn lock(set: u8, mode: Mode) -> Command {
+fn lock(set: u32, mode: Mode) -> Command {
     Command::Lock { set, mode }
 }
 
-fn change(set: u8, gives_up: Mode, mode: Mode) -> Command {
+fn change(set: u32, gives_up: Mode, mode: Mode) -> Command {
     Command::Change {
         set,
         gives_up,
@@ -142,7 +142,7 @@ fn change(set: u8, gives_up: Mode, mode: Mode) -> Command {
     }
 }
 
-fn unlock(set: u8, mode: Mode) -> Command {
+fn unlock(set: u32, mode: Mode) -> Command {
     Command::Unlock { set, mode }
 }
 

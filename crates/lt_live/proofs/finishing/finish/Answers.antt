@@ -9,8 +9,8 @@ returns-in-Ok-clause-run c =
     finishes c.args.stations.items c.settle_all.new.stations.items c.args.sessions.items c.settle_all.new.sessions.items c.take_runners.result.items
     c.in-Ok.made.0 c.in-Ok.made.1.entries c.settle_all.ensures c.take_runners.ensures c.in-Ok.ensures.run
 
-pub returns-in-Ok-clause-short : goal.returns-in-Ok-clause-short
-returns-in-Ok-clause-short c = c.in-Ok.ensures.run.joined.short
+pub returns-in-Ok-clause-few_commands : goal.returns-in-Ok-clause-few_commands
+returns-in-Ok-clause-few_commands c = c.in-Ok.ensures.run.joined.few_commands
 
 pub returns-in-Ok-clause-told : goal.returns-in-Ok-clause-told
 returns-in-Ok-clause-told c = λ all many.

@@ -38,8 +38,8 @@ returns-clause-served c =
     (subst (λ (rs : List Parts). IsJoined rs c.in_ok-script.script) c.deref.ensures.value c.in_ok-script.ensures) c.in_ok-ending.ensures
     c.in_ok-logs.ensures c.in_ok-run.ensures c.law_live_lasts.ensures.last
 
-pub returns-clause-short : goal.returns-clause-short
-returns-clause-short c = c.in_ok-script.ensures.short
+pub returns-clause-few_commands : goal.returns-clause-few_commands
+returns-clause-few_commands c = c.in_ok-script.ensures.few_commands
 
 pub returns-clause-ends : goal.returns-clause-ends
 returns-clause-ends c =

@@ -21,7 +21,7 @@ returns-clause-ended g c =
     record {
       serves = subst (λ (all : List Session). IsServedRun c.args._script.now all c.in_ok-script.script c.in_ok-script.run'.entries)
           c.in_ok-callers.ensures.sessions (c.in_ok-script.ensures.served c.args._script.now live);
-      is_short = c.in_ok-script.ensures.short;
+      few_commands = c.in_ok-script.ensures.few_commands;
       ends = c.in_ok-script.ensures.ends;
       within = c.in_ok-script.ensures.within;
       far = c.in_ok-script.ensures.far;
