@@ -1,4 +1,5 @@
 mod Cells
 pub mod Counting
+mod Clearing
 pub mod Telling
 pub mod Lines

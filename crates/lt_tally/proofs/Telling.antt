@@ -11,7 +11,7 @@ use Rattle.lt_modes.specs.declared.parts.Link.{Link}
 use Rattle.lt_spec.specs.World.{Logged}
 use Rattle.lt_spec.specs.Holdings.{lines_of, Holding, holding, without_one, without_holding, is_dropped, same_holding, after_line, holdings, wanted, wanted_after, owner_of, owner_after}
 use Rattle.lt_merge.specs.Merging.{events_at}
-use Rattle.lt_tally.specs.LockTable.{Counts, Tally, IsTallied, waited_for, owner_at}
+use Rattle.lt_tally.specs.LockTable.{Table, Counts, Tally, IsTallied, waited_for, owner_at}
 
 append_nil : {X : Type 0} (xs : List X) → xs ++ [] ≡ xs
 append_nil [] = refl
@@ -132,11 +132,11 @@ length-owners owners (Token s to epoch) = length-set owners s (record { node = t
 length-owners owners other = refl
 
 -- a tally that tells some events tells one more once it counts the locks after it
-pub tells_next : (script : ScriptData) (tally : Tally) (events : List Event) (event : Event) (cells : List ℕ) → IsTallied script tally events
-    → Counts script cells (after_line script (holdings script events) event)
-    → IsTallied script (record { cells = cells; waiting = waiting_after tally.waiting event; owners = owners_after tally.owners event }) (events ++ event ∷ [])
-tells_next script tally events event cells tells counts = record {
-  held = subst (λ (held : List Holding). Counts script cells held) (sym (fold-append (after_line script) [] events (event ∷ []))) counts;
+pub tells_next : (script : ScriptData) (tally : Tally) (events : List Event) (event : Event) (table : Table) → IsTallied script tally events
+    → Counts script table (after_line script (holdings script events) event)
+    → IsTallied script (record { held = table; waiting = waiting_after tally.waiting event; owners = owners_after tally.owners event }) (events ++ event ∷ [])
+tells_next script tally events event table tells counts = record {
+  held = subst (λ (held : List Holding). Counts script table held) (sym (fold-append (after_line script) [] events (event ∷ []))) counts;
   waiting = record {
     room = length-waiting tally.waiting event ∙ tells.waiting.room;
     each = λ client inside.
@@ -181,7 +181,7 @@ pub as_change : (script : ScriptData) (tally : Tally) (events : List Event) (cli
     → IsTallied script tally ((events ++ Unlock client lock_set gives_up ∷ []) ++ Grant client lock_set mode ∷ [])
     → IsTallied script tally (events ++ Change client lock_set gives_up mode ∷ [])
 as_change script tally events client lock_set gives_up mode tells = record {
-  held = subst (λ (held : List Holding). Counts script tally.cells held) (as_change_held script events client lock_set gives_up mode) tells.held;
+  held = subst (λ (held : List Holding). Counts script tally.held held) (as_change_held script events client lock_set gives_up mode) tells.held;
   waiting = record {
     room = tells.waiting.room;
     each = λ other inside. tells.waiting.each other inside ∙ as_change_wanted events client lock_set gives_up mode other;

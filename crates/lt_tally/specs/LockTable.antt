@@ -11,22 +11,29 @@ use Rattle.lt_modes.specs.FiveModes.{place_of_mode}
 unfoldable pub mode_place : Mode → ℕ
 mode_place mode = place_of_mode mode
 
--- the place of a lock's cell: a client has six cells for each of eight sets
-abbrev pub cell_of : Holding → ℕ
-cell_of lock = lock.client * 48 + (lock.set * 6 + mode_place lock.mode)
+-- a number for each client, set and mode: each client has six cells for each of so many sets
+pub record Table : Type 0 where
+  pub sets : ℕ
+  pub cells : List ℕ
+
+-- the place of a lock's cell
+abbrev pub cell_of : ℕ → Holding → ℕ
+cell_of sets lock = lock.client * (sets * 6) + (lock.set * 6 + mode_place lock.mode)
 
 -- the script has the lock's client and its set
 abbrev pub HasCell : ScriptData → Holding → Type 0
 HasCell script lock = (lock.client < length script.clients) × (lock.set < length script.sets)
 
 -- the table counts the locks: each cell has the number of the locks of its client, set and mode
-pub record Counts (script : ScriptData) (cells : List ℕ) (held : List Holding) : Type 0 where
-  pub room : length cells ≡ length script.clients * 48
-  pub count : (lock : Holding) → HasCell script lock → slice_index cells (cell_of lock) ≡ times_held held lock
+pub record Counts (script : ScriptData) (table : Table) (held : List Holding) : Type 0 where
+  pub sets : table.sets ≡ length script.sets
+  pub room : length table.cells ≡ length script.clients * (table.sets * 6)
+  pub count : (lock : Holding) → HasCell script lock
+      → slice_index table.cells (cell_of table.sets lock) ≡ times_held held lock
 
 -- the locks counted, what each client waits for, and where each set's token went last
 pub record Tally : Type 0 where
-  pub cells : List ℕ
+  pub held : Table
   pub waiting : List (Option Holding)
   pub owners : List Link
 
@@ -50,6 +57,6 @@ pub record TellsOwners (script : ScriptData) (owners : List Link) (events : List
 
 -- the tally tells what these events come to
 pub record IsTallied (script : ScriptData) (tally : Tally) (events : List Event) : Type 0 where
-  pub held : Counts script tally.cells (holdings script events)
+  pub held : Counts script tally.held (holdings script events)
   pub waiting : TellsWaits script tally.waiting events
   pub owners : TellsOwners script tally.owners events

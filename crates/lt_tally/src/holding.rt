@@ -5,7 +5,7 @@ use std::marker::Model;
 #[derive(Clone, Copy, Debug)]
 pub struct Holding {
     pub client: u16,
-    pub set: u8,
+    pub set: u32,
     pub mode: Mode,
 }
 

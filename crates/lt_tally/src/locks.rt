@@ -71,7 +71,7 @@ fn apply(held: &mut Vec<Holding>, script: &Script, event: Event) -> Result<(), A
 fn change(
     held: &mut Vec<Holding>,
     client: u16,
-    set: u8,
+    set: u32,
     gives_up: Mode,
     mode: Mode,
 ) -> Result<(), AllocError>
@@ -107,14 +107,14 @@ fn place_of(held: &[Holding], lock: Holding) -> Option<usize>
 }
 
 // The locks but those of the client in the family of the set.
-fn drop_all(held: &mut Vec<Holding>, script: &Script, client: u16, set: u8)
+fn drop_all(held: &mut Vec<Holding>, script: &Script, client: u16, set: u32)
     ensures { held.new.items ≡ filter (λ (lock : AnyHolding). not (is_dropped script.now client set lock)) held.old.items }
 {
     held.retain(|lock| !is_dropped(script, client, set, *lock));
 }
 
 // Whether the lock is one of the client in the family of the set.
-fn is_dropped(script: &Script, client: u16, set: u8, lock: Holding) -> bool
+fn is_dropped(script: &Script, client: u16, set: u32, lock: Holding) -> bool
     ensures { result ≡ is_dropped script.now client set lock }
 {
     lock.client == client && is_related(script, lock.set, set)

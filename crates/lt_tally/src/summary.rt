@@ -13,7 +13,7 @@ use std::fmt;
 #[derive(Clone, Copy, Debug, PartialEq, Eq)]
 pub struct Summary {
     pub nodes: u8,
-    pub sets: u8,
+    pub sets: u32,
     pub clients: u16,
     pub commands: u64,
     /// How many locks are held at the end, those of all clients together.

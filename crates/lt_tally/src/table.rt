@@ -1,19 +1,16 @@
-ghost use Rattle.std.specs.Prelude.{◌≡◌, ◌+◌, ◌^◌, OnErr, ◌↔◌, ◌<◌, ◌≤◌, ◌++◌, ◌∷◌, [], List, not, IsTrue, IfOk, OnOk, length, filter, slice_index, slice_set};
+ghost use Rattle.std.specs.Prelude.{◌≡◌, ◌+◌, ◌*◌, ◌^◌, OnErr, ◌↔◌, ◌<◌, ◌≤◌, ◌++◌, ◌∷◌, [], List, not, IsTrue, IfOk, OnOk, length, filter, slice_index, slice_set};
 ghost use Rattle.lt_spec.specs.Holdings.{Holding as AnyHolding, without_one, is_dropped};
 ghost use Rattle.lt_tally.specs.LockTable.{mode_place, cell_of, HasCell, Counts};
 
 use crate::families::is_related;
 use crate::holding::Holding;
 use lt_modes::{Mode, place};
-use lt_script::{MAX_SETS, Script};
+use lt_script::Script;
 use std::alloc::{AllocError, Global};
 use std::marker::Model;
 
 // The cells of a client's locks in one set: one for each mode.
 const CELLS_OF_SET: usize = 6;
-
-// The cells of a client: those of as many sets as a script can have.
-const CELLS_OF_CLIENT: usize = MAX_SETS as usize * CELLS_OF_SET;
 
 /// How many locks each client of a script holds, by set and mode: a number for each. So a call takes the same
 /// time, however many locks are held.
@@ -21,15 +18,16 @@ const CELLS_OF_CLIENT: usize = MAX_SETS as usize * CELLS_OF_SET;
 /// A lock of a client or a set that the script doesn't have is not counted.
 #[derive(Debug, Drop)]
 pub struct Table {
+    sets: u32,
     cells: Vec<usize>,
 }
 
 impl Model for Table {
-    ghost use Rattle.std.specs.Prelude.{List, ℕ};
+    ghost use Rattle.lt_tally.specs.LockTable.{Table as TableData};
 
-    ghost Value = { List ℕ };
+    ghost Value = { TableData };
 
-    ghost view = { λ t. t.cells.items };
+    ghost view = { λ t. record { sets = t.sets; cells = t.cells.items } };
 }
 
 impl Table {
@@ -37,17 +35,20 @@ impl Table {
     pub fn new(alloc: Global, script: &Script) -> Result<Table, AllocError>
         ensures { IfOk result (λ table. Counts script.now table []) }
     {
-        let cells = usize::from(script.clients()) * CELLS_OF_CLIENT;
+        let sets = script.sets();
+        let cells = first_cell(sets, script.clients());
         Ok(Table {
+            sets,
             cells: vec![in alloc; 0; cells]?,
         })
     }
 
     /// How many such locks are held, of a client and in a set of the script.
     pub fn count(&self, lock: Holding) -> usize
-        ensures { result ≡ slice_index self.now (cell_of lock) }
+        ensures { result ≡ slice_index self.now.cells (cell_of self.now.sets lock) }
     {
-        self.cells.get(cell_of(lock)).copied().unwrap_or(0)
+        let cell = cell_of(self.sets, lock);
+        self.cells.get(cell).copied().unwrap_or(0)
     }
 
     /// Counts one such lock more. It fails where the count would pass the largest number.
@@ -62,7 +63,7 @@ impl Table {
             let Some(more) = self.count(lock).checked_add(1) else {
                 return Err(AllocError);
             };
-            self.put(cell_of(lock), more);
+            self.put(cell_of(self.sets(), lock), more);
         }
         Ok(())
     }
@@ -75,12 +76,12 @@ impl Table {
     {
         if has_cell(script, lock) {
             let less = self.count(lock).saturating_sub(1);
-            self.put(cell_of(lock), less);
+            self.put(cell_of(self.sets(), lock), less);
         }
     }
 
     /// Drops the client's locks in the set's family.
-    pub fn drop_all(&mut self, script: &Script, client: u16, set: u8)
+    pub fn drop_all(&mut self, script: &Script, client: u16, set: u32)
         ensures { (held : List AnyHolding)
             → Counts script.now self.old held
             → Counts script.now self.new (filter (λ lock. not (is_dropped script.now client set lock)) held) }
@@ -88,18 +89,27 @@ impl Table {
         if client >= script.clients() {
             return;
         }
-        let first = usize::from(client) * CELLS_OF_CLIENT;
-        for cell in 0..usize::from(script.sets()) * CELLS_OF_SET {
-            if is_related(script, (cell / CELLS_OF_SET) as u8, set) {
+        let sets = self.sets();
+        let first = first_cell(sets, client);
+        for cell in 0..cells_of_client(sets) {
+            if is_related(script, (cell / CELLS_OF_SET) as u32, set) {
                 self.put(first + cell, 0);
             }
         }
     }
 
+    // How many sets each client has cells for.
+    #[inline(always)]
+    fn sets(&self) -> u32
+        ensures { result ≡ self.now.sets }
+    {
+        self.sets
+    }
+
     // Writes the cell at this place.
     #[inline(always)]
     fn put(&mut self, place: usize, count: usize)
-        ensures { self.new ≡ slice_set self.old place count }
+        ensures { self.new ≡ record self.old { cells = slice_set self.old.cells place count } }
     {
         if place < self.cells.len() {
             self.cells[place] = count;
@@ -110,19 +120,34 @@ impl Table {
 // Whether the script has the lock's client and its set.
 #[inline(always)]
 fn has_cell(script: &Script, lock: Holding) -> bool
-    ensures has { IsTrue result ↔ HasCell script.now lock }
-    ensures few { length script.now.sets ≤ 8 }
+    ensures { IsTrue result ↔ HasCell script.now lock }
 {
     lock.client < script.clients() && lock.set < script.sets()
 }
 
 // The place of the lock's cell.
 #[inline(always)]
-fn cell_of(lock: Holding) -> usize
-    ensures { result ≡ cell_of lock }
+fn cell_of(sets: u32, lock: Holding) -> usize
+    ensures { result ≡ cell_of sets lock }
 {
-    usize::from(lock.client) * CELLS_OF_CLIENT
-        + (usize::from(lock.set) * CELLS_OF_SET + place_of(lock.mode))
+    first_cell(sets, lock.client) + (lock.set as usize * CELLS_OF_SET + place_of(lock.mode))
+}
+
+// The place of the client's first cell: as many cells come before it as the clients before this one have.
+#[inline(always)]
+fn first_cell(sets: u32, client: u16) -> usize
+    ensures first { result ≡ client * (sets * 6) }
+    ensures within { result < 2 ^ 51 }
+{
+    usize::from(client) * cells_of_client(sets)
+}
+
+// How many cells a client has.
+#[inline(always)]
+fn cells_of_client(sets: u32) -> usize
+    ensures { result ≡ sets * 6 }
+{
+    sets as usize * CELLS_OF_SET
 }
 
 // The place of the mode among all modes.

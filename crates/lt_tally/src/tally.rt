@@ -27,7 +27,7 @@ impl Model for Tally {
 
     ghost Value = { TallyData };
 
-    ghost view = { λ t. record { cells = t.held; waiting = t.waiting.items; owners = t.owners.items } };
+    ghost view = { λ t. record { held = t.held; waiting = t.waiting.items; owners = t.owners.items } };
 }
 
 impl Tally {
@@ -38,7 +38,7 @@ impl Tally {
         Ok(Tally {
             held: Table::new(alloc, script)?,
             waiting: vec![in alloc; None; usize::from(script.clients())]?,
-            owners: vec![in alloc; Link { node: 0, epoch: 0 }; usize::from(script.sets())]?,
+            owners: vec![in alloc; Link { node: 0, epoch: 0 }; script.sets() as usize]?,
         })
     }
 
@@ -59,7 +59,7 @@ impl Tally {
     }
 
     /// The node that the set's token went to last, with the epoch of that move.
-    pub fn owner(&self, set: u8) -> Link
+    pub fn owner(&self, set: u32) -> Link
         ensures { (script : ScriptData) → (events : List AnyEvent)
             → IsTallied script self.now events → set < length script.sets → result ≡ owner_of set events }
     {
@@ -111,7 +111,13 @@ impl Tally {
 
     // Adds a lock, for which its client waits no more.
     #[inline(always)]
-    fn grant(&mut self, script: &Script, client: u16, set: u8, mode: Mode) -> Result<(), AllocError>
+    fn grant(
+        &mut self,
+        script: &Script,
+        client: u16,
+        set: u32,
+        mode: Mode,
+    ) -> Result<(), AllocError>
         ensures granted { OnOk result ((events : List AnyEvent)
             → IsTallied script.now self.old events
             → IsTallied script.now self.new (events ++ Grant client set mode ∷ [])) }
@@ -128,7 +134,7 @@ impl Tally {
         &mut self,
         script: &Script,
         client: u16,
-        set: u8,
+        set: u32,
         gives_up: Mode,
         mode: Mode,
     ) -> Result<(), AllocError>
@@ -160,10 +166,10 @@ impl Tally {
 
     // The set's token now went there.
     #[inline(always)]
-    fn own(&mut self, set: u8, owner: Link)
+    fn own(&mut self, set: u32, owner: Link)
         ensures { self.new ≡ record self.old { owners = slice_set self.old.owners set owner } }
     {
-        let place = usize::from(set);
+        let place = set as usize;
         if place < self.owners.len() {
             self.owners[place] = owner;
         }
@@ -178,11 +184,11 @@ fn waits_for(waiting: &[Option<Holding>], client: u16) -> Option<Holding>
 }
 
 // Where the set's token went last, by this list.
-fn owner_at(owners: &[Link], set: u8) -> Link
+fn owner_at(owners: &[Link], set: u32) -> Link
     ensures { result ≡ owner_at owners.now set }
 {
     owners
-        .get(usize::from(set))
+        .get(set as usize)
         .copied()
         .unwrap_or(Link { node: 0, epoch: 0 })
 }

@@ -1,4 +1,4 @@
-use Rattle.lt_tally.proofs.Counting.{Cleared}
+use Rattle.lt_tally.proofs.Clearing.{Cleared}
 use Rattle.lt_tally.proofs.table.Table.drop_all.Given as goal
 
 abbrev pub invariant-loop-cell : goal.invariant-loop-cell
