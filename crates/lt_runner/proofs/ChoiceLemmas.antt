@@ -1,19 +1,20 @@
 -- What the move that a runner shows says of its state.
-use Rattle.std.proofs.Common.{◌≡◌, ◌≢◌, ◌<◌, ℕ, inl, inr, arith, zero, suc, Option, Some, None, Bool, true, false, refl, sym, ap, subst, ◌∙◌, ◌&&◌, nat_lt, if◌then◌else◌, IsTrue, IfSome, length, lt-ltb}
+use Rattle.std.proofs.Common.{◌≡◌, ◌≢◌, ◌<◌, ℕ, inl, inr, arith, zero, suc, Option, Some, None, Bool, true, false, refl, sym, ap, subst, ◌∙◌, ◌&&◌, ◌==◌, not, nat_lt, if◌then◌else◌, IsTrue, IfSome, length, lt-ltb, ltb-true, eqb-true}
 use Rattle.std.proofs.lemmas.Bool.{and_parts, cases_eq}
 use Rattle.lt_modes.specs.Script.{ScriptData}
-use Rattle.lt_modes.specs.Fits.{fits, numbers_of}
+use Rattle.lt_modes.specs.State.{Letter, SetState}
+use Rattle.lt_modes.specs.Fits.{Numbers, head_fits, body_fits, fits, numbers_of}
 use Rattle.lt_desk.specs.LetterSeen.{letter_seen}
-use Rattle.lt_spec.specs.NodeMove.{node_within, leaves_asks, NodeState}
+use Rattle.lt_spec.specs.NodeMove.{home, node_waits, has_command, NodeState}
 use Rattle.lt_spec.specs.FixedOrder.{can_act}
 use Rattle.lt_node.specs.NodeData.{state_of}
 use Rattle.lt_node.specs.Clients.{IsLeast, is_runnable_here}
+use Rattle.lt_node.specs.Touched.{leaves_room_to_act, leaves_room_to_take}
 use Rattle.lt_runner.specs.declared.choice.Choice.TheVariants.{Nothing, Act, Take}
-use Rattle.lt_core.specs.declared.fits.TheConstants.{LAST_CLOCK}
 use Rattle.lt_runner.specs.declared.parts.Hand.{Hand}
 use Rattle.lt_runner.specs.declared.parts.Parts.{Parts}
 use Rattle.lt_runner.specs.Ready.{FitsNow}
-use Rattle.lt_runner.specs.Choices.{or_this, least_below, first_client, may_move, may_act, may_take, act_of, act_choice, choice_by, next_choice}
+use Rattle.lt_runner.specs.Choices.{or_this, least_below, first_client, has_time, may_act, may_take, act_if, act_choice, choice_by, next_choice}
 
 -- the least number that passes passes
 least_passes : (n : ℕ) (test : ℕ → Bool) (least : ℕ) → least_below n test ≡ Some least → IsTrue (test least)
@@ -61,40 +62,70 @@ least_is script me n (Some client) least =
     (none_below client (can_act script me n) (λ k below. acts script me n k (omega (arith, below, least.0)) ∙ least.2 k below))
     (acts script me n client least.0 ∙ least.1))
 
--- the client can act, and there is room for it
+-- that one can act
+pub least_can : (script : ScriptData) (me : ℕ) (n : NodeState) (o : Option ℕ) → IsLeast (length script.clients) (is_runnable_here script me n) o
+    → IfSome o (λ (client : ℕ). IsTrue (can_act script me n client))
+least_can script me n None none = tt
+least_can script me n (Some client) least = acts script me n client least.0 ∙ least.1
+
+-- what a client that can act may do
+pub record IsRunnable (script : ScriptData) (me : ℕ) (n : NodeState) (client : ℕ) : Type 0 where
+  pub known : client < length script.clients
+  pub home : home script client ≡ me
+  pub runs : IsTrue (not (node_waits script n client) && has_command script n client)
+  pub left : IsTrue (has_command script n client)
+
+pub is_runnable : (script : ScriptData) (me : ℕ) (n : NodeState) (client : ℕ) → IsTrue (can_act script me n client) → IsRunnable script me n client
+is_runnable script me n client can =
+    let runs = not (node_waits script n client) && has_command script n client in
+    let parts = and_parts (nat_lt client (length script.clients)) (home script client == me && runs) can in
+    let more = and_parts (home script client == me) runs parts.1 in
+    record {
+      known = ltb-true client (length script.clients) parts.0;
+      home = eqb-true (home script client) me more.0;
+      runs = more.1;
+      left = (and_parts (not (node_waits script n client)) (has_command script n client) more.1).1;
+    }
+
+-- a letter that fits is of a set of the script
+pub fitting_set : (numbers : Numbers) (me clock : ℕ) (s : SetState) (letter : Letter) → IsTrue (fits numbers me clock s letter) → letter.set < numbers.sets
+fitting_set numbers me clock s letter fit =
+    let head = and_parts (head_fits numbers clock letter) (body_fits numbers me s letter.stamp.clock letter.body) fit in
+    ltb-true letter.set numbers.sets (and_parts (nat_lt letter.set numbers.sets) _ head.0).0
+
+-- the client can act, there is time, and there is room for it
 pub record ChoseAct (script : ScriptData) (me : ℕ) (n : NodeState) (client : ℕ) : Type 0 where
   pub can : IsTrue (can_act script me n client)
-  pub clock : IsTrue (nat_lt n.clock LAST_CLOCK)
-  pub within : IsTrue (node_within script n)
-  pub asks : IsTrue (leaves_asks script n)
+  pub time : IsTrue (has_time n)
+  pub room : IsTrue (leaves_room_to_act script n client)
 
 act_chosen : (script : ScriptData) (me : ℕ) (n : NodeState) (client : ℕ) → act_choice script me n ≡ Act client → ChoseAct script me n client
-act_chosen script me n client e = by_may (may_act script n) refl e
+act_chosen script me n client e = by_client (first_client script me n) refl e
   where
     same : (a b : ℕ) → Act a ≡ Act b → a ≡ b
     same a b e = cc
 
-    by_client : (o : Option ℕ) → first_client script me n ≡ o → act_of o ≡ Act client → IsTrue (can_act script me n client)
-    by_client None was e = absurd (cc)
-    by_client (Some k) was e = least_passes (length script.clients) (can_act script me n) client (was ∙ ap (λ (i : ℕ). Some i) (same k client e))
+    by_may : (k : ℕ) → first_client script me n ≡ Some k → (b : Bool) → may_act script n k ≡ b → (if b then Act k else Nothing) ≡ Act client → ChoseAct script me n client
+    by_may k was false t e = absurd (cc)
+    by_may k was true t e =
+        let parts = and_parts (has_time n) (leaves_room_to_act script n k) t in
+        subst (λ (i : ℕ). ChoseAct script me n i) (same k client e)
+        (record { can = least_passes (length script.clients) (can_act script me n) k was; time = parts.0; room = parts.1 })
 
-    by_may : (b : Bool) → may_act script n ≡ b → (if b then act_of (first_client script me n) else Nothing) ≡ Act client → ChoseAct script me n client
-    by_may false t e = absurd (cc)
-    by_may true t e =
-        let parts = and_parts (may_move script n) (leaves_asks script n) t in
-        let more = and_parts (nat_lt n.clock LAST_CLOCK) (node_within script n) parts.0 in
-        record { can = by_client (first_client script me n) refl e; clock = more.0; within = more.1; asks = parts.1 }
+    by_client : (o : Option ℕ) → first_client script me n ≡ o → act_if script n o ≡ Act client → ChoseAct script me n client
+    by_client None was e = absurd (cc)
+    by_client (Some k) was e = by_may k was (may_act script n k) refl e
 
 pub act_takes_nothing : (script : ScriptData) (me : ℕ) (n : NodeState) → act_choice script me n ≢ Take
-act_takes_nothing script me n e = by_may (may_act script n) e
+act_takes_nothing script me n e = by_client (first_client script me n) e
   where
-    by_client : (o : Option ℕ) → act_of o ≢ Take
-    by_client None e = absurd (cc)
-    by_client (Some k) e = absurd (cc)
+    by_may : (k : ℕ) (b : Bool) → (if b then Act k else Nothing) ≢ Take
+    by_may k true e = absurd (cc)
+    by_may k false e = absurd (cc)
 
-    by_may : (b : Bool) → (if b then act_of (first_client script me n) else Nothing) ≢ Take
-    by_may false e = absurd (cc)
-    by_may true e = by_client (first_client script me n) e
+    by_client : (o : Option ℕ) → act_if script n o ≢ Take
+    by_client None e = absurd (cc)
+    by_client (Some k) e = by_may k (may_act script n k) e
 
 -- where no move is shown no client can act
 pub nothing_acts : (p : Parts) → next_choice p ≡ Nothing → act_choice p.node.script p.node.me (state_of p.node) ≡ Nothing
@@ -138,13 +169,18 @@ chose_take p e = by_hand p.hand refl e
             → (if b then Take else act_choice p.node.script p.node.me (state_of p.node)) ≡ Take → ChoseTake p
         by_may false t e = absurd (act_takes_nothing p.node.script p.node.me (state_of p.node) e)
         by_may true t e =
-            let parts = and_parts (may_move p.node.script (state_of p.node)) (fits (numbers_of p.node.script) p.node.me (state_of p.node).clock ((state_of p.node).set (letter_seen hand.letter).set) (letter_seen hand.letter)) t in
-            let more = and_parts (nat_lt (state_of p.node).clock LAST_CLOCK) (node_within p.node.script (state_of p.node)) parts.0 in
-            record { letter = hand; there = was; now = record { clock = more.0; within = more.1; fits = parts.1 } }
+            let n = state_of p.node in
+            let letter = letter_seen hand.letter in
+            let fit = fits (numbers_of p.node.script) p.node.me n.clock (n.set letter.set) letter in
+            let parts = and_parts (has_time n) (fit && leaves_room_to_take n letter) t in
+            let more = and_parts fit (leaves_room_to_take n letter) parts.1 in
+            record { letter = hand; there = was; now = record { time = parts.0; fits = more.0; room = more.1 } }
 
 -- as many words for the same
 pub take_fits : (p : Parts) → next_choice p ≡ Take → IfSome p.hand (FitsNow p.node.script p.node.me (state_of p.node))
 take_fits p e = let t = chose_take p e in rw t.there t.now
 
-pub act_within : (p : Parts) (client : ℕ) → next_choice p ≡ Act client → IsTrue (node_within p.node.script (state_of p.node))
-act_within p client e = (chose_act p client e).within
+-- of the letter that is in hand
+pub hand_fits : (p : Parts) (hand : Hand) → next_choice p ≡ Take → p.hand ≡ Some hand → FitsNow p.node.script p.node.me (state_of p.node) hand
+hand_fits p hand e there =
+    subst (λ (o : Option Hand). IfSome o (FitsNow p.node.script p.node.me (state_of p.node))) there (take_fits p e)

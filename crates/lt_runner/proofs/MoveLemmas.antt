@@ -1,11 +1,10 @@
 -- A move of the node, its log entry and its letters are a move of the runner.
-use Rattle.std.proofs.Common.{◌≡◌, ◌≢◌, ℕ, ◌+◌, ◌<◌, List, [], ◌∷◌, ◌++◌, Option, Some, None, false, length, refl, sym, ap, subst, ◌∙◌, arith, append_assoc, ◌&&◌, ◌==◌, nat_lt, not, IsTrue, All, Bool, true, append-nil, ltb-true, lt-ltb, ne_eqb, eqb-true}
-use Rattle.std.proofs.lemmas.Bool.{and_parts}
+use Rattle.std.proofs.Common.{◌≡◌, ◌≢◌, ℕ, ◌+◌, ◌<◌, List, [], ◌∷◌, ◌++◌, Option, Some, None, false, length, refl, sym, ap, subst, ◌∙◌, arith, append_assoc, ◌==◌, IsTrue, All, Bool, true, append-nil, lt-ltb, ne_eqb}
 use Rattle.std.proofs.lemmas.List.Elements.{All-head, All-rest}
 use Rattle.lt_modes.specs.declared.moves.Step.TheVariants.{Act, Take}
 use Rattle.lt_modes.specs.State.{Letter, Post}
-use Rattle.lt_spec.specs.NodeMove.{home, NodeMade, node_act, node_take, node_waits, has_command, act_stamp, take_stamp}
-use Rattle.lt_spec.specs.FixedOrder.{Cause, OfClient, OfLetter, can_act, can_make_move, made_of, letters_for, logged_of, used_by}
+use Rattle.lt_spec.specs.NodeMove.{NodeMade, node_act, node_take, act_stamp, take_stamp}
+use Rattle.lt_spec.specs.FixedOrder.{Cause, OfClient, OfLetter, can_make_move, made_of, letters_for, logged_of, used_by}
 use Rattle.lt_law_own_lines.specs.WaitingLaws.{IsForPeer, ReachesPeers}
 use Rattle.lt_law_own_lines.proofs.Moves.{acts_reach_peers, takes_reach_peers}
 use Rattle.lt_desk.specs.DeskData.{OutData}
@@ -22,7 +21,7 @@ use Rattle.lt_runner.specs.Choices.{next_choice}
 use Rattle.lt_runner.specs.Kept.{in_hand, IsFromPeer, RunnerInvariant}
 use Rattle.lt_runner.specs.Posting.{Finished, CanPost, Posted, Posting}
 use Rattle.lt_runner.specs.Ready.{FitsNow}
-use Rattle.lt_runner.proofs.ChoiceLemmas.{ChoseAct, chose_act}
+use Rattle.lt_runner.proofs.ChoiceLemmas.{ChoseAct, chose_act, IsRunnable, is_runnable}
 use Rattle.lt_runner.proofs.KeptLemmas.{Moves}
 
 -- what is in the outgoing letters after the node's move
@@ -76,18 +75,6 @@ posts_for_peers a node out made none reaches d =
     (subst (λ script. All (IsForPeer script.nodes node.me) made.posts) (sym d.script)
     (subst (λ (me : ℕ). All (IsForPeer a.node.script.nodes me) made.posts) (sym d.me) reaches.posts))
 
--- what a client that can act may do
-pub record IsRunnable (a : Parts) (client : ℕ) : Type 0 where
-  pub known : client < length a.node.script.clients
-  pub home : home a.node.script client ≡ a.node.me
-  pub runs : IsTrue (not (node_waits a.node.script (state_of a.node) client) && has_command a.node.script (state_of a.node) client)
-
-pub is_runnable : (a : Parts) (client : ℕ) → IsTrue (can_act a.node.script a.node.me (state_of a.node) client) → IsRunnable a client
-is_runnable a client can =
-    let parts = and_parts (nat_lt client (length a.node.script.clients)) (home a.node.script client == a.node.me && (not (node_waits a.node.script (state_of a.node) client) && has_command a.node.script (state_of a.node) client)) can in
-    let more = and_parts (home a.node.script client == a.node.me) (not (node_waits a.node.script (state_of a.node) client) && has_command a.node.script (state_of a.node) client) parts.1 in
-    record { known = ltb-true client (length a.node.script.clients) parts.0; home = eqb-true (home a.node.script client) a.node.me more.0; runs = more.1 }
-
 -- a letter of another node of the script can be taken
 pub can_take : (a : Parts) (hand : Hand) → a.node.me < a.node.script.nodes → (hand.from < a.node.script.nodes) × (hand.from ≢ a.node.me)
     → IsTrue (can_make_move a.node.script a.node.me (state_of a.node) (OfLetter hand.from (letter_seen hand.letter)))
@@ -96,7 +83,7 @@ can_take a hand below from =
 
 -- the command of the client
 pub record ActsNow (a : Parts) (client : ℕ) : Type 0 where
-  pub runs : IsRunnable a client
+  pub runs : IsRunnable a.node.script a.node.me (state_of a.node) client
   pub chosen : ChoseAct a.node.script a.node.me (state_of a.node) client
   pub reaches : ReachesPeers a.node.script.nodes a.node.me (node_act a.node.script a.node.me client (state_of a.node))
 
@@ -104,7 +91,7 @@ pub acts_now : (a : Parts) (client : ℕ) → RunnerInvariant a → next_choice 
 acts_now a client h e =
     let chosen = chose_act a client e in
     record {
-      runs = is_runnable a client chosen.can;
+      runs = is_runnable a.node.script a.node.me (state_of a.node) client chosen.can;
       chosen = chosen;
       reaches = acts_reach_peers a.node.script a.node.me client (state_of a.node) h.below h.names;
     }

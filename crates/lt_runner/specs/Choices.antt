@@ -4,9 +4,10 @@ use Rattle.lt_modes.specs.Script.{ScriptData}
 use Rattle.lt_modes.specs.State.{Letter}
 use Rattle.lt_modes.specs.Fits.{fits, numbers_of}
 use Rattle.lt_desk.specs.LetterSeen.{letter_seen}
-use Rattle.lt_spec.specs.NodeMove.{node_within, leaves_asks, NodeState}
+use Rattle.lt_spec.specs.NodeMove.{NodeState}
 use Rattle.lt_spec.specs.FixedOrder.{can_act}
 use Rattle.lt_node.specs.NodeData.{state_of}
+use Rattle.lt_node.specs.Touched.{leaves_room_to_act, leaves_room_to_take}
 use Rattle.lt_core.specs.declared.fits.TheConstants.{LAST_CLOCK}
 use Rattle.lt_runner.specs.declared.choice.Choice.{Choice}
 use Rattle.lt_runner.specs.declared.choice.Choice.TheVariants.{Nothing, Act, Take}
@@ -26,25 +27,27 @@ least_below (suc n) test = or_this (least_below n test) test n
 abbrev pub first_client : ScriptData → ℕ → NodeState → Option ℕ
 first_client script me n = least_below (length script.clients) (can_act script me n)
 
--- the clock has not met its bound, and what the node keeps leaves room for a move
-abbrev pub may_move : ScriptData → NodeState → Bool
-may_move script n = nat_lt n.clock LAST_CLOCK && node_within script n
+-- the clock has not met its bound
+abbrev pub has_time : NodeState → Bool
+has_time n = nat_lt n.clock LAST_CLOCK
 
--- so it does for a command
-abbrev pub may_act : ScriptData → NodeState → Bool
-may_act script n = may_move script n && leaves_asks script n
+-- there is time, and the sets that the client's next command touches leave room for it
+abbrev pub may_act : ScriptData → NodeState → ℕ → Bool
+may_act script n client = has_time n && leaves_room_to_act script n client
 
--- and for the letter
+-- there is time, the letter fits, and its set leaves room for it
 abbrev pub may_take : ScriptData → ℕ → NodeState → Letter → Bool
-may_take script me n letter = may_move script n && fits (numbers_of script) me n.clock (n.set letter.set) letter
+may_take script me n letter =
+    has_time n && (fits (numbers_of script) me n.clock (n.set letter.set) letter && leaves_room_to_take n letter)
 
-abbrev pub act_of : Option ℕ → Choice
-act_of None = Nothing
-act_of (Some client) = Act client
+-- the next command of this client, if it may be made
+abbrev pub act_if : ScriptData → NodeState → Option ℕ → Choice
+act_if script n None = Nothing
+act_if script n (Some client) = if may_act script n client then Act client else Nothing
 
 -- the command of the first client that can act
 abbrev pub act_choice : ScriptData → ℕ → NodeState → Choice
-act_choice script me n = if may_act script n then act_of (first_client script me n) else Nothing
+act_choice script me n = act_if script n (first_client script me n)
 
 -- the letter in hand comes first, and where it doesn't fit the clients are asked
 abbrev pub choice_by : ScriptData → ℕ → NodeState → Option Hand → Choice

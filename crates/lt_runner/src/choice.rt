@@ -1,7 +1,8 @@
 // The move that a runner shows.
-ghost use Rattle.std.specs.Prelude.{◌≡◌};
+ghost use Rattle.std.specs.Prelude.{◌≡◌, IfSome, IsTrue};
+ghost use Rattle.lt_spec.specs.FixedOrder.{can_act};
 ghost use Rattle.lt_node.specs.NodeData.{state_of};
-ghost use Rattle.lt_runner.specs.Choices.{may_move, may_act, may_take, first_client, act_choice, next_choice};
+ghost use Rattle.lt_runner.specs.Choices.{has_time, may_act, may_take, first_client, act_choice, next_choice};
 ghost use Rattle.lt_runner.specs.Kept.{RunnerInvariant};
 ghost use Rattle.lt_desk.specs.LetterSeen.{letter_seen};
 
@@ -34,22 +35,24 @@ pub(crate) fn choose(parts: &Parts) -> Choice
 }
 
 #[inline(always)]
-fn may_move(node: &Node) -> bool
-    ensures { result ≡ may_move node.now.script (state_of node.now) }
+fn has_time(node: &Node) -> bool
+    ensures { result ≡ has_time (state_of node.now) }
 {
-    node.clock() < LAST_CLOCK && node.is_within()
+    node.clock() < LAST_CLOCK
 }
 
+#[tactic(auto, using(crate::proofs::ChoiceLemmas::fitting_set))]
 fn may_take(node: &Node, letter: &Letter) -> bool
     ensures { result ≡ may_take node.now.script node.now.me (state_of node.now) (letter_seen letter.now) }
 {
-    may_move(node) && node.fits(letter)
+    has_time(node) && (node.fits(letter) && node.leaves_room_to_take(letter))
 }
 
-fn may_act(node: &Node) -> bool
-    ensures { result ≡ may_act node.now.script (state_of node.now) }
+fn may_act(node: &Node, client: u16) -> bool
+    requires { IsTrue (can_act node.now.script node.now.me (state_of node.now) client) }
+    ensures { result ≡ may_act node.now.script (state_of node.now) client }
 {
-    may_move(node) && node.leaves_asks()
+    has_time(node) && node.leaves_room_to_act(client)
 }
 
 // Most often no client can act, and then nothing else is asked.
@@ -57,14 +60,15 @@ fn act_choice(node: &Node) -> Choice
     ensures { result ≡ act_choice node.now.script node.now.me (state_of node.now) }
 {
     match first_client(node) {
-        Some(client) if may_act(node) => Choice::Act(client),
+        Some(client) if may_act(node, client) => Choice::Act(client),
         _ => Choice::Nothing,
     }
 }
 
-#[tactic(auto, using(crate::proofs::ChoiceLemmas::least_is))]
+#[tactic(auto, using(crate::proofs::ChoiceLemmas::least_is, crate::proofs::ChoiceLemmas::least_can))]
 fn first_client(node: &Node) -> Option<u16>
-    ensures { result ≡ first_client node.now.script node.now.me (state_of node.now) }
+    ensures first { result ≡ first_client node.now.script node.now.me (state_of node.now) }
+    ensures can { IfSome result (λ client. IsTrue (can_act node.now.script node.now.me (state_of node.now) client)) }
 {
     node.first_runnable()
 }

@@ -21,7 +21,7 @@ impl Parts {
     pub(crate) fn make_act(&mut self, client: u16)
         requires kept { RunnerInvariant self.old }
         requires chosen { next_choice self.old ≡ choices.Act client }
-        requires room { RunnerCanAct self.old }
+        requires room { RunnerCanAct client self.old }
         requires place { length self.old.log.entries < self.old.limit }
         ensures kept { RunnerInvariant self.new }
         ensures same { SameRunner self.old self.new }
@@ -37,6 +37,7 @@ impl Parts {
     }
 
     /// Takes the letter in hand.
+    #[tactic(auto, using(crate::proofs::ChoiceLemmas::hand_fits))]
     pub(crate) fn make_take(&mut self)
         requires kept { RunnerInvariant self.old }
         requires chosen { next_choice self.old ≡ choices.Take }

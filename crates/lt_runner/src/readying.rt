@@ -1,7 +1,7 @@
 // What a runner does before a move.
-ghost use Rattle.std.specs.Prelude.{◌≡◌, ◌≢◌, ◌<◌, None, ℕ, IsOk, IsTrue, IfSome, IfNone, OnOk, length};
-ghost use Rattle.lt_spec.specs.NodeMove.{node_within};
-ghost use Rattle.lt_node.specs.NodeData.{state_of, RoomToAct, RoomToTake};
+ghost use Rattle.std.specs.Prelude.{◌≡◌, ◌≢◌, ◌<◌, None, ℕ, IsOk, IfSome, IfNone, OnOk, length};
+ghost use Rattle.lt_node.specs.NodeData.{state_of, RoomToTake};
+ghost use Rattle.lt_node.specs.Touched.{RoomToAct};
 ghost use Rattle.lt_runner.specs.declared.choice.Choice.TheVariants as choices;
 ghost use Rattle.lt_runner.specs.Choices.{next_choice};
 ghost use Rattle.lt_runner.specs.Ready.{RunnerCanAct, RunnerCanTake, CanLog, FitsNow};
@@ -57,18 +57,18 @@ impl Parts {
         }
     }
 
-    /// Makes room for a command.
-    #[tactic(auto, using(crate::proofs::ChoiceLemmas::act_within, crate::proofs::KeptLemmas::seen_join))]
-    pub(crate) fn reserve_act(&mut self, _client: u16) -> Result<(), AllocError>
+    /// Makes room for the client's next command.
+    #[tactic(auto, using(crate::proofs::KeptLemmas::seen_join))]
+    pub(crate) fn reserve_act(&mut self, client: u16) -> Result<(), AllocError>
         requires kept { RunnerInvariant self.old }
-        requires chosen { next_choice self.old ≡ choices.Act _client }
+        requires chosen { next_choice self.old ≡ choices.Act client }
         ensures kept { RunnerInvariant self.new }
         ensures seen { AsSeen self.old self.new }
         ensures hand { self.new.hand ≡ self.old.hand }
-        ensures ready { OnOk result (RunnerCanAct self.new) }
-        ensures full { RunnerCanAct self.old → IsOk result }
+        ensures ready { OnOk result (RunnerCanAct client self.new) }
+        ensures full { RunnerCanAct client self.old → IsOk result }
     {
-        self.reserve_for_act()?;
+        self.reserve_for_act(client)?;
         self.reserve_rest()
     }
 
@@ -87,17 +87,17 @@ impl Parts {
     }
 
     // Makes room in the node.
-    fn reserve_for_act(&mut self) -> Result<(), AllocError>
+    fn reserve_for_act(&mut self, client: u16) -> Result<(), AllocError>
         requires kept { RunnerInvariant self.old }
-        requires within { IsTrue (node_within self.old.node.script (state_of self.old.node)) }
+        requires chosen { next_choice self.old ≡ choices.Act client }
         ensures kept { RunnerInvariant self.new }
         ensures seen { AsSeen self.old self.new }
         ensures hand { self.new.hand ≡ self.old.hand }
-        ensures room { OnOk result (RoomToAct self.new.node self.new.out) }
-        ensures full { RoomToAct self.old.node self.old.out → IsOk result × (self.new.out ≡ self.old.out) }
+        ensures room { OnOk result (RoomToAct client self.new.node self.new.out) }
+        ensures full { RoomToAct client self.old.node self.old.out → IsOk result × (self.new.out ≡ self.old.out) }
         ensures rest { (self.new.log ≡ self.old.log) × (self.new.mail ≡ self.old.mail) }
     {
-        self.node.reserve(&mut self.out)
+        self.node.reserve(client, &mut self.out)
     }
 
     // Makes room in the node and in the letter.

@@ -15,6 +15,9 @@ act-requires-clause-home c = (acts_now c.args.self.now c.args.client c.requires.
 pub act-requires-clause-runnable : goal.act-requires-clause-runnable
 act-requires-clause-runnable c = (acts_now c.args.self.now c.args.client c.requires.kept c.requires.chosen).runs.runs
 
+pub act-requires-clause-within : goal.act-requires-clause-within
+act-requires-clause-within c = (acts_now c.args.self.now c.args.client c.requires.kept c.requires.chosen).chosen.room
+
 pub finish_move-requires-clause-peers : goal.finish_move-requires-clause-peers
 finish_move-requires-clause-peers c =
     posts_for_peers c.args.self.now c.act.new.self c.act.new.out (node_act c.args.self.now.node.script c.args.self.now.node.me c.args.client (state_of c.args.self.now.node))
