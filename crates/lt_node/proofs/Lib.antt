@@ -7,6 +7,5 @@ pub mod CommandLemmas
 pub mod DropLemmas
 pub mod MarkLemmas
 pub mod OwnLemmas
-pub mod ReadyLemmas
 pub mod TouchLemmas
 pub mod AddedLemmas

@@ -2,4 +2,5 @@ pub mod NodeData
 pub mod Clients
 pub mod Marks
 pub mod Forgetting
+pub mod Sets
 pub mod Touched

@@ -1,22 +1,14 @@
 -- Which ask of a client a node finds first.
-use Rattle.std.specs.Prelude.{ℕ, zero, suc, Option, None, length, option_map, ◌≡◌, ◌<◌, ◌++◌, List, slice_index_or, Some, ◌+◌, ◌≤◌, All, sum_by, ◌==◌, ◌&&◌, Bool, true, false, if◌then◌else◌, IsTrue}
+use Rattle.std.specs.Prelude.{ℕ, zero, suc, Option, None, Some, length, option_map, ◌≡◌, ◌<◌, ◌≤◌, ◌+◌, ◌++◌, List, slice_index_or, All, sum_by}
 use Rattle.std.specs.Option.{option_or}
-use Rattle.std.specs.Int.{bit_at}
 use Rattle.lt_modes.specs.declared.ask.Ask.{Ask}
-use Rattle.lt_modes.specs.declared.command.Command.{Command}
-use Rattle.lt_modes.specs.declared.command.Command.TheVariants as commands
-use Rattle.lt_modes.specs.Script.{ScriptData}
-use Rattle.lt_modes.specs.Waiting.{pending_ask}
-use Rattle.lt_modes.specs.State.{first_state, SetState, Made}
 use Rattle.lt_modes.specs.declared.stamp.Stamp.{Stamp}
+use Rattle.lt_modes.specs.Script.{ScriptData}
 use Rattle.lt_modes.specs.SetMove.{finish, drop}
-use Rattle.lt_modes.specs.Modes.{locks_in}
-use Rattle.lt_modes.specs.Fits.{has_client}
-use Rattle.lt_modes.specs.FiveModes.{bit_if}
-use Rattle.lt_modes.specs.Serving.{waits}
-use Rattle.lt_spec.specs.NodeMove.{NodeState, NodeMade, set_within, next_command}
+use Rattle.lt_modes.specs.State.{first_state, SetState, Made}
+use Rattle.lt_modes.specs.Waiting.{pending_ask}
+use Rattle.lt_spec.specs.NodeMove.{NodeState, NodeMade}
 use Rattle.lt_spec.specs.Script.{IsScript}
-use Rattle.lt_held.specs.HeldData.{most_locks}
 use Rattle.lt_desk.specs.DeskData.{OutData}
 use Rattle.lt_desk.specs.declared.letter.Letter.{Letter}
 use Rattle.lt_desk.specs.LetterSeen.{body_seen, asks_in, RoomIn}
@@ -52,17 +44,20 @@ pub record NodeData : Type 0 where
 abbrev pub kept_script : NodeData → ScriptData
 kept_script n = without_first n.gone n.script
 
--- a set at the start, for which there is no room yet
-abbrev pub first_core : ScriptData → ℕ → ℕ → CoreData
-first_core script me s = record {
+-- a set that was never touched at this one of so many nodes: it is in its first state, with no room
+abbrev pub untouched : ℕ → ℕ → ℕ → CoreData
+untouched nodes me s = record {
   node = me;
   set = s;
-  state = first_state script.nodes me;
+  state = first_state nodes me;
   room = 0;
   row_room = 0;
   parked_room = 0;
   tell_room = 0;
 }
+
+abbrev pub first_core : ScriptData → ℕ → ℕ → CoreData
+first_core script me s = untouched script.nodes me s
 
 -- what the node keeps for the set
 abbrev pub core_at : NodeData → ℕ → CoreData
@@ -135,11 +130,6 @@ pub record SetsDo (script : ScriptData) (me : ℕ) (rule : NodeState → NodeMad
 abbrev pub most_sent : CoreData → ℕ
 most_sent core = most core.state + 2
 
--- room for one command, which may touch all sets and has a line of its own
-pub record RoomToAct (n : NodeData) (out : OutData) : Type 0 where
-  pub cores : All (HasMemory 0) n.cores
-  pub send : RoomToSend (sum_by most_sent n.cores + 1) out
-
 -- room for the letter, in its set and in the desk that it brings
 pub record RoomForLetter (core : CoreData) (letter : Letter) (out : OutData) : Type 0 where
   pub memory : HasMemory (asks_in letter.body) core
@@ -149,38 +139,6 @@ pub record RoomForLetter (core : CoreData) (letter : Letter) (out : OutData) : T
 -- the same at the node
 abbrev pub RoomToTake : NodeData → Letter → OutData → Type 0
 RoomToTake n letter out = RoomForLetter (core_at n letter.set) letter out
-
--- Room for a command that touches one set.
-
--- the set that the command names, unless it is a drop
-abbrev pub touched_set : Command → Option ℕ
-touched_set (commands.Lock s mode) = Some s
-touched_set (commands.Try s mode) = Some s
-touched_set (commands.Unlock s mode) = Some s
-touched_set (commands.Change s gives_up mode) = Some s
-touched_set (commands.DropAll other s) = None
-
-abbrev pub touched_if : Option Command → Option ℕ
-touched_if None = None
-touched_if (Some command) = touched_set command
-
--- the same of the client's next command
-abbrev pub next_set : ScriptData → NodeState → ℕ → Option ℕ
-next_set script n client = touched_if (next_command script n client)
-
--- room for one command at the set
-pub record RoomInSet (core : CoreData) (out : OutData) : Type 0 where
-  pub memory : HasMemory 0 core
-  pub send : RoomToSend (most_sent core) out
-
--- room for a command that touches this set alone, or for one that may touch all
-abbrev pub RoomToTouch : Option ℕ → NodeData → OutData → Type 0
-RoomToTouch None n out = RoomToAct n out
-RoomToTouch (Some s) n out = s < length n.cores → RoomInSet (core_at n s) out
-
--- room for the client's next command
-abbrev pub RoomForNext : ℕ → NodeData → OutData → Type 0
-RoomForNext client n out = RoomToTouch (next_set n.script (state_of n) client) n out
 
 -- no more asks wait in the set than a script has clients
 abbrev pub HasFewAsks : CoreData → Type 0
@@ -199,74 +157,14 @@ kept_of core = record { node = core.node; set = core.set; state = core.state }
 abbrev pub LeavesAsk : CoreData → Type 0
 LeavesAsk core = length core.state.pending < 16
 
--- no more locks are held than one client may hold of one mode
-abbrev pub HasFewLocks : CoreData → Type 0
-HasFewLocks core = locks_in core.state.held ≤ most_locks
-
--- the sets are ready for a move with this clock
-pub record IsReady (clock : ℕ) (cores : List CoreData) (out : OutData) : Type 0 where
-  pub rooms : All (HasRoom 2 clock) cores
-  pub asks : All LeavesAsk cores
-  pub send : RoomToSend (sum_by most_sent cores + 1) out
-
 -- the set is ready for a move with this clock
 pub record IsSetReady (clock : ℕ) (core : CoreData) (out : OutData) : Type 0 where
   pub room : HasRoom 2 clock core
   pub ask : LeavesAsk core
   pub send : RoomToSend (most_sent core) out
 
--- so is the set with this number
-pub record IsReadyAt (s clock : ℕ) (cores : List CoreData) (out : OutData) : Type 0 where
-  pub set_is : (core : CoreData) → core ≡ slice_index_or cores s core → IsSetReady clock core out
-
--- so is this set, or all are
-abbrev pub IsReadyToTouch : Option ℕ → ℕ → List CoreData → OutData → Type 0
-IsReadyToTouch None clock cores out = IsReady clock cores out
-IsReadyToTouch (Some s) clock cores out = IsReadyAt s clock cores out
-
--- Who waits in which sets of a node: a mask for each client.
-
--- the set's bit of these asks' clients tells this now, and nothing else changed
-pub record Marked (set : ℕ) (waiting : Bool) (asks : List Ask) (old new : List ℕ) : Type 0 where
-  pub count : length new ≡ length old
-  pub bits : (client s : ℕ) → client < length old → bit_at (slice_index_or new client 0) s
-      ≡ (if s == set && has_client client asks then bit_if waiting 1 else bit_at (slice_index_or old client 0) s)
-
--- the bits of those who waited in the set are gone, and those who wait there now have it
-pub record Remarked (set : ℕ) (before after : SetState) (old new : List ℕ) : Type 0 where
-  pub between : List ℕ
-  pub gone : Marked set false before.pending old between
-  pub here : Marked set true after.pending between new
-
--- bit s of a client's mask is set where an ask of the client is unanswered in set s
-pub record TellsWaiting (script : ScriptData) (me : ℕ) (cores : List CoreData) (masks : List ℕ) : Type 0 where
-  pub count : length masks ≡ length script.clients
-  pub bits : (client s : ℕ) → client < length masks
-      → bit_at (slice_index_or masks client 0) s ≡ bit_if (waits (sets_in script me cores s) client) 1
-
--- What a node knows of its sets from one move to the next: a number for each set, where it is known.
-
--- the set has memory for one move, and may send so much in it
-pub record IsReadySet (core : CoreData) (sent : ℕ) : Type 0 where
-  pub memory : HasMemory 0 core
-  pub most : sent ≡ most_sent core
-  pub few : sent ≤ 323
-
--- so it is where the number is known
-abbrev pub IsReadyIfKnown : CoreData → Option ℕ → Type 0
-IsReadyIfKnown core known = (sent : ℕ) → known ≡ Some sent → IsReadySet core sent
-
--- the number of each set tells this
-pub record KnowsReady (cores : List CoreData) (sent : List (Option ℕ)) : Type 0 where
-  pub count : length sent ≡ length cores
-  pub sets : (s : ℕ) (d : CoreData) → s < length cores → IsReadyIfKnown (slice_index_or cores s d) (slice_index_or sent s None)
-
--- no number is known
-pub record KnowsNothing (sets : ℕ) (sent : List (Option ℕ)) : Type 0 where
-  pub count : length sent ≡ sets
-  pub none : (s : ℕ) → slice_index_or sent s None ≡ None
-
--- and what such a set keeps leaves room for a move
-abbrev pub KnowsWithin : ℕ → List CoreData → List (Option ℕ) → Type 0
-KnowsWithin clock cores sent =
-    (s : ℕ) (d : CoreData) (number : ℕ) → s < length cores → slice_index_or sent s None ≡ Some number → IsTrue (set_within clock (slice_index_or cores s d).state)
+-- so are all of these sets, where one command touches them, which has a line of its own
+pub record AreReady (sets : List ℕ) (clock : ℕ) (core : ℕ → CoreData) (out : OutData) : Type 0 where
+  pub rooms : All (λ s. HasRoom 2 clock (core s)) sets
+  pub asks : All (λ s. LeavesAsk (core s)) sets
+  pub send : RoomToSend (sum_by (λ s. most_sent (core s)) sets + 1) out

@@ -1,15 +1,15 @@
-ghost use Rattle.std.specs.Prelude.{◌≡◌, ◌+◌, ◌<◌, ◌&&◌, ◌^◌, not, length, Some, IsTrue};
+ghost use Rattle.std.specs.Prelude.{◌≡◌, ◌+◌, ◌≤◌, ◌<◌, ◌&&◌, ◌^◌, ◌∷◌, [], not, length, Some, IsTrue};
 ghost use Rattle.lt_core.specs.CoreData.{answer_of, move_of};
-ghost use Rattle.lt_spec.specs.NodeMove.{node_within, leaves_asks, home, node_waits, has_command, next_command, node_act, one_made, at_clock, obey, touched};
+ghost use Rattle.lt_spec.specs.NodeMove.{home, node_waits, has_command, next_command, node_act, one_made, at_clock, obey, touched, related, locks_in_sets};
 ghost use Rattle.lt_spec.specs.Script.{HasTargets};
+ghost use Rattle.lt_spec.specs.declared.limits.TheConstants.{MAX_COMMANDS_OF_SERVICE};
 ghost use Rattle.lt_modes.specs.declared.command.Command.TheVariants as commands;
-ghost use Rattle.lt_node.specs.NodeData.{NodeDoes, IsNode, state_of, RoomToAct, RoomForNext, IsReady, IsReadyAt, IsReadyToTouch, touched_set};
+ghost use Rattle.lt_node.specs.NodeData.{NodeDoes, IsNode, AreReady, state_of, core_at};
+ghost use Rattle.lt_node.specs.Touched.{RoomToAct, leaves_room_to_act, touched_sets, drops_few};
 ghost use Rattle.lt_node.specs.Clients.{answer_of_act, answer_to};
 
 use crate::family;
-use crate::marks::mark;
 use crate::node::Node;
-use crate::ready::{forget, forget_all};
 use lt_core::{Answer, SetCommand};
 use lt_desk::Out;
 use lt_modes::{Command, Event, Stamp};
@@ -21,25 +21,8 @@ impl Node {
         requires client { client < length self.old.script.clients }
         requires home { home self.old.script client ≡ self.old.me }
         requires runnable { IsTrue (not (node_waits self.old.script (state_of self.old) client) && has_command self.old.script (state_of self.old) client) }
-        requires within { IsTrue (node_within self.old.script (state_of self.old)) }
-        requires asks { IsTrue (leaves_asks self.old.script (state_of self.old)) }
-        requires room { RoomToAct self.old out.old }
-        requires clock { self.old.clock + 1 < 2 ^ 62 }
-        ensures answer { Some result ≡ answer_of_act self.old.script self.old.me client (state_of self.old) }
-        ensures does { NodeDoes (node_act self.old.script self.old.me client (state_of self.old)) self.old out.old self.new out.new }
-    {
-        self.act_next(client, out)
-    }
-
-    /// The same, with room for what the command touches alone.
-    #[inline(always)]
-    pub fn act_next(&mut self, client: u16, out: &mut Out) -> Answer
-        requires client { client < length self.old.script.clients }
-        requires home { home self.old.script client ≡ self.old.me }
-        requires runnable { IsTrue (not (node_waits self.old.script (state_of self.old) client) && has_command self.old.script (state_of self.old) client) }
-        requires within { IsTrue (node_within self.old.script (state_of self.old)) }
-        requires asks { IsTrue (leaves_asks self.old.script (state_of self.old)) }
-        requires room { RoomForNext client self.old out.old }
+        requires within { IsTrue (leaves_room_to_act self.old.script (state_of self.old) client) }
+        requires room { RoomToAct client self.old out.old }
         requires clock { self.old.clock + 1 < 2 ^ 62 }
         ensures answer { Some result ≡ answer_of_act self.old.script self.old.me client (state_of self.old) }
         ensures does { NodeDoes (node_act self.old.script self.old.me client (state_of self.old)) self.old out.old self.new out.new }
@@ -71,7 +54,8 @@ impl Node {
     fn obey(&mut self, client: u16, command: Command, stamp: Stamp, out: &mut Out) -> Answer
         requires node { stamp.node ≡ self.old.me }
         requires targets { HasTargets self.old.script.sets self.old.script.clients client command }
-        requires ready { IsReadyToTouch (touched_set command) stamp.clock self.old.cores out.old }
+        requires ready { AreReady (touched_sets self.old.script command) stamp.clock (core_at self.old) out.old }
+        requires few { IsTrue (drops_few self.old.script (state_of self.old) (Some command)) }
         ensures answer { result ≡ answer_to self.old.script self.old.me client (state_of self.old) command }
         ensures does { NodeDoes (obey self.old.script stamp client (Some command) (state_of self.old)) self.old out.old self.new out.new }
     {
@@ -112,7 +96,7 @@ impl Node {
     #[inline(always)]
     fn touch(
         &mut self,
-        set: u8,
+        set: u32,
         client: u16,
         command: SetCommand,
         stamp: Stamp,
@@ -120,52 +104,37 @@ impl Node {
     ) -> Answer
         requires node { stamp.node ≡ self.old.me }
         requires set { set < length self.old.script.sets }
-        requires ready { IsReadyAt set stamp.clock self.old.cores out.old }
+        requires ready { AreReady (set ∷ []) stamp.clock (core_at self.old) out.old }
         ensures answer { result ≡ answer_of self.old.me client command ((state_of self.old).set set) }
         ensures does { NodeDoes (touched (state_of self.old) set (move_of stamp client command set ((state_of self.old).set set))) self.old out.old self.new out.new }
     {
-        let core = &mut self.cores[usize::from(set)];
-        mark(&mut self.waiting, core.asks(), set, false);
-        let answer = core.act(client, command, stamp, out);
-        mark(&mut self.waiting, core.asks(), set, true);
-        forget(&mut self.sent, set);
-        answer
+        self.sets.act(set, client, command, stamp, out)
     }
 
     // Drops all locks of a client in a family, unless it waits; the answer stands before what the sets send.
-    #[tactic(auto, using(crate::proofs::ReadyLemmas::all_forgotten, crate::proofs::MarkLemmas::within_none))]
-    fn drop_all(&mut self, client: u16, other: u16, set: u8, stamp: Stamp, out: &mut Out) -> Answer
+    fn drop_all(&mut self, client: u16, other: u16, set: u32, stamp: Stamp, out: &mut Out) -> Answer
         requires node { stamp.node ≡ self.old.me }
         requires set { set < length self.old.script.sets }
-        requires ready { IsReady stamp.clock self.old.cores out.old }
+        requires ready { AreReady (related self.old.script set) stamp.clock (core_at self.old) out.old }
+        requires few { locks_in_sets (state_of self.old) other (related self.old.script set)
+            ≤ MAX_COMMANDS_OF_SERVICE }
         ensures answer { result ≡ answer_to self.old.script self.old.me client (state_of self.old) (commands.DropAll other set) }
         ensures does { NodeDoes (obey self.old.script stamp client (Some (commands.DropAll other set)) (state_of self.old)) self.old out.old self.new out.new }
     {
         if self.waits(other) {
             out.push_event(Event::Busy { client, other, set });
-            forget_all(&mut self.sent);
-            family::end_each(
-                &mut self.cores,
-                &mut self.waiting,
-                self.script.kept(),
-                set,
-                None,
-                stamp,
-                out,
-            );
+            family::end_each(&mut self.sets, self.script.kept(), set, None, stamp, out);
             return Answer::Busy;
         }
-        let locks = family::locks(&self.cores, self.script.kept(), set, other);
+        let locks = family::locks(&self.sets, self.script.kept(), set, other);
         out.push_event(Event::DropAll {
             client,
             other,
             set,
             count: locks,
         });
-        forget_all(&mut self.sent);
         family::end_each(
-            &mut self.cores,
-            &mut self.waiting,
+            &mut self.sets,
             self.script.kept(),
             set,
             Some(other),

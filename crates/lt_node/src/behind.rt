@@ -9,7 +9,7 @@ use lt_core::Core;
 // Behind whose asks those of a client wait here.
 impl Node {
     /// Marks each client behind whose ask for the set one of this client stands here, or is parked.
-    pub fn mark_behind(&self, marks: &mut Vec<bool>, set: u8, client: u16)
+    pub fn mark_behind(&self, marks: &mut Vec<bool>, set: u32, client: u16)
         requires set { set < length self.now.script.sets }
         requires marks { length marks.old.items ≤ length self.now.script.clients }
         ensures { AreAdded (λ other. stands_before ((state_of self.now).set set) other client

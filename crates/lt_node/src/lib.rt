@@ -6,15 +6,16 @@ mod appending;
 mod behind;
 mod client;
 mod commands;
+mod counts;
+mod ending;
 mod family;
 mod forgetting;
 mod limits;
 mod long_script;
-mod marks;
 mod node;
 mod own;
-mod ready;
 mod room;
+mod sets;
 mod taking;
 mod waiting;
 

@@ -5,16 +5,15 @@ ghost use Rattle.lt_core.specs.Steps.{rule_numbers as numbers_seen};
 ghost use Rattle.lt_spec.specs.NodeMove.{home, node_waits, has_command, act_stamp, take_stamp};
 ghost use Rattle.lt_spec.specs.World.{start};
 ghost use Rattle.lt_spec.specs.Script.{IsScript};
-ghost use Rattle.lt_node.specs.NodeData.{IsNode, IsCoreOf, state_of, first_core, kept_script};
+ghost use Rattle.lt_node.specs.NodeData.{IsNode, state_of, kept_script};
 ghost use Rattle.lt_node.specs.Clients.{AreAtStart, HaveFrom, homes_in};
 
 use crate::client::{Client, clients_of, homes_of};
 use crate::commands::Commands;
 use crate::long_script::LongScript;
-use crate::marks::no_marks;
 use crate::own::own_of;
-use crate::ready::none_ready;
-use lt_core::{Core, Numbers};
+use crate::sets::Sets;
+use lt_core::Numbers;
 use lt_desk::Letter;
 use lt_modes::Stamp;
 use lt_script::Script;
@@ -33,16 +32,13 @@ pub struct Node {
     pub(crate) clients: Vec<Client>,
     // The clients of this node, in order.
     pub(crate) own: Vec<u16>,
-    pub(crate) cores: Vec<Core>,
-    // In which sets each client waits: bit s is set s.
-    pub(crate) waiting: Vec<u8>,
-    // How much each set may send in a move for which it has memory, where that is known.
-    pub(crate) sent: Vec<Option<u32>>,
+    pub(crate) sets: Sets,
 }
 
 impl Model for Node {
     ghost use Rattle.std.specs.Prelude.{length, map};
-    ghost use Rattle.lt_node.specs.NodeData.{NodeData, IsNode, TellsWaiting, KnowsReady, KnowsWithin};
+    ghost use Rattle.lt_node.specs.NodeData.{NodeData, IsNode};
+    ghost use Rattle.lt_node.specs.Sets.{AreSetsOf};
     ghost use Rattle.lt_node.specs.Clients.{progress_made, KnowsClients, AreOwn};
 
     ghost Value = { NodeData };
@@ -53,7 +49,7 @@ impl Model for Node {
       me = n.me;
       clock = n.clock;
       made = map progress_made n.clients.items;
-      cores = n.cores.items;
+      cores = n.sets.cores;
     } };
 
     ghost invariant = { λ n. IsNode (record {
@@ -62,12 +58,10 @@ impl Model for Node {
       me = n.me;
       clock = n.clock;
       made = map progress_made n.clients.items;
-      cores = n.cores.items;
+      cores = n.sets.cores;
     }) × KnowsClients n.script.whole n.me n.homes.items n.clients.items
-        × TellsWaiting n.script.whole n.me n.cores.items n.waiting.items
-        × AreOwn n.script.whole.clients n.me 0 (length n.script.whole.clients) n.own.items
-        × KnowsReady n.cores.items n.sent.items
-        × KnowsWithin n.clock n.cores.items n.sent.items };
+        × AreSetsOf n.script.whole n.me n.sets
+        × AreOwn n.script.whole.clients n.me 0 (length n.script.whole.clients) n.own.items };
 }
 
 impl Node {
@@ -123,9 +117,7 @@ impl Node {
         ensures state { IfOk result (λ made. state_of made ≡ (start script.now).node node) }
     {
         let own = own_of(alloc, script, node)?;
-        let cores = cores_of(alloc, script, node)?;
-        let waiting = no_marks(alloc, script)?;
-        let sent = none_ready(alloc, script)?;
+        let sets = Sets::new(alloc, script, node)?;
         let script = LongScript::of(script.copy(alloc)?);
         Ok(Node {
             script,
@@ -134,9 +126,7 @@ impl Node {
             homes,
             clients,
             own,
-            cores,
-            waiting,
-            sent,
+            sets,
         })
     }
 
@@ -188,24 +178,7 @@ impl Node {
     pub fn waits(&self, client: u16) -> bool
         ensures { result ≡ node_waits self.now.script (state_of self.now) client }
     {
-        let place = usize::from(client);
-        if place < self.waiting.len() {
-            self.waiting[place] != 0
-        } else {
-            self.waits_in_some(client)
-        }
-    }
-
-    // The same for a number that isn't one of the script's clients.
-    fn waits_in_some(&self, client: u16) -> bool
-        ensures { result ≡ node_waits self.now.script (state_of self.now) client }
-    {
-        for set in 0..self.cores.len() {
-            if self.cores[set].waits(client) {
-                return true;
-            }
-        }
-        false
+        self.sets.waits(client)
     }
 
     /// Whether the client, of this node, doesn't wait and has a command left.
@@ -244,8 +217,11 @@ impl Node {
     pub fn fits(&self, letter: &Letter) -> bool
         ensures { result ≡ fits (numbers_of self.now.script) self.now.me self.now.clock ((state_of self.now).set letter.now.set) (letter_seen letter.now) }
     {
-        let set = usize::from(letter.set);
-        set < self.cores.len() && self.cores[set].fits(self.clock, letter, &self.numbers())
+        letter.set < self.sets.count()
+            && self
+                .sets
+                .core(letter.set)
+                .fits(self.clock, letter, &self.numbers())
     }
 
     // The numbers of the script by which letters are tested.
@@ -254,21 +230,8 @@ impl Node {
     {
         Numbers {
             nodes: self.script.kept().nodes(),
-            sets: u16::from(self.script.kept().sets()),
+            sets: self.script.kept().sets(),
             homes: &self.homes,
         }
     }
-}
-
-// What the node keeps for each set at the start.
-fn cores_of(alloc: Global, script: &Script, node: u8) -> Result<Vec<Core>, AllocError>
-    ensures count { IfOk result (λ cores. length cores.items ≡ length script.now.sets) }
-    ensures states { IfOk result (λ cores. (s : ℕ) → (slice_index_or cores.items s (first_core script.now node s)).state ≡ (first_core script.now node s).state) }
-    ensures places { IfOk result (λ cores. (s : ℕ) → s < length cores.items → IsCoreOf node s (slice_index_or cores.items s (first_core script.now node s))) }
-{
-    let mut cores = Vec::with_capacity(alloc, usize::from(script.sets()))?;
-    for set in 0..script.sets() {
-        cores.push(Core::new(alloc, script.nodes(), script.clients(), node, set)?)?;
-    }
-    Ok(cores)
 }

@@ -2,7 +2,7 @@ ghost use Rattle.std.specs.Prelude.{◌≡◌, ◌<◌, is_some, length};
 ghost use Rattle.lt_modes.specs.Modes.{count_of};
 ghost use Rattle.lt_modes.specs.Waiting.{pending_ask, stands_before, parked_behind};
 ghost use Rattle.lt_spec.specs.NodeMove.{node_waits};
-ghost use Rattle.lt_node.specs.NodeData.{first_ask, core_at, state_of};
+ghost use Rattle.lt_node.specs.NodeData.{first_ask, state_of};
 
 use crate::node::Node;
 use lt_core::Core;
@@ -11,7 +11,7 @@ use lt_modes::{Ask, Mode};
 // What the clients hold and wait for here, and behind whose asks.
 impl Node {
     /// How many locks of the mode the client holds in the set.
-    pub fn count(&self, set: u8, client: u16, mode: Mode) -> u64
+    pub fn count(&self, set: u32, client: u16, mode: Mode) -> u64
         requires { set < length self.now.script.sets }
         ensures { result ≡ count_of ((state_of self.now).set set).held client mode }
     {
@@ -19,7 +19,7 @@ impl Node {
     }
 
     /// The client's unanswered ask in the set, if it has one.
-    pub fn ask_in(&self, set: u8, client: u16) -> Option<Ask>
+    pub fn ask_in(&self, set: u32, client: u16) -> Option<Ask>
         requires { set < length self.now.script.sets }
         ensures { result ≡ pending_ask ((state_of self.now).set set) client }
     {
@@ -27,7 +27,7 @@ impl Node {
     }
 
     /// The client's unanswered ask, if it has one, and its set: the first one, if it has more.
-    pub fn ask_of(&self, client: u16) -> Option<(u8, Ask)>
+    pub fn ask_of(&self, client: u16) -> Option<(u32, Ask)>
         ensures ask { result ≡ first_ask self.now.script (state_of self.now) client }
         ensures some { is_some result ≡ node_waits self.now.script (state_of self.now) client }
     {
@@ -35,7 +35,7 @@ impl Node {
     }
 
     // The client's unanswered ask in the first set that has one.
-    fn search_ask(&self, client: u16) -> Option<(u8, Ask)>
+    fn search_ask(&self, client: u16) -> Option<(u32, Ask)>
         ensures { result ≡ first_ask self.now.script (state_of self.now) client }
     {
         for set in 0..self.script.kept().sets() {
@@ -47,7 +47,7 @@ impl Node {
     }
 
     /// Whether in the queue of the set's desk here an ask of the other client stands before one of the client.
-    pub fn stands_before(&self, set: u8, other: u16, client: u16) -> bool
+    pub fn stands_before(&self, set: u32, other: u16, client: u16) -> bool
         requires { set < length self.now.script.sets }
         ensures { result ≡ stands_before ((state_of self.now).set set) other client }
     {
@@ -55,7 +55,7 @@ impl Node {
     }
 
     /// Whether an ask of the client for the set is parked here behind an older one of the other client.
-    pub fn parked_behind(&self, set: u8, other: u16, client: u16) -> bool
+    pub fn parked_behind(&self, set: u32, other: u16, client: u16) -> bool
         requires { set < length self.now.script.sets }
         ensures { result ≡ parked_behind ((state_of self.now).set set) other client }
     {
@@ -63,10 +63,10 @@ impl Node {
     }
 
     // What the node keeps for the set.
-    pub(crate) fn core(&self, set: u8) -> &Core
+    pub(crate) fn core(&self, set: u32) -> &Core
         requires { set < length self.now.script.sets }
-        ensures { result.now ≡ core_at self.now set }
+        ensures { result.now.state ≡ (state_of self.now).set set }
     {
-        &self.cores[usize::from(set)]
+        self.sets.core(set)
     }
 }
