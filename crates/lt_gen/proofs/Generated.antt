@@ -286,6 +286,7 @@ is_script nodes clients commands seed possible =
     }
 
 pub is_short : (nodes clients commands seed : ℕ) → IsTrue (can_make nodes clients commands) → IsShort (script_of nodes clients commands seed)
-is_short nodes clients commands seed possible =
-    let can = sizes_of nodes clients commands possible in
-    omega (arith, all_of_them clients commands seed, can.few_commands)
+is_short nodes clients commands seed possible = record {
+  sets = omega arith;
+  commands = omega (arith, all_of_them clients commands seed, (sizes_of nodes clients commands possible).few_commands);
+}

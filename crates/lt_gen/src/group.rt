@@ -14,12 +14,12 @@ pub const SETS: u32 = 4;
 pub enum Group {
     /// One command alone, where no more is left.
     Last,
-    Lock { set: u8, mode: Mode },
-    Try { set: u8, mode: Mode },
+    Lock { set: u32, mode: Mode },
+    Try { set: u32, mode: Mode },
     /// An upgrade lock that is given up as it is.
-    Upgrade { set: u8 },
+    Upgrade { set: u32 },
     /// An upgrade lock that is changed to write.
-    Change { set: u8 },
+    Change { set: u32 },
 }
 
 impl Group {
@@ -33,7 +33,7 @@ impl Group {
         if left == 1 {
             return Group::Last;
         }
-        let set = draws.draw(SETS) as u8;
+        let set = draws.draw(SETS);
         match draws.draw(4) {
             0 | 1 => Group::Lock {
                 set,

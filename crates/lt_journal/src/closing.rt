@@ -12,7 +12,8 @@ use lt_tally::{Holding, Tally, tally_of};
 use std::alloc::{AllocError, Global};
 
 /// The lines after the moves of a run that came to rest: the locks held, the clients that wait, the owners, and the
-/// number of moves. The time that it takes is linear in the run's events and in the clients of the script.
+/// number of moves. The time that it takes is linear in the run's events, and in the number of clients times that of
+/// sets.
 pub fn closing_lines(alloc: Global, script: &Script, run: &Run) -> Result<Vec<Line>, AllocError>
     ensures { IfOk result (λ lines. lines.items ≡ closing_lines script.now run.now.entries None) }
 {
@@ -75,7 +76,7 @@ fn held_in_set(
     script: &Script,
     tally: &Tally,
     client: u16,
-    set: u8,
+    set: u32,
 ) -> Result<(), AllocError>
     requires client { client < length script.now.clients }
     requires set { set < length script.now.sets }
@@ -147,7 +148,7 @@ fn owner_lines(lines: &mut Vec<Line>, script: &Script, tally: &Tally) -> Result<
 }
 
 // Adds the line of the set's owner.
-fn owner_line(lines: &mut Vec<Line>, set: u8, owner: Link) -> Result<(), AllocError>
+fn owner_line(lines: &mut Vec<Line>, set: u32, owner: Link) -> Result<(), AllocError>
     ensures { OnOk result (lines.new.items ≡ lines.old.items ++ owner_line set owner) }
 {
     push_line(

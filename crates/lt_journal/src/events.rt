@@ -102,7 +102,7 @@ pub fn lock(
     script: &Script,
     first: &[u8],
     client: u16,
-    set: u8,
+    set: u32,
     mode: Mode,
 ) -> Result<(), AllocError>
     ensures { OnOk result (text.new ≡ text.old ++ spaced (lock_words script.now first.now client set mode)) }
@@ -120,7 +120,7 @@ fn drop_words(
     first: &str,
     client: u16,
     other: u16,
-    set: u8,
+    set: u32,
 ) -> Result<(), AllocError>
     ensures { OnOk result (text.new ≡ text.old ++ spaced (drop_words script.now first.now client other set)) }
 {
@@ -131,7 +131,7 @@ fn drop_words(
 }
 
 // Writes the words that say which letter goes to which node.
-fn letter(text: &mut Text, script: &Script, first: &str, set: u8, to: u8) -> Result<(), AllocError>
+fn letter(text: &mut Text, script: &Script, first: &str, set: u32, to: u8) -> Result<(), AllocError>
     ensures { OnOk result (text.new ≡ text.old ++ spaced (letter_words script.now first.now set to)) }
 {
     text.first_word(first)?;

@@ -20,7 +20,8 @@ use std::alloc::{AllocError, Global};
 const ROOM: usize = 48;
 
 /// The text of a run: for each move its line and the lines of its events, and then the lines of a run at
-/// rest, or those of a run that was cut at this node. The time that it takes is linear in the text.
+/// rest, or those of a run that was cut at this node. The time that it takes is linear in the text, and in the number of
+/// clients times that of sets.
 pub fn write(
     alloc: Global,
     script: &Script,

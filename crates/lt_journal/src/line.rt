@@ -19,19 +19,19 @@ pub enum Line {
     /// How many locks of a mode a client holds in a set at rest.
     Held {
         client: u16,
-        set: u8,
+        set: u32,
         mode: Mode,
         count: u64,
     },
     /// What a client waits for at rest.
     Waiting {
         client: u16,
-        set: u8,
+        set: u32,
         mode: Mode,
     },
     /// Where the set's token went last, with the epoch of that move.
     Owner {
-        set: u8,
+        set: u32,
         node: u8,
         epoch: u64,
     },

@@ -4,7 +4,7 @@ ghost use Rattle.lt_modes.specs.Script.{set_name, client_name};
 use lt_script::Script;
 
 /// The name of the set with this number, or the empty name where the script has no such set.
-pub fn set_name(script: &Script, set: u8) -> &[u8]
+pub fn set_name(script: &Script, set: u32) -> &[u8]
     ensures { result.now ≡ set_name script.now set }
 {
     if set < script.sets() {

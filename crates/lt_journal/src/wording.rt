@@ -28,14 +28,14 @@ pub(crate) struct ClientWord {
 // A set, and its name with the space before it, where that is short.
 #[derive(Debug, Drop)]
 pub(crate) struct SetWord {
-    set: u8,
+    set: u32,
     word: Option<Padded>,
 }
 
 // A set and a mode, and their words with the spaces before them, where these are short.
 #[derive(Debug, Drop)]
 pub(crate) struct LockWords {
-    set: u8,
+    set: u32,
     mode: Mode,
     words: Option<Padded>,
 }
@@ -116,7 +116,7 @@ impl Wording {
 
     /// Writes the set's name as a later word of a line.
     #[inline(always)]
-    pub(crate) fn set(&self, text: &mut Text, set: u8) -> Result<(), AllocError>
+    pub(crate) fn set(&self, text: &mut Text, set: u32) -> Result<(), AllocError>
         ensures { OnOk result (text.new ≡ text.old ++ after_space (set_name self.now set)) }
     {
         match self.word_of_set(set) {
@@ -132,7 +132,7 @@ impl Wording {
         text: &mut Text,
         first: &[u8],
         client: u16,
-        set: u8,
+        set: u32,
         mode: Mode,
     ) -> Result<(), AllocError>
         requires { length first.now ≤ 8 }
@@ -152,7 +152,7 @@ impl Wording {
     pub(crate) fn token_line(
         &self,
         text: &mut Text,
-        set: u8,
+        set: u32,
         to: u8,
         epoch: u64,
     ) -> Result<(), AllocError>
@@ -185,10 +185,10 @@ impl Wording {
 
     // The set's word, if it is kept.
     #[inline(always)]
-    fn word_of_set(&self, set: u8) -> Option<&Padded>
+    fn word_of_set(&self, set: u32) -> Option<&Padded>
         ensures { IfSome result (λ word. word.now ≡ after_space (set_name self.now set)) }
     {
-        let place = usize::from(set);
+        let place = set as usize;
         if place >= self.sets.len() {
             return None;
         }
@@ -201,10 +201,10 @@ impl Wording {
 
     // The words of the set and the mode, if they are kept.
     #[inline(always)]
-    fn words_of_lock(&self, set: u8, mode: Mode) -> Option<&Padded>
+    fn words_of_lock(&self, set: u32, mode: Mode) -> Option<&Padded>
         ensures { IfSome result (λ words. words.now ≡ after_space (set_name self.now set) ++ after_space (word_of mode)) }
     {
-        let place = usize::from(set) * MODES.len() + place(mode);
+        let place = set as usize * MODES.len() + place(mode);
         if place >= self.locks.len() {
             return None;
         }
@@ -262,7 +262,7 @@ fn push_set(
     alloc: Global,
     locks: &mut Vec<LockWords>,
     script: &Script,
-    set: u8,
+    set: u32,
 ) -> Result<(), AllocError>
     requires { AreLockWords script.now locks.old.items }
     ensures { OnOk result (AreLockWords script.now locks.new.items) }
