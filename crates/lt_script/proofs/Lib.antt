@@ -1,7 +1,7 @@
 pub mod ScriptLemmas
 pub mod PartsLemmas
 pub mod NameLemmas
-pub mod HintLemmas
+pub mod IndexLemmas
 pub mod FirstLineEnd
 pub mod OneModeLemmas
 pub mod FaultOrder

@@ -50,7 +50,7 @@ module _ {X : Type 0} (p : X → Bool) where
   pub found_stays : (xs ys : List X) (k : ℕ) → position p xs ≡ Some k → position p (xs ++ ys) ≡ Some k
   found_stays xs ys k e = position_from-zero p (xs ++ ys) ∙ from_stays xs ys 0 k (sym (position_from-zero p xs) ∙ e)
 
-  found_inside : (xs : List X) (k : ℕ) → position p xs ≡ Some k → k < length xs
+  pub found_inside : (xs : List X) (k : ℕ) → position p xs ≡ Some k → k < length xs
   found_inside xs k e = let b = from_bounds xs 0 k (sym (position_from-zero p xs) ∙ e) in omega (arith, b.1)
 
   -- what is found in front is found in the front

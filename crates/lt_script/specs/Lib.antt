@@ -5,5 +5,5 @@ pub mod Faults
 pub mod Reading
 pub mod Steps
 pub mod Printing
-pub mod Hints
+pub mod Index
 pub mod OneMode

@@ -1,13 +1,14 @@
-ghost use Rattle.std.specs.Prelude.{◌≡◌, IfOk};
-ghost use Rattle.std.specs.Str.{bytes_eq};
+ghost use Rattle.std.specs.Prelude.{◌≡◌, ◌≤◌, length};
+ghost use Rattle.lt_spec.specs.declared.limits.TheConstants.{MAX_NAME};
 
-use std::alloc::{AllocError, Global};
+use crate::index::Named;
+use crate::name::Name;
 use std::marker::Model;
 
 /// A lock set as a script declares it.
 #[derive(Debug, Drop)]
 pub struct SetDecl {
-    name: Vec<u8>,
+    name: Name,
     family: u32,
 }
 
@@ -16,29 +17,33 @@ impl Model for SetDecl {
 
     ghost Value = { SetData };
 
-    ghost view = { λ d. record { name = d.name.items; family = d.family } };
+    ghost view = { λ d. record { name = d.name; family = d.family } };
 }
 
-impl Clone for SetDecl {
-    ghost is_clone = { λ d copy. copy ≡ d };
+impl Named for SetDecl {
+    ghost name_of = { λ x. x.name };
 
-    fn clone(&self) -> Result<SetDecl, AllocError> {
-        SetDecl::new(*self.name.allocator(), &self.name, self.family)
+    fn name(&self) -> &[u8] {
+        self.name.bytes()
+    }
+
+    fn copy(&self) -> SetDecl {
+        SetDecl {
+            name: self.name.copy(),
+            family: self.family,
+        }
     }
 }
 
 impl SetDecl {
-    pub fn new(alloc: Global, name: &[u8], family: u32) -> Result<SetDecl, AllocError>
-        ensures { IfOk result (λ d. d ≡ record { name = name.now; family = family }) }
+    pub fn new(name: &[u8], family: u32) -> SetDecl
+        requires { length name.now ≤ MAX_NAME }
+        ensures { result ≡ record { name = name.now; family = family } }
     {
-        let name = Vec::from_slice(alloc, name)?;
-        Ok(SetDecl { name, family })
-    }
-
-    pub fn name(&self) -> &[u8]
-        ensures { result.now ≡ self.now.name }
-    {
-        &self.name
+        SetDecl {
+            name: Name::of(name),
+            family,
+        }
     }
 
     /// The number of the first set of the set's family.
@@ -47,18 +52,12 @@ impl SetDecl {
     {
         self.family
     }
-
-    pub fn is_named(&self, name: &[u8]) -> bool
-        ensures { result ≡ bytes_eq self.now.name name.now }
-    {
-        self.name.as_slice() == name
-    }
 }
 
 /// A client as a script declares it.
 #[derive(Debug, Drop)]
 pub struct ClientDecl {
-    name: Vec<u8>,
+    name: Name,
     node: u8,
 }
 
@@ -67,40 +66,38 @@ impl Model for ClientDecl {
 
     ghost Value = { ClientData };
 
-    ghost view = { λ d. record { name = d.name.items; node = d.node } };
+    ghost view = { λ d. record { name = d.name; node = d.node } };
 }
 
-impl Clone for ClientDecl {
-    ghost is_clone = { λ d copy. copy ≡ d };
+impl Named for ClientDecl {
+    ghost name_of = { λ x. x.name };
 
-    fn clone(&self) -> Result<ClientDecl, AllocError> {
-        ClientDecl::new(*self.name.allocator(), &self.name, self.node)
+    fn name(&self) -> &[u8] {
+        self.name.bytes()
+    }
+
+    fn copy(&self) -> ClientDecl {
+        ClientDecl {
+            name: self.name.copy(),
+            node: self.node,
+        }
     }
 }
 
 impl ClientDecl {
-    pub fn new(alloc: Global, name: &[u8], node: u8) -> Result<ClientDecl, AllocError>
-        ensures { IfOk result (λ d. d ≡ record { name = name.now; node = node }) }
+    pub fn new(name: &[u8], node: u8) -> ClientDecl
+        requires { length name.now ≤ MAX_NAME }
+        ensures { result ≡ record { name = name.now; node = node } }
     {
-        let name = Vec::from_slice(alloc, name)?;
-        Ok(ClientDecl { name, node })
-    }
-
-    pub fn name(&self) -> &[u8]
-        ensures { result.now ≡ self.now.name }
-    {
-        &self.name
+        ClientDecl {
+            name: Name::of(name),
+            node,
+        }
     }
 
     pub fn node(&self) -> u8
         ensures { result ≡ self.now.node }
     {
         self.node
-    }
-
-    pub fn is_named(&self, name: &[u8]) -> bool
-        ensures { result ≡ bytes_eq self.now.name name.now }
-    {
-        self.name.as_slice() == name
     }
 }

@@ -5,7 +5,7 @@ mod cutting;
 mod declarations;
 mod fault;
 mod form;
-mod hints;
+mod index;
 mod later_lines;
 mod laws;
 mod limits;

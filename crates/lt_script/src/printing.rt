@@ -7,6 +7,7 @@ ghost use Rattle.lt_script.specs.Reading.{read_of};
 ghost use Rattle.lt_script.specs.Printing.{print_of, ended_line, version_words, nodes_words, set_words, client_words, asked_words, command_words};
 
 use crate::declarations::{ClientDecl, SetDecl};
+use crate::index::Named;
 use crate::script::Script;
 use lt_modes::{Command, Mode};
 use lt_text::push_number;

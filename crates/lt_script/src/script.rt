@@ -8,7 +8,8 @@ mod naming;
 mod parts;
 
 use crate::declarations::{ClientDecl, SetDecl};
-use crate::script::parts::Parts;
+use crate::index::Named;
+use crate::script::parts::{Parts, room_for_commands};
 use lt_modes::Command;
 use std::alloc::{AllocError, Global};
 use std::marker::Model;
@@ -17,12 +18,14 @@ use std::sync::Arc;
 /// The nodes, lock sets and clients of a run, and the commands that the clients make.
 ///
 /// Sets and clients have numbers from 0, as they are declared. A client's commands are its own among all, in order.
-/// A copy shares its parts with the script that it was made of, until something is added to one of the two.
+/// A copy shares its declarations and its commands with the script that it was made of, each until one of the two adds
+/// to them.
 #[derive(Debug, Drop)]
 pub struct Script {
     version: u8,
     nodes: u8,
     parts: Arc<Parts>,
+    commands: Arc<Vec<(u16, Command)>>,
 }
 
 impl Model for Script {
@@ -30,11 +33,12 @@ impl Model for Script {
 
     ghost Value = { ScriptData };
 
-    ghost use Rattle.lt_script.specs.Views.{script_data, noted_places, IsNotedScript};
+    ghost use Rattle.lt_spec.specs.Script.{IsScript};
+    ghost use Rattle.lt_script.specs.Views.{script_data};
 
     ghost view = { script_data };
 
-    ghost invariant = { λ s. IsNotedScript (script_data s) (noted_places s) };
+    ghost invariant = { λ s. IsScript (script_data s) };
 }
 
 impl Script {
@@ -66,11 +70,14 @@ impl Script {
         ensures { IfOk result
             (λ s. s ≡ record { version = version; nodes = nodes; sets = []; clients = []; commands = [] }) }
     {
-        let parts = Arc::new(alloc, Parts::new(alloc))?;
+        let parts = Parts::new(alloc)?;
+        let parts = Arc::new(alloc, parts)?;
+        let commands = Arc::new(alloc, room_for_commands(alloc))?;
         Ok(Script {
             version,
             nodes,
             parts,
+            commands,
         })
     }
 
@@ -79,10 +86,12 @@ impl Script {
         ensures { IfOk result (λ s. s ≡ self.now) }
     {
         let parts = Arc::try_clone(&self.parts)?;
+        let commands = Arc::try_clone(&self.commands)?;
         Ok(Script {
             version: self.version,
             nodes: self.nodes,
             parts,
+            commands,
         })
     }
 
@@ -90,12 +99,13 @@ impl Script {
     pub fn without_commands(&self, alloc: Global) -> Result<Script, AllocError>
         ensures { IfOk result (λ s. s ≡ record self.now { commands = [] }) }
     {
-        let parts = self.parts.without_commands(alloc)?;
-        let parts = Arc::new(alloc, parts)?;
+        let parts = Arc::try_clone(&self.parts)?;
+        let commands = Arc::new(alloc, Vec::new(alloc))?;
         Ok(Script {
             version: self.version,
             nodes: self.nodes,
             parts,
+            commands,
         })
     }
 
@@ -119,7 +129,7 @@ impl Script {
     pub fn sets(&self) -> u32
         ensures { result ≡ length self.now.sets }
     {
-        self.parts.sets.len() as u32
+        self.parts.sets.items().len() as u32
     }
 
     /// The number of clients.
@@ -127,21 +137,21 @@ impl Script {
         ensures clients { result ≡ length self.now.clients }
         ensures kept { IsScript self.now }
     {
-        self.parts.clients.len() as u16
+        self.parts.clients.items().len() as u16
     }
 
     /// The number of commands.
     pub fn commands(&self) -> u64
         ensures { result ≡ length self.now.commands }
     {
-        self.parts.commands.len() as u64
+        self.commands.len() as u64
     }
 
     pub fn set_name(&self, set: u32) -> &[u8]
         requires { set < length self.now.sets }
         ensures { result.now ≡ set_name self.now set }
     {
-        self.parts.sets[set as usize].name()
+        self.parts.sets.items()[set as usize].name()
     }
 
     /// The number of the first set of the set's family.
@@ -151,14 +161,14 @@ impl Script {
         ensures earlier { result ≤ set }
         ensures first { family_at self.now.sets result ≡ result }
     {
-        self.parts.sets[set as usize].family()
+        self.parts.sets.items()[set as usize].family()
     }
 
     pub fn client_name(&self, client: u16) -> &[u8]
         requires { client < length self.now.clients }
         ensures { result.now ≡ client_name self.now client }
     {
-        self.parts.clients[usize::from(client)].name()
+        self.parts.clients.items()[usize::from(client)].name()
     }
 
     /// The client's node.
@@ -166,7 +176,7 @@ impl Script {
         requires { client < length self.now.clients }
         ensures { result ≡ home_at self.now.clients client }
     {
-        self.parts.clients[usize::from(client)].node()
+        self.parts.clients.items()[usize::from(client)].node()
     }
 
     /// A command by its place among all commands, with the client that makes it.
@@ -174,7 +184,7 @@ impl Script {
         requires { place < length self.now.commands }
         ensures { slice_get self.now.commands place ≡ Some result }
     {
-        self.parts.commands[place as usize]
+        self.commands[place as usize]
     }
 
     /// All commands in order, each with the client that makes it.
@@ -182,7 +192,7 @@ impl Script {
         ensures requests { result.now ≡ self.now.commands }
         ensures kept { IsScript self.now }
     {
-        &self.parts.commands
+        &self.commands
     }
 
     /// The sets in order.
@@ -190,21 +200,21 @@ impl Script {
         ensures sets { result.now ≡ self.now.sets }
         ensures kept { IsScript self.now }
     {
-        &self.parts.sets
+        self.parts.sets.items()
     }
 
     /// The clients in order.
     pub(crate) fn client_declarations(&self) -> &[ClientDecl]
         ensures { result.now ≡ self.now.clients }
     {
-        &self.parts.clients
+        self.parts.clients.items()
     }
 
     /// The number of clients on the node.
     pub fn load(&self, node: u8) -> u16
         ensures { result ≡ load_of self.now.clients node }
     {
-        load_of(&self.parts.clients, node) as u16
+        load_of(self.parts.clients.items(), node) as u16
     }
 }
 

@@ -1,26 +1,35 @@
-// What is added to a script: a last set, client or command. A script that shares its parts with a copy gets parts of its
-// own first.
+// What is added to a script: a last set, client or command. What a script shares with a copy it gets for its own first.
 ghost use Rattle.std.specs.Prelude.{◌≡◌, ◌<◌, ◌++◌, ◌∷◌, [], true, false, length, OnOk, OnErr, IfOk};
 ghost use Rattle.lt_spec.specs.Script.{is_name, IsFamilyOfNext, IsRequest, HasModesOf, most_clients, load_of, is_declared};
 ghost use Rattle.std.specs.Arc.{arc_value};
-ghost use Rattle.lt_script.specs.Views.{SayTheSame};
 ghost use Rattle.lt_spec.specs.declared.limits.TheConstants.{MAX_SETS_OF_SERVICE, MAX_CLIENTS_OF_NODE, MAX_COMMANDS_OF_SERVICE};
 
 use crate::declarations::{ClientDecl, SetDecl};
 use crate::script::Script;
-use crate::script::parts::Parts;
 use lt_modes::Command;
 use std::alloc::AllocError;
 use std::sync::Arc;
 
 impl Script {
-    // Gives the script parts of its own, where copies share them.
-    #[inline(always)]
-    fn part(&mut self) -> Result<(), AllocError>
+    // Gives the script declarations of its own, where copies share them.
+    fn own_parts(&mut self) -> Result<(), AllocError>
         ensures { self.new ≡ self.old }
     {
         if Arc::strong_count(&self.parts) > 1 {
-            self.parts = copied(&self.parts)?;
+            let alloc = *self.commands.allocator();
+            let parts = self.parts.copy(alloc)?;
+            self.parts = Arc::new(alloc, parts)?;
+        }
+        Ok(())
+    }
+
+    // Gives the script commands of its own, where copies share them.
+    #[inline(always)]
+    fn own_commands(&mut self) -> Result<(), AllocError>
+        ensures { self.new ≡ self.old }
+    {
+        if Arc::strong_count(&self.commands) > 1 {
+            self.commands = copied(&self.commands)?;
         }
         Ok(())
     }
@@ -36,14 +45,11 @@ impl Script {
         }) }
         ensures unchanged { OnErr result (self.new ≡ self.old) }
     {
-        let set = SetDecl::new(*self.parts.sets.allocator(), name, family)?;
-        self.part()?;
+        self.own_parts()?;
         let Some(parts) = Arc::get_mut(&mut self.parts) else {
             return Err(AllocError);
         };
-        let place = parts.sets.len() as u8;
-        parts.sets.push(set)?;
-        parts.set_hints.note(name, place);
+        parts.sets.push(SetDecl::new(name, family))?;
         Ok(())
     }
 
@@ -59,14 +65,11 @@ impl Script {
         }) }
         ensures unchanged { OnErr result (self.new ≡ self.old) }
     {
-        let client = ClientDecl::new(*self.parts.clients.allocator(), name, node)?;
-        self.part()?;
+        self.own_parts()?;
         let Some(parts) = Arc::get_mut(&mut self.parts) else {
             return Err(AllocError);
         };
-        let place = parts.clients.len() as u8;
-        parts.clients.push(client)?;
-        parts.client_hints.note(name, place);
+        parts.clients.push(ClientDecl::new(name, node))?;
         Ok(())
     }
 
@@ -80,23 +83,23 @@ impl Script {
             (self.new ≡ record self.old { commands = self.old.commands ++ (client, command) ∷ [] }) }
         ensures unchanged { OnErr result (self.new ≡ self.old) }
     {
-        self.part()?;
-        let Some(parts) = Arc::get_mut(&mut self.parts) else {
+        self.own_commands()?;
+        let Some(commands) = Arc::get_mut(&mut self.commands) else {
             return Err(AllocError);
         };
-        parts.commands.push((client, command))?;
+        commands.push((client, command))?;
         Ok(())
     }
 }
 
-// A copy of the parts. It is rarely made, and its code stays out of that which adds to a script.
+// A copy of the commands. It is rarely made, and its code stays out of that which adds a command.
 #[cold]
 #[inline(never)]
-fn copied(parts: &Arc<Parts>) -> Result<Arc<Parts>, AllocError>
-    ensures { IfOk result (λ copy. SayTheSame (arc_value parts.now) (arc_value copy)) }
+fn copied(commands: &Arc<Vec<(u16, Command)>>) -> Result<Arc<Vec<(u16, Command)>>, AllocError>
+    ensures { IfOk result (λ copy. (arc_value copy).items ≡ (arc_value commands.now).items) }
 {
-    let alloc = *parts.commands.allocator();
-    let copy = Parts::clone(parts)?;
+    let alloc = *commands.allocator();
+    let copy = Vec::from_slice(alloc, commands)?;
     let copy = Arc::new(alloc, copy)?;
     Ok(copy)
 }

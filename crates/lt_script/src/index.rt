@@ -1,0 +1,123 @@
+ghost use Rattle.std.specs.Prelude.{◌≡◌, ◌<◌, ◌^◌, ◌++◌, ◌∷◌, [], ℕ, None, List, length, position, IfOk, IfSome, OnOk, OnErr};
+ghost use Rattle.std.specs.Str.{bytes_eq};
+
+mod chains;
+
+use crate::index::chains::{copied, linked, place_of, spot};
+use std::alloc::{AllocError, Global};
+use std::marker::Model;
+
+/// What has a name.
+pub(crate) trait Named: Drop {
+    ghost name_of: { Self → List ℕ };
+
+    fn name(&self) -> &[u8]
+        ensures { result.now ≡ name_of self.now };
+
+    /// The same once more.
+    fn copy(&self) -> Self
+        ensures { result ≡ self.now };
+}
+
+// How many spots there are at first.
+const SPOTS: usize = 512;
+
+/// Items that are found by their names, which are all apart.
+///
+/// Each name has one of the spots, of which there are no fewer than items. The items of a spot are chained: the spot
+/// knows the last of them, and each of them the one before it. So a look-up compares a name or two.
+#[derive(Debug, Drop)]
+pub(crate) struct Index<T: Named> {
+    items: Vec<T>,
+    // For each spot one more than the place of its last item; 0 where it has none.
+    lasts: Vec<u32>,
+    // For each item the same of the items before it that have its spot.
+    befores: Vec<u32>,
+}
+
+impl<T: Named> Model for Index<T> {
+    ghost use Rattle.std.specs.Prelude.{List};
+
+    ghost Value = { List T };
+
+    ghost use Rattle.lt_script.specs.Index.{IsIndex};
+
+    ghost view = { λ x. x.items.items };
+
+    ghost invariant = { λ x. IsIndex T.name_of x.items.items x.lasts.items x.befores.items };
+}
+
+impl<T: Named> Index<T> {
+    /// No items.
+    pub(crate) fn new(alloc: Global) -> Result<Index<T>, AllocError>
+        ensures { IfOk result (λ x. x ≡ []) }
+    {
+        Ok(Index {
+            items: Vec::new(alloc),
+            lasts: vec![in alloc; 0; SPOTS]?,
+            befores: Vec::new(alloc),
+        })
+    }
+
+    /// The same items once more.
+    pub(crate) fn copy(&self, alloc: Global) -> Result<Index<T>, AllocError>
+        ensures { IfOk result (λ x. x ≡ self.now) }
+    {
+        Ok(Index {
+            items: copied(alloc, &self.items)?,
+            lasts: Vec::from_slice(alloc, &self.lasts)?,
+            befores: Vec::from_slice(alloc, &self.befores)?,
+        })
+    }
+
+    /// The items in order.
+    pub(crate) fn items(&self) -> &[T]
+        ensures { result.now ≡ self.now }
+    {
+        &self.items
+    }
+
+    /// The place of the item with this name.
+    #[inline(always)]
+    pub(crate) fn place(&self, name: &[u8]) -> Option<u32>
+        ensures place { result ≡ position (λ x. bytes_eq (T.name_of x) name.now) self.now }
+        ensures inside { IfSome result (λ place. place < length self.now) }
+    {
+        place_of(&self.items, &self.lasts, &self.befores, name)
+    }
+
+    /// Adds a last item.
+    pub(crate) fn push(&mut self, item: T) -> Result<(), AllocError>
+        requires new { position (λ x. bytes_eq (T.name_of x) (T.name_of item)) self.old ≡ None }
+        requires few { length self.old < 2 ^ 31 }
+        ensures pushed { OnOk result (self.new ≡ self.old ++ item ∷ []) }
+        ensures unchanged { OnErr result (self.new ≡ self.old) }
+    {
+        self.grow()?;
+        let place = self.items.len();
+        let spot = spot(item.name(), self.lasts.len());
+        self.items.reserve(1)?;
+        self.befores.push(self.lasts[spot])?;
+        match self.items.push(item) {
+            Ok(()) => {}
+            Err(_) => unreachable!(),
+        }
+        self.lasts[spot] = place as u32 + 1;
+        Ok(())
+    }
+
+    // Makes twice as many spots, where there are as many items as spots.
+    fn grow(&mut self) -> Result<(), AllocError>
+        requires { length self.old < 2 ^ 31 }
+        ensures { self.new ≡ self.old }
+    {
+        if self.items.len() < self.lasts.len() {
+            return Ok(());
+        }
+        let alloc = *self.items.allocator();
+        let mut lasts = vec![in alloc; 0; 2 * self.items.len()]?;
+        linked(&self.items, &mut lasts, &mut self.befores);
+        self.lasts = lasts;
+        Ok(())
+    }
+}

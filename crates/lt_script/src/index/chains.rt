@@ -1,0 +1,80 @@
+// How the items of an index are chained by the spots of their names.
+ghost use Rattle.std.specs.Prelude.{◌≡◌, ◌<◌, ◌≤◌, ◌^◌, length, position, replicate, IfOk, IfSome};
+ghost use Rattle.std.specs.Str.{bytes_eq};
+ghost use Rattle.lt_script.specs.Index.{hash_of, spot_of, spot_at, AreLinked, IsIndex};
+
+use crate::index::Named;
+use std::alloc::{AllocError, Global};
+
+/// The spot of the name.
+#[inline(always)]
+#[tactic(auto, using(crate::proofs::IndexLemmas::spot_inside))]
+pub(super) fn spot(name: &[u8], spots: usize) -> usize
+    requires { 0 < spots }
+    ensures spot { result ≡ spot_of spots name.now }
+    ensures inside { result < spots }
+{
+    hash(name) as usize & (spots - 1)
+}
+
+// By the factor 21 the numbers from 0 to 255 behind common words have nearly all a spot of their own.
+#[inline(always)]
+#[tactic(auto, unfolding(crate::specs::Index::hash_of))]
+fn hash(name: &[u8]) -> u32
+    ensures { result ≡ hash_of name.now }
+{
+    name.iter().fold(0, |hash: u32, byte| {
+        hash.wrapping_mul(21).wrapping_add(u32::from(*byte))
+    })
+}
+
+/// The place of the item with this name.
+#[inline(always)]
+pub(super) fn place_of<T: Named>(
+    items: &[T],
+    lasts: &[u32],
+    befores: &[u32],
+    name: &[u8],
+) -> Option<u32>
+    requires { IsIndex T.name_of items.now lasts.now befores.now }
+    ensures place { result ≡ position (λ x. bytes_eq (T.name_of x) name.now) items.now }
+    ensures inside { IfSome result (λ place. place < length items.now) }
+{
+    let mut link = lasts[spot(name, lasts.len())];
+    while link > 0 {
+        let place = link - 1;
+        if items[place as usize].name() == name {
+            return Some(place);
+        }
+        link = befores[place as usize];
+    }
+    None
+}
+
+/// Chains the items anew, by as many spots as `lasts` has, which none of them has yet.
+pub(super) fn linked<T: Named>(items: &[T], lasts: &mut [u32], befores: &mut [u32])
+    requires some { 0 < length lasts.old }
+    requires none { lasts.old ≡ replicate (length lasts.old) 0 }
+    requires same { length befores.old ≡ length items.now }
+    requires few { length items.now < 2 ^ 31 }
+    ensures linked { AreLinked (spot_at T.name_of items.now (length lasts.new)) (length items.now) lasts.new befores.new }
+    ensures spots { length lasts.new ≡ length lasts.old }
+    ensures count { length befores.new ≡ length befores.old }
+{
+    for place in 0..items.len() {
+        let spot = spot(items[place].name(), lasts.len());
+        befores[place] = lasts[spot];
+        lasts[spot] = place as u32 + 1;
+    }
+}
+
+/// The items once more.
+pub(super) fn copied<T: Named>(alloc: Global, items: &[T]) -> Result<Vec<T>, AllocError>
+    ensures { IfOk result (λ copy. copy.items ≡ items.now) }
+{
+    let mut copy = Vec::with_capacity(alloc, items.len())?;
+    for item in items {
+        copy.push(item.copy())?;
+    }
+    Ok(copy)
+}
