@@ -68,6 +68,10 @@ pub least_can : (script : ScriptData) (me : ℕ) (n : NodeState) (o : Option ℕ
 least_can script me n None none = tt
 least_can script me n (Some client) least = acts script me n client least.0 ∙ least.1
 
+-- so can the first client that is found
+pub first_can : (script : ScriptData) (me : ℕ) (n : NodeState) (client : ℕ) → first_client script me n ≡ Some client → IsTrue (can_act script me n client)
+first_can script me n client e = least_passes (length script.clients) (can_act script me n) client e
+
 -- what a client that can act may do
 pub record IsRunnable (script : ScriptData) (me : ℕ) (n : NodeState) (client : ℕ) : Type 0 where
   pub known : client < length script.clients
@@ -110,7 +114,7 @@ act_chosen script me n client e = by_client (first_client script me n) refl e
     by_may k was true t e =
         let parts = and_parts (has_time n) (leaves_room_to_act script n k) t in
         subst (λ (i : ℕ). ChoseAct script me n i) (same k client e)
-        (record { can = least_passes (length script.clients) (can_act script me n) k was; time = parts.0; room = parts.1 })
+        (record { can = first_can script me n k was; time = parts.0; room = parts.1 })
 
     by_client : (o : Option ℕ) → first_client script me n ≡ o → act_if script n o ≡ Act client → ChoseAct script me n client
     by_client None was e = absurd (cc)

@@ -1,6 +1,7 @@
 pub mod Each
 pub mod Whole
 pub mod Pairs
+pub mod SameChoice
 pub mod Shown
 pub mod Joined
 pub mod Logs

@@ -19,7 +19,8 @@ use Rattle.lt_runner.specs.Choices.{next_choice}
 use Rattle.lt_runner.proofs.KeptLemmas.{seen_join}
 use Rattle.lt_threads.specs.Meeting.{InCrew, EachIs, AreKept, IsCrew, crew_world, RunnersLinked, AreMet, AnyTwo, HaveFetched, IsLeastEnabled, EachShows, IsFirstMove, NoneShows, part_of, crew_run, run_entries, log_of, AreCrewLogs}
 use Rattle.lt_threads.proofs.Each.{each_before, each_join, each_len, each_weaker, links_last}
-use Rattle.lt_threads.proofs.Shown.{shows_is, same_before, part_here}
+use Rattle.lt_threads.proofs.SameChoice.{same_before}
+use Rattle.lt_threads.proofs.Shown.{shows_is, part_here}
 use Rattle.lt_threads.proofs.Joined.{joined}
 
 pub crew_linked : (script : ScriptData) (rs : List Parts) → IsCrew script rs → RunnersLinked rs

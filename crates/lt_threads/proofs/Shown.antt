@@ -1,72 +1,35 @@
--- What a node sees in scripts that differ in the commands of clients of other nodes alone.
-use Rattle.std.proofs.Common.{◌≡◌, ℕ, List, Option, Some, None, Bool, true, false, length, refl, sym, ap, subst, ◌∙◌, ◌≢◌, zero, suc, ◌<◌, inl, inr, [], ◌∷◌, ◌++◌, map, arith, ◌==◌, ◌&&◌, not, nat_lt, if◌then◌else◌, ◌⊎◌, ◌||◌, Contains, slice_get, eqb-true, eq-eqb, ne_eqb, lt-ltb, ltb-true, option_map}
-use Rattle.std.proofs.Math.Path.{fun_ext}
+-- Which runners show a move: those whose node can make one.
+use Rattle.std.proofs.Common.{◌≡◌, ℕ, List, Option, Some, None, Bool, true, false, length, refl, sym, ap, subst, ◌∙◌, ◌≢◌, zero, suc, ◌<◌, inl, inr, [], ◌∷◌, ◌++◌, map, arith, ◌==◌, ◌&&◌, not, nat_lt, if◌then◌else◌, ◌⊎◌, ◌||◌, IsTrue, Contains, slice_get, eq-eqb, ne_eqb, lt-ltb, ltb-true, option_map}
 use Rattle.std.proofs.lemmas.Bool.{cases_eq, and_from, and_parts, or_left, or_right}
 use Rattle.std.proofs.lemmas.Option.{slice_get-map}
-use Rattle.lt_modes.specs.declared.command.Command.{Command}
 use Rattle.lt_modes.specs.Script.{ScriptData}
+use Rattle.lt_modes.specs.Fits.{fits, numbers_of}
 use Rattle.lt_modes.specs.State.{Letter}
 use Rattle.lt_lists.specs.Below.{any_below}
 use Rattle.lt_lists.proofs.Members.{contains_first}
 use Rattle.lt_lists.proofs.Searches.{any_below_at}
-use Rattle.lt_spec.specs.NodeMove.{home, NodeState, node_waits, with_commands, SameAt}
+use Rattle.lt_spec.specs.NodeMove.{home, NodeState, node_waits, node_within}
 use Rattle.lt_spec.specs.FixedOrder.{can_act}
 use Rattle.lt_spec.specs.World.{is_some_letter, has_mail, can_move, is_waiting}
 use Rattle.lt_script.proofs.NameLemmas.{element_at}
 use Rattle.lt_law_plays.specs.Merged.{Part, Joined}
 use Rattle.lt_law_merged.specs.JoinedRun.{IsJoinedRun}
 use Rattle.lt_law_merged.specs.States.{FewMoves}
-use Rattle.lt_law_merged.proofs.PartLogs.{joined_merges, can_move_is_seen, states_within, asks_have_place, clocks_below, letters_left_fit}
+use Rattle.lt_law_merged.proofs.PartLogs.{joined_merges, can_move_is_seen, states_within, drops_are_within, asks_have_place, clocks_below, letters_left_fit}
 use Rattle.lt_desk.specs.LetterSeen.{letter_seen}
 use Rattle.lt_core.specs.declared.fits.TheConstants.{LAST_CLOCK}
 use Rattle.lt_node.specs.NodeData.{state_of}
+use Rattle.lt_node.proofs.TouchedLemmas.{room_to_act, room_to_take}
 use Rattle.lt_mail.specs.Words.{known_from, waiting_to}
-use Rattle.lt_runner.specs.declared.choice.Choice.TheVariants.{Nothing, Take}
+use Rattle.lt_runner.specs.declared.choice.Choice.TheVariants.{Nothing, Act, Take}
 use Rattle.lt_runner.specs.declared.parts.Hand.{Hand}
-use Rattle.lt_runner.specs.Choices.{least_below, may_act, may_take, act_of, act_choice, choice_by, or_this, may_move, next_choice}
+use Rattle.lt_runner.specs.Choices.{least_below, has_time, may_act, may_take, act_if, act_choice, choice_by, or_this, next_choice}
+use Rattle.lt_runner.proofs.ChoiceLemmas.{first_can, fitting_set}
 use Rattle.lt_runner.specs.declared.parts.Parts.{Parts}
 use Rattle.lt_runner.specs.Kept.{in_hand, IsFromPeer, HasFetched, is_move}
 use Rattle.lt_threads.specs.Meeting.{part_of, crew_run, crew_world, IsCrew, AreKept, AreMet, AnyTwo}
 use Rattle.lt_threads.proofs.Joined.{left_for, left_is, part_from, joined}
-
-pub same_itself : (k : ℕ) (script : ScriptData) → SameAt k script script
-same_itself k script = record { rest = refl; own = λ client at. refl }
-
--- where the first one is the same
-pub same_before : (k : ℕ) (a b script : ScriptData) → b ≡ a → SameAt k a script → SameAt k b script
-same_before k a b script e h = subst (λ (s : ScriptData). SameAt k s script) (sym e) h
-
-pub nodes_same : (k : ℕ) (a b : ScriptData) → SameAt k a b → a.nodes ≡ b.nodes
-nodes_same k a b h = sym (ap (λ (s : ScriptData). s.nodes) h.rest)
-
-pub waits_same : (k : ℕ) (a b : ScriptData) → SameAt k a b → (n : NodeState) (client : ℕ) → node_waits a n client ≡ node_waits b n client
-waits_same k a b h n client = sym (ap (λ (s : ScriptData). node_waits s n client) h.rest)
-
--- the same clients can act
-acts_same : (k : ℕ) (a b : ScriptData) → SameAt k a b → (n : NodeState) (client : ℕ) → can_act (with_commands a b.commands) k n client ≡ can_act a k n client
-acts_same k a b h n client = by_home (home a client == k) refl
-  where
-    acts : Bool → List Command → Bool
-    acts here commands = nat_lt client (length a.clients) && (here && (not (node_waits a n client) && nat_lt (n.made client) (length commands)))
-
-    by_home : (here : Bool) → (home a client == k) ≡ here → can_act (with_commands a b.commands) k n client ≡ can_act a k n client
-    by_home true e = ap (λ (commands : List Command). acts (home a client == k) commands) (h.own client (eqb-true (home a client) k e))
-    by_home false e = rw e refl
-
--- so the node shows the same move
-pub choice_same : (k : ℕ) (a b : ScriptData) → SameAt k a b → (n : NodeState) (hand : Option Hand) → choice_by a k n hand ≡ choice_by b k n hand
-choice_same k a b h n hand = sym (ap (λ (s : ScriptData). choice_by s k n hand) h.rest ∙ by_hand hand)
-  where
-    acting : act_choice (with_commands a b.commands) k n ≡ act_choice a k n
-    acting =
-        ap (λ (test : ℕ → Bool). if may_act a n then act_of (least_below (length a.clients) test) else Nothing)
-        (fun_ext (λ client. acts_same k a b h n client))
-
-    by_hand : (o : Option Hand) → choice_by (with_commands a b.commands) k n o ≡ choice_by a k n o
-    by_hand None = acting
-    by_hand (Some letter) = ap (λ choice. if may_take a k n (letter_seen letter.letter) then Take else choice) acting
-
--- Which runners show a move: those whose node can make one.
+use Rattle.lt_threads.proofs.SameChoice.{choice_same, nodes_same, waits_same}
 
 -- all that is known of runners that have met
 record CrewMet (script : ScriptData) (rs : List Parts) : Type 0 where
@@ -77,16 +40,6 @@ record CrewMet (script : ScriptData) (rs : List Parts) : Type 0 where
 none_below : (n : ℕ) (test : ℕ → Bool) → ((k : ℕ) → k < n → test k ≡ false) → any_below n test ≡ false
 none_below zero test h = refl
 none_below (suc n) test h = rw (none_below n test (λ k below. h k (omega (arith, below))), h n (omega arith)) refl
-
-some_below : (n : ℕ) (test : ℕ → Bool) → any_below n test ≡ true → (k : ℕ) × (k < n) × (test k ≡ true)
-some_below zero test h = cc
-some_below (suc n) test h = by_test (any_below n test) (test n) refl refl h (some_below n test)
-  where
-    by_test : (earlier last : Bool) → any_below n test ≡ earlier → test n ≡ last → (earlier || last) ≡ true
-        → (any_below n test ≡ true → (k : ℕ) × (k < n) × (test k ≡ true)) → (k : ℕ) × (k < suc n) × (test k ≡ true)
-    by_test true last e f g again = let found = again e in (found.0, omega (arith, found.1), found.2)
-    by_test false true e f g again = (n, omega arith, f)
-    by_test false false e f g again = cc
 
 -- the least number that passes is there exactly where some number passes
 least_none : (n : ℕ) (test : ℕ → Bool) → any_below n test ≡ false → least_below n test ≡ None
@@ -131,13 +84,36 @@ seen_at script rs k p s here =
     let plays = joined script rs s.crew s.kept s.met in
     record { met_crew = s; here = here; plays = plays; few = few_moves script rs s.crew s.kept; run = joined_merges script (map part_of rs) plays }
 
--- the node has no clock at its bound, and keeps what leaves room
-may_move_is : (script : ScriptData) (rs : List Parts) (k : ℕ) (p : Parts) → Seen script rs k p → may_move script (state_of p.node) ≡ true
-may_move_is script rs k p seen =
+-- its clock is not at its bound
+in_time : (script : ScriptData) (rs : List Parts) (k : ℕ) (p : Parts) → Seen script rs k p → has_time (state_of p.node) ≡ true
+in_time script rs k p seen =
+    let low = clocks_below script (map part_of rs) seen.met_crew.crew.is_script seen.plays seen.few k (part_of p) (part_here rs k p seen.here) in
+    lt-ltb p.node.clock LAST_CLOCK (omega (arith, low))
+
+-- and what it keeps leaves room
+is_within : (script : ScriptData) (rs : List Parts) (k : ℕ) (p : Parts) → Seen script rs k p → IsTrue (node_within script (state_of p.node))
+is_within script rs k p seen =
+    states_within script (map part_of rs) seen.met_crew.crew.is_script seen.plays k (part_of p) (part_here rs k p seen.here)
+
+-- a letter that fits may be taken
+takes : (script : ScriptData) (rs : List Parts) (k : ℕ) (p : Parts) → Seen script rs k p → (letter : Letter)
+    → IsTrue (fits (numbers_of script) k (state_of p.node).clock ((state_of p.node).set letter.set) letter) → may_take script k (state_of p.node) letter ≡ true
+takes script rs k p seen letter fitting =
+    let n = state_of p.node in
+    let inside = fitting_set (numbers_of script) k n.clock (n.set letter.set) letter fitting in
+    and_from _ _ (in_time script rs k p seen)
+    (and_from _ _ fitting (room_to_take script n letter (is_within script rs k p seen) inside))
+
+-- a client that can act may
+acts : (script : ScriptData) (rs : List Parts) (k : ℕ) (p : Parts) → Seen script rs k p → (client : ℕ) → IsTrue (can_act script k (state_of p.node) client)
+    → may_act script (state_of p.node) client ≡ true
+acts script rs k p seen client can =
     let is_script = seen.met_crew.crew.is_script in
-    let part = part_here rs k p seen.here in
-    let low = clocks_below script (map part_of rs) is_script seen.plays seen.few k (part_of p) part in
-    and_from _ _ (lt-ltb p.node.clock LAST_CLOCK (omega (arith, low))) (states_within script (map part_of rs) is_script seen.plays k (part_of p) part)
+    let here = part_here rs k p seen.here in
+    let places = asks_have_place script (map part_of rs) is_script seen.plays k client (part_of p) here can in
+    let drops = drops_are_within script (map part_of rs) is_script seen.plays k (part_of p) here in
+    and_from _ _ (in_time script rs k p seen)
+    (room_to_act script (state_of p.node) client is_script (is_within script rs k p seen) places drops)
 
 -- the letters on their way to node k in the world of the crew
 mail_is : (script : ScriptData) (rs : List Parts) (k : ℕ) (p : Parts) → Seen script rs k p → (a : ℕ) (x : Parts) → slice_get rs a ≡ Some x → a ≢ k
@@ -170,7 +146,7 @@ takes_hand script rs k p seen hand e =
     let fitting = letters_left_fit script (map part_of rs) s.crew.is_script seen.plays seen.few hand.from k (part_of x) (part_of p) (left_for hand.from k x p)
     (letter_seen hand.letter) (part_here rs hand.from x there) (part_here rs k p seen.here) comes first in
     let mail = mail_is script rs k p seen hand.from x there apart ∙ left in (
-      and_from _ _ (may_move_is script rs k p seen) fitting,
+      takes script rs k p seen (letter_seen hand.letter) fitting,
       and_from _ _ (lt-ltb hand.from script.nodes below)
           (and_from _ _ (lt-ltb k script.nodes mine)
           (and_from _ _ (ap not (ne_eqb hand.from k apart)) (ap is_some_letter mail))),
@@ -228,15 +204,12 @@ shows_is script rs crew kept met k p here fetched =
     seen : Seen script rs k p
     seen = seen_at script rs k p (record { crew = crew; kept = kept; met = met }) here
 
-    may : may_move script (state_of p.node) ≡ true
-    may = may_move_is script rs k p seen
-
     node : (crew_world script rs).node k ≡ state_of p.node
     node = seen.run.node k (part_of p) (part_here rs k p here)
 
-    acts : (found : Bool) → any_below (length script.clients) (can_act script k (state_of p.node)) ≡ found
+    found_in : (found : Bool) → any_below (length script.clients) (can_act script k (state_of p.node)) ≡ found
         → any_below (length script.clients) (can_act script k ((crew_world script rs).node k)) ≡ found
-    acts found e = ap (λ (n : NodeState). any_below (length script.clients) (can_act script k n)) node ∙ e
+    found_in found e = ap (λ (n : NodeState). any_below (length script.clients) (can_act script k n)) node ∙ e
 
     -- a letter is on its way to the node, or a client can act by what the node knows
     sees : Bool
@@ -246,23 +219,20 @@ shows_is script rs crew kept met k p here fetched =
     by_seen : can_move script (crew_world script rs) k ≡ sees
     by_seen = can_move_is_seen script (crew_world script rs) k
 
-    idle : (allowed : Bool) → is_move (if allowed then act_of None else Nothing) ≡ false
-    idle true = refl
-    idle false = refl
-
     by_act : p.hand ≡ None → (found : Bool) → any_below (length script.clients) (can_act script k (state_of p.node)) ≡ found
         → is_move (act_choice script k (state_of p.node)) ≡ can_move script (crew_world script rs) k
     by_act empty true e =
-        let client = some_below (length script.clients) (can_act script k (state_of p.node)) e in
-        let places = asks_have_place script (map part_of rs) crew.is_script seen.plays k client.0 (part_of p) (part_here rs k p here) client.2 in
-        let allowed : may_act script (state_of p.node) ≡ true = and_from _ _ may places in
-        let first = least_some (length script.clients) (can_act script k (state_of p.node)) e in
-        let left : is_move (act_choice script k (state_of p.node)) ≡ true = rw (allowed, first.1) refl in
-        left ∙ sym (by_seen ∙ or_right _ _ (acts true e))
+        let (first, is_first) = least_some (length script.clients) (can_act script k (state_of p.node)) e in
+        let may = acts script rs k p seen first (first_can script k (state_of p.node) first is_first) in
+        let left : is_move (act_choice script k (state_of p.node)) ≡ true =
+        ap (λ (o : Option ℕ). is_move (act_if script (state_of p.node) o)) is_first
+        ∙ ap (λ (b : Bool). is_move (if b then Act first else Nothing)) may in
+        left ∙ sym (by_seen ∙ or_right _ _ (found_in true e))
     by_act empty false e =
         let none = least_none (length script.clients) (can_act script k (state_of p.node)) e in
-        let left : is_move (act_choice script k (state_of p.node)) ≡ false = rw none (idle (may_act script (state_of p.node))) in
-        let right : sees ≡ false = rw (acts false e, no_mail script rs k p seen fetched empty) refl in
+        let left : is_move (act_choice script k (state_of p.node)) ≡ false =
+        ap (λ (o : Option ℕ). is_move (act_if script (state_of p.node) o)) none in
+        let right : sees ≡ false = rw (found_in false e, no_mail script rs k p seen fetched empty) refl in
         left ∙ sym (by_seen ∙ right)
 
     by_hand : (o : Option Hand) → p.hand ≡ o → is_move (choice_by script k (state_of p.node) o) ≡ can_move script (crew_world script rs) k

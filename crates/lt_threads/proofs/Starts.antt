@@ -13,7 +13,7 @@ use Rattle.lt_runner.specs.declared.parts.Parts.{Parts}
 use Rattle.lt_runner.specs.Kept.{HasAll}
 use Rattle.lt_runner.specs.Ready.{StartsWith}
 use Rattle.lt_threads.specs.Pushes.{IsFirstRunner, Starting, IsFirstCrew}
-use Rattle.lt_threads.proofs.Shown.{same_itself, same_before}
+use Rattle.lt_threads.proofs.SameChoice.{same_itself, same_before}
 
 -- before the first runner
 pub starting : (script : ScriptData) (capacity limit : ℕ) (mails : List Mail) → Opened script.nodes capacity mails → Starting script capacity limit 0 mails []
