@@ -110,7 +110,7 @@ module _ {C : Type 0} (goes : C → Option Reply → Option Command → C → Ty
   pub callers_told : CallersTold goes
   callers_told = record {
     is_script = λ first callers served h. h.serves.is_script;
-    is_short = λ first callers served h. h.few_commands;
+    few_commands = λ first callers served h. h.few_commands;
     same = λ first callers served h. h.serves.same;
     is_run = λ first callers served h. h.serves.is_run;
     rising = λ first callers served h. h.serves.rising;

@@ -73,7 +73,7 @@ module _ {C : Type 0} (goes : C → Option Reply → Option Command → C → Ty
 
   pub record CallersTold : Type 0 where
     pub is_script : OfServed (λ first callers served. IsScript served.script)
-    pub is_short : OfServed (λ first callers served. length served.script.commands ≤ 4096)
+    pub few_commands : OfServed (λ first callers served. length served.script.commands ≤ 4096)
     pub same : OfServed (λ first callers served. served.script ≡ with_commands first served.script.commands)
     pub is_run : OfServed (λ first callers served. IsRun served.script served.run.entries)
     pub rising : OfServed (λ first callers served. AreRising served.run.entries)
