@@ -142,7 +142,7 @@ commands_walk : (s : ScriptData) → IsScript s → IsShort s → (done rest : L
 commands_walk s good short done [] e = subst (λ (l : List (ℕ × Command)). Walks s.version [] (commands_only s done) (commands_only s l)) (sym (append-nil done) ∙ e) (walk_none s.version (commands_only s done))
 commands_walk s good short done (x ∷ rest) e =
     walk_more s.version (spaced (command_words s x)) (map spaced (map (command_words s) rest)) (commands_only s done) (commands_only s (done ++ x ∷ [])) (commands_only s s.commands)
-    (command_read s good done x.0 x.1 (omega (arith, length-append done (x ∷ rest), ap length e, short)) (request_at s good done x rest e) (modes_at s good done x rest e))
+    (command_read s good done x.0 x.1 (omega (arith, length-append done (x ∷ rest), ap length e, short.commands)) (request_at s good done x rest e) (modes_at s good done x rest e))
     (commands_walk s good short (done ++ x ∷ []) rest (append_assoc done (x ∷ []) rest ∙ e))
 
 nodes_printed : (nodes : ℕ) → nodes ≤ 64 → IsPrintedLine (nodes_words nodes)
@@ -223,7 +223,7 @@ script_walk s good short =
     map_both sets (clients ++ commands) ∙ ap (λ l. map spaced sets ++ l) (map_both clients commands) in
     subst (λ (ls : List (List ℕ)). Walks s.version ls (only_nodes s.version s.nodes) s) (sym parts)
     (walk_both s.version (map spaced sets) (map spaced clients ++ map spaced commands) (only_nodes s.version s.nodes) (sets_only s s.sets) s
-    (sets_walk s good [] s.sets refl)
+    (sets_walk s good short [] s.sets refl)
     (walk_both s.version (map spaced clients) (map spaced commands) (sets_only s s.sets) (clients_only s s.clients) s
     (clients_walk s good [] s.clients refl)
     (commands_walk s good short [] s.commands refl)))

@@ -6,7 +6,7 @@ use Rattle.std.proofs.lemmas.Slice.Eq.{bytes_eq-Decides}
 use Rattle.std.proofs.lemmas.List.Sums.{sum_by-append, sum_by-cons}
 use Rattle.lt_modes.specs.Script.{ScriptData, SetData, ClientData, set_name, name_of_set, family_of_set, family_at, client_name, name_of_client, node_of_client, home_at}
 use Rattle.lt_modes.specs.declared.command.Command.{Command}
-use Rattle.lt_spec.specs.Script.{is_name, IsScript, set_number, most_clients, load_of, client_number}
+use Rattle.lt_spec.specs.Script.{is_name, IsScript, IsShort, set_number, most_clients, load_of, client_number}
 use Rattle.lt_text.specs.Text.{spaced, text}
 use Rattle.lt_text.specs.Number.{number}
 use Rattle.lt_text.proofs.NumberLemmas.{number_decimal}
@@ -132,7 +132,6 @@ pub record SetFits (s : ScriptData) (done : List SetData) (x : SetData) : Type 0
   pub at : slice_get s.sets (length done) ≡ Some x
   pub named : is_name x.name ≡ true
   pub is_new : set_number (sets_only s done) x.name ≡ None
-  pub few : length done < 8
   pub not_later : x.family ≤ length done
   pub first_named : is_name (first_name s.sets x) ≡ true
   pub first_found : set_number s (first_name s.sets x) ≡ Some x.family
@@ -152,7 +151,6 @@ set_fits s good done x rest e =
       at = at;
       named = subst (λ w. is_name w ≡ true) name_at (good.sets_named j inside);
       is_new = not_in_front (λ (y : SetData). bytes_eq y.name x.name) done (x ∷ rest) (subst (λ (l : List SetData). position (λ (y : SetData). bytes_eq y.name x.name) l ≡ Some j) (sym e) found);
-      few = omega (arith, good.few_sets);
       not_later = not_later;
       first_named = good.sets_named x.family (omega arith);
       first_found = good.sets_found x.family (omega arith);
@@ -169,10 +167,11 @@ set_printed name named = record { are_printed = (refl, (name_printed name named,
 pub set_with_printed : (name first : List ℕ) → is_name name ≡ true → is_name first ≡ true → IsPrintedLine (codes "set" ∷ name ∷ codes "with" ∷ first ∷ [])
 set_with_printed name first named first_named = record { are_printed = (refl, (name_printed name named, (refl, (name_printed first first_named, tt)))); few = omega arith; says = refl }
 
-pub set_read : (s : ScriptData) → IsScript s → (done : List SetData) (x : SetData) (rest : List SetData) → done ++ x ∷ rest ≡ s.sets
+pub set_read : (s : ScriptData) → IsScript s → IsShort s → (done : List SetData) (x : SetData) (rest : List SetData) → done ++ x ∷ rest ≡ s.sets
     → line_step s.version (Some (sets_only s done)) (spaced (set_words s.sets x)) ≡ Ok (Some (sets_only s (done ++ x ∷ [])))
-set_read s good done x rest e =
+set_read s good short done x rest e =
     let fits = set_fits s good done x rest e in
+    let few : length done < 8 = omega (arith, length-append done (x ∷ rest), ap length e, short.sets) in
     let st : ScriptData = sets_only s done in
     let first : List ℕ = first_name s.sets x in
     elim (cases_Bool (bytes_eq first x.name)) [
@@ -181,7 +180,7 @@ set_read s good done x rest e =
           let own : x.family ≡ length done = one_number x.family (length done) (sym fits.first_found ∙ ap (set_number s) names ∙ fits.found) in
           rw same
           (line_read s.version (Some st) (codes "set" ∷ x.name ∷ []) (SetForm x.name) (set_printed x.name fits.named) refl
-          (rw (fits.named, fits.is_new, lt-leb 8 (length done) fits.few))
+          (rw (fits.named, fits.is_new, lt-leb 8 (length done) few))
           ∙ ap (λ (f : ℕ). Ok (Some (sets_only s (done ++ record { name = x.name; family = f } ∷ [])))) (sym own))
       | inr other ↦
           let earlier : x.family < length done = elim (cases_eq x.family (length done)) [
@@ -195,16 +194,16 @@ set_read s good done x rest e =
           ap family_of_set (sym (get_in_front done (x ∷ rest) x.family earlier)) ∙ ap (λ (l : List SetData). family_at l x.family) e ∙ fits.first_first in
           rw other
           (line_read s.version (Some st) (codes "set" ∷ x.name ∷ codes "with" ∷ first ∷ []) (SetWithForm x.name first) (set_with_printed x.name first fits.named fits.first_named) refl
-          (rw (fits.named, fits.is_new, known, lt-leb 8 (length done) fits.few))
+          (rw (fits.named, fits.is_new, known, lt-leb 8 (length done) few))
           ∙ rw (known, family) refl)
     ]
 
-pub sets_walk : (s : ScriptData) → IsScript s → (done rest : List SetData) → done ++ rest ≡ s.sets → Walks s.version (map spaced (map (set_words s.sets) rest)) (sets_only s done) (sets_only s s.sets)
-sets_walk s good done [] e = subst (λ (l : List SetData). Walks s.version [] (sets_only s done) (sets_only s l)) (sym (append-nil done) ∙ e) (walk_none s.version (sets_only s done))
-sets_walk s good done (x ∷ rest) e =
+pub sets_walk : (s : ScriptData) → IsScript s → IsShort s → (done rest : List SetData) → done ++ rest ≡ s.sets → Walks s.version (map spaced (map (set_words s.sets) rest)) (sets_only s done) (sets_only s s.sets)
+sets_walk s good short done [] e = subst (λ (l : List SetData). Walks s.version [] (sets_only s done) (sets_only s l)) (sym (append-nil done) ∙ e) (walk_none s.version (sets_only s done))
+sets_walk s good short done (x ∷ rest) e =
     walk_more s.version (spaced (set_words s.sets x)) (map spaced (map (set_words s.sets) rest)) (sets_only s done) (sets_only s (done ++ x ∷ [])) (sets_only s s.sets)
-    (set_read s good done x rest e)
-    (sets_walk s good (done ++ x ∷ []) rest (append_assoc done (x ∷ []) rest ∙ e))
+    (set_read s good short done x rest e)
+    (sets_walk s good short (done ++ x ∷ []) rest (append_assoc done (x ∷ []) rest ∙ e))
 
 -- The lines of clients, printed, are read as the clients.
 

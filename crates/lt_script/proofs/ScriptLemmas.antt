@@ -9,7 +9,7 @@ use Rattle.std.proofs.lemmas.Slice.Eq.{bytes_eq-Decides}
 use Rattle.lt_modes.specs.declared.command.Command.{Command}
 use Rattle.lt_modes.specs.declared.command.Command.TheVariants.{Lock, Try, Unlock, Change, DropAll}
 use Rattle.lt_modes.specs.Script.{ScriptData, SetData, ClientData, family_at, home_at, name_of_set, family_of_set, name_of_client, node_of_client}
-use Rattle.lt_spec.specs.declared.limits.TheConstants.{MAX_SETS, MAX_CLIENTS, MAX_CLIENTS_OF_FIRST, MAX_CLIENTS_OF_NODE, MAX_COMMANDS_OF_SERVICE}
+use Rattle.lt_spec.specs.declared.limits.TheConstants.{MAX_SETS_OF_SERVICE, MAX_CLIENTS, MAX_CLIENTS_OF_FIRST, MAX_CLIENTS_OF_NODE, MAX_COMMANDS_OF_SERVICE}
 use Rattle.lt_spec.specs.Script.{is_name, IsScript, IsFamilyOfNext, IsRequest, HasModesOf, HasTargets, most_clients, load_of, set_number, client_number, is_declared}
 use Rattle.lt_script.proofs.NameLemmas.{found_stays, found_last, found_never, is_new, same_name, set_not_client}
 
@@ -75,7 +75,7 @@ more_clients sets clients x client (DropAll other set) inside h =
 family_not_later : (sets : List SetData) (family : ℕ) → IsFamilyOfNext sets family → family ≤ length sets
 family_not_later sets family h = elim h [ inl own ↦ omega arith | inr earlier ↦ omega arith ]
 
-pub set_added : (s : ScriptData) (x : SetData) → IsScript s → is_name x.name ≡ true → is_declared s x.name ≡ false → length s.sets < MAX_SETS → IsFamilyOfNext s.sets x.family
+pub set_added : (s : ScriptData) (x : SetData) → IsScript s → is_name x.name ≡ true → is_declared s x.name ≡ false → length s.sets < MAX_SETS_OF_SERVICE → IsFamilyOfNext s.sets x.family
     → IsScript (record s { sets = s.sets ++ x ∷ [] })
 set_added s x good named undeclared room fits =
     let sets : List SetData = s.sets ++ x ∷ [] in
@@ -190,20 +190,6 @@ client_added s x good named undeclared room on_node load =
       );
       modes = good.modes;
     }
-
--- a set with the name is the one that the name finds
-pub set_named : (s : ScriptData) (set : ℕ) (x : SetData) (name : List ℕ) → IsScript s → slice_get s.sets set ≡ Some x → bytes_eq x.name name ≡ true
-    → (set < length s.sets) × (set_number s name ≡ Some set)
-set_named s set x name good at same =
-    let inside = slice_get_within s.sets set x at in
-    (inside, subst (λ (n : List ℕ). set_number s n ≡ Some set) (ap name_of_set at ∙ (bytes_eq-Decides x.name name).0 same) (good.sets_found set inside))
-
--- a client with the name is the one that the name finds
-pub client_named : (s : ScriptData) (client : ℕ) (x : ClientData) (name : List ℕ) → IsScript s → slice_get s.clients client ≡ Some x → bytes_eq x.name name ≡ true
-    → (client < length s.clients) × (client_number s name ≡ Some client)
-client_named s client x name good at same =
-    let inside = slice_get_within s.clients client x at in
-    (inside, subst (λ (n : List ℕ). client_number s n ≡ Some client) (ap name_of_client at ∙ (bytes_eq-Decides x.name name).0 same) (good.clients_found client inside))
 
 pub command_added : (s : ScriptData) (client : ℕ) (command : Command) → IsScript s → length s.commands < MAX_COMMANDS_OF_SERVICE → IsRequest s.sets s.clients (client, command) → HasModesOf s.version command
     → IsScript (record s { commands = s.commands ++ (client, command) ∷ [] })

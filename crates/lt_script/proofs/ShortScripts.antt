@@ -1,16 +1,16 @@
--- A script that is read has no more commands than a text may have.
-use Rattle.std.proofs.Common.{◌≡◌, ℕ, ◌+◌, ◌<◌, true, false, nat_le, List, [], ◌∷◌, length, Option, Some, None, unwrap_or, Result, Ok, Err, refl, subst, inl, inr, arith, if◌then◌else◌, le-leb}
+-- A script that is read has no more sets and no more commands than a text may have.
+use Rattle.std.proofs.Common.{◌≡◌, ℕ, ◌+◌, ◌<◌, ◌++◌, true, false, nat_le, List, [], ◌∷◌, length, Option, Some, None, unwrap_or, Result, Ok, Err, refl, subst, inl, inr, arith, if◌then◌else◌, le-leb}
 use Rattle.std.proofs.lemmas.Bool.{cases_lt, false≢true}
 use Rattle.std.proofs.lemmas.List.{length_push}
-use Rattle.lt_modes.specs.Script.{ScriptData}
+use Rattle.lt_modes.specs.Script.{ScriptData, SetData}
 use Rattle.lt_spec.specs.Script.{IsShort, client_number}
-use Rattle.lt_spec.specs.declared.limits.TheConstants.{MAX_COMMANDS}
+use Rattle.lt_spec.specs.declared.limits.TheConstants.{MAX_SETS, MAX_COMMANDS}
 use Rattle.lt_text.specs.Text.{lines, words}
 use Rattle.lt_script.specs.declared.fault.Fault.{Fault}
 use Rattle.lt_script.specs.declared.fault.Fault.TheVariants as faults
 use Rattle.lt_script.specs.declared.fault.ScriptFault.{ScriptFault}
 use Rattle.lt_script.specs.Forms.{FormData, VersionForm, NodesForm, SetForm, SetWithForm, ClientForm, CommandForm, form_of}
-use Rattle.lt_script.specs.Faults.{declared, exceeds_limit, line_fault, after_form, named_command}
+use Rattle.lt_script.specs.Faults.{declared, exceeds_limit, line_fault, after_form, family_of, named_command}
 use Rattle.lt_script.specs.Reading.{has_form, has_fault, IsLeastFault, is_skipped, line_step, unless, script_after, go_on, read_from, script_body, read_of}
 use Rattle.lt_script.proofs.FaultOrder.{least_is_told}
 
@@ -26,18 +26,21 @@ below n bound e = elim (cases_lt n bound) [
 ]
 
 declared_short : (v : ℕ) (st : Option ScriptData) → IsShortSoFar st → IsShort (declared v st)
-declared_short v None short = omega arith
+declared_short v None short = record { sets = omega arith; commands = omega arith }
 declared_short v (Some s) short = short
+
+set_short : (s : ScriptData) (x : SetData) → IsShort s → nat_le MAX_SETS (length s.sets) ≡ false → IsShort (record s { sets = s.sets ++ x ∷ [] })
+set_short s x short within = record { sets = omega (arith, length_push s.sets x, below (length s.sets) MAX_SETS within); commands = short.commands }
 
 form_short : (s : ScriptData) (form : FormData) → IsShort s → exceeds_limit s form ≡ false → IsShort (after_form s form)
 form_short s VersionForm short within = short
-form_short s (NodesForm n) short within = omega arith
-form_short s (SetForm name) short within = short
-form_short s (SetWithForm name t) short within = short
-form_short s (ClientForm name n) short within = short
+form_short s (NodesForm n) short within = record { sets = omega arith; commands = omega arith }
+form_short s (SetForm name) short within = set_short s (record { name = name; family = length s.sets }) short within
+form_short s (SetWithForm name t) short within = set_short s (record { name = name; family = family_of s t }) short within
+form_short s (ClientForm name n) short within = record { sets = short.sets; commands = short.commands }
 form_short s (CommandForm c asked) short within =
     let room = below (length s.commands) MAX_COMMANDS within in
-    omega (arith, length_push s.commands (unwrap_or (client_number s c) 0, named_command s asked), room)
+    record { sets = short.sets; commands = omega (arith, length_push s.commands (unwrap_or (client_number s c) 0, named_command s asked), room) }
 
 after_short : (v : ℕ) (st : Option ScriptData) (form : Option FormData) → IsShortSoFar st → has_form (exceeds_limit (declared v st)) form ≡ false → IsShortSoFar (script_after v st form)
 after_short v st None short within = short
@@ -49,7 +52,7 @@ stepped st = Ok st
 same_step : (a b : Option ScriptData) → stepped a ≡ Ok b → a ≡ b
 same_step a b e = cc
 
--- a line without fault adds no command too many
+-- a line without fault adds no set and no command too many
 line_short : (v : ℕ) (st next : Option ScriptData) (line : List ℕ) → IsShortSoFar st → line_step v st line ≡ Ok next → IsShortSoFar next
 unfolding line_step
 line_short v st next line short e =

@@ -4,12 +4,12 @@ ghost use Rattle.lt_spec.specs.Script.{IsScript, IsShort};
 ghost use Rattle.lt_script.specs.Printing.{print_of};
 ghost use Rattle.lt_script.specs.Reading.{read_of, LeastIsTold, FirstIsTold, LimitsAre, ReservedAre, NumbersAre, FormsAre};
 
-/// The text of a script, with no more commands than a text may have, is read as that script.
+/// The text of a script, with no more sets and commands than a text may have, is read as that script.
 pub fn law_print()
     ensures { (s : ScriptData) → IsScript s → IsShort s → read_of (print_of s) ≡ Ok s }
 {}
 
-/// A script that is read has no more commands than a text may have.
+/// A script that is read has no more sets and no more commands than a text may have.
 pub fn law_read_is_short()
     ensures { (bytes : List ℕ) (s : ScriptData) → read_of bytes ≡ Ok s → IsShort s }
 {}

@@ -14,7 +14,8 @@ use lt_text::push_number;
 use std::alloc::{AllocError, Global};
 
 /// Writes the script as `read` reads it: for version 2 the line `version 2`, and then the line `nodes`, the sets, the
-/// clients and the commands. A script with more commands than a text may have is written too, and not read back.
+/// clients and the commands. A script with more sets or more commands than a text may have is written too, and not
+/// read back.
 pub fn print(alloc: Global, script: &Script) -> Result<Vec<u8>, AllocError>
     ensures text { IfOk result (λ text. text.items ≡ print_of script.now) }
     ensures read_back { IsShort script.now → IfOk result (λ text. read_of text.items ≡ Ok script.now) }

@@ -9,8 +9,8 @@ use Rattle.lt_script.proofs.script.Script.add_command.Goals as goal
 pub invariant_of-self-2 : goal.invariant_of-self-2
 invariant_of-self-2 c =
     let s = script_data c.self.inside in
-    let at = c.self.view_is ∙ c.in_ok-part.ensures in
+    let at = c.self.view_is ∙ c.in_ok-own_commands.ensures in
     let room = subst (λ (v : ScriptData). length v.commands < MAX_COMMANDS_OF_SERVICE) (sym at) c.requires.room in
     let request = subst (λ (v : ScriptData). IsRequest v.sets v.clients (c.args.client, c.args.command)) (sym at) c.requires.request in
     let modes = subst (λ (v : ScriptData). HasModesOf v.version c.args.command) (sym at) c.requires.modes in
-    rw (c.in_ok-push.ensures.items, c.in-Some.ensures.value) (record { script = command_added s c.args.client c.args.command c.self.invariant.script room request modes; noted = c.self.invariant.noted })
+    rw (c.in_ok-push.ensures.items, c.in-Some.ensures.value) (command_added s c.args.client c.args.command c.self.invariant room request modes)
