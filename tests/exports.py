@@ -1,6 +1,7 @@
 #!/usr/bin/env python3
 """Sees that the declarations of clients/ are those of the exports of crates/lt_live_c: the names of the calls, their
-arguments in order and what they return, in C, Rust and Python; and the numbers of codes, kinds, modes and replies."""
+arguments in order and what they return, in C, Rust and Python; the fields of a further set; and the numbers of codes, kinds,
+modes and replies."""
 import ctypes
 import re
 import sys
@@ -18,14 +19,16 @@ import lockrun  # noqa: E402
 # What crosses in place of an argument of the crate; Global takes no bytes.
 CROSSES = {
     'Global': [], '&[u8]': ['*u8', 'size'], '&mut [u8]': ['*u8', 'size'], '&mut Handle': ['*handle'],
-    '&mut u64': ['*u64'], '&mut usize': ['*size'], 'u32': ['u32'], 'u64': ['u64'], 'u8': ['u8'], 'usize': ['size']}
-IN_C = {'uint32_t': 'u32', 'uint64_t': 'u64', 'uint8_t': 'u8', 'size_t': 'size', 'lockrun_handle *': '*handle', 'lockrun_service *': '*handle',
+    '&mut u32': ['*u32'], '&mut u64': ['*u64'], '&mut usize': ['*size'], 'u32': ['u32'], 'u64': ['u64'], 'usize': ['size'],
+    "&[NewSet<'_>]": ['*set', 'size'], "&'a [u8]": ['*u8', 'size']}
+IN_C = {'uint32_t': 'u32', 'uint64_t': 'u64', 'size_t': 'size', 'lockrun_handle *': '*handle', 'lockrun_service *': '*handle',
         'lockrun_station *': '*handle', 'lockrun_session *': '*handle', 'lockrun_journal *': '*handle',
-        'const uint8_t *': '*u8', 'uint8_t *': '*u8', 'uint64_t *': '*u64', 'size_t *': '*size', 'void': None}
-IN_RUST = {'u32': 'u32', 'u64': 'u64', 'u8': 'u8', 'usize': 'size', '*mut Handle': '*handle', '*const u8': '*u8', '*mut u8': '*u8',
-           '*mut u64': '*u64', '*mut usize': '*size', '': None}
-IN_PYTHON = {ctypes.c_uint32: 'u32', ctypes.c_uint8: 'u8', ctypes.c_size_t: 'size', lockrun.AT: '*handle',
-             lockrun.BYTES: '*u8', lockrun.SIZE: '*size', None: None}
+        'const lockrun_new_set *': '*set', 'const uint8_t *': '*u8', 'uint8_t *': '*u8', 'uint32_t *': '*u32',
+        'uint64_t *': '*u64', 'size_t *': '*size', 'void': None}
+IN_RUST = {'u32': 'u32', 'u64': 'u64', 'usize': 'size', '*mut Handle': '*handle', '*const NewSet': '*set', '*const u8': '*u8',
+           '*mut u8': '*u8', '*mut u32': '*u32', '*mut u64': '*u64', '*mut usize': '*size', '': None}
+IN_PYTHON = {ctypes.c_uint32: 'u32', ctypes.c_size_t: 'size', lockrun.AT: '*handle', lockrun.SETS: '*set',
+             lockrun.BYTES: '*u8', lockrun.NUMBER: '*u32', lockrun.SIZE: '*size', None: None}
 # What a command's kind is called outside, by the function that makes it.
 KINDS = {'lock': 'LOCK', 'try_lock': 'TRY', 'unlock': 'UNLOCK', 'change': 'CHANGE', 'drop_locks': 'DROP'}
 
@@ -65,7 +68,7 @@ def of_rust():
     """The same of the Rust crate."""
     found = {}
     for name, arguments, result in re.findall(r'fn (lockrun_\w+)\((.*?)\)(?: -> (\w+))?;', RUST, re.S):
-        parts = [part.split(': ') for part in re.split(r',\s*', arguments.strip())]
+        parts = [part.split(': ') for part in filter(None, re.split(r',\s*', arguments.strip()))]
         found[name] = (IN_RUST[result], [(word, IN_RUST[kind]) for word, kind in parts])
     return found
 
@@ -92,6 +95,24 @@ def calls_differ(language, found):
             yield f'{name} of {language} takes or returns something else'
         elif any(word and other and word != other for (word, _), (other, _) in zip(arguments, found[name][1])):
             yield f'an argument of {name} of {language} has another name'
+
+
+def fields_differ():
+    """The faults of the fields of a further set."""
+    body = re.search(r"struct NewSet<'a> \{(.*?)\n\}", CRATE, re.S)[1]
+    wanted = [(name if k == 0 else None, part) for name, kind in re.findall(r'pub (\w+): (.*),', body)
+              for k, part in enumerate(CROSSES[kind])]
+    in_c = re.search(r'typedef struct \{([^}]*)\} lockrun_new_set;', HEADER)[1]
+    in_rust = re.search(r'struct NewSet \{(.*?)\n\}', RUST, re.S)[1]
+    found = {
+        'C': [(name, IN_C[kind.strip()]) for kind, name in re.findall(r'(\w[\w ]*[ *])(\w+);', in_c)],
+        'Rust': [(name, IN_RUST[kind]) for name, kind in re.findall(r'pub (\w+): (.*),', in_rust)],
+        'Python': [(name, IN_PYTHON[kind]) for name, kind in lockrun.NewSet._fields_]}
+    for language, fields in found.items():
+        if [kind for _, kind in fields] != [kind for _, kind in wanted]:
+            yield f'a further set of {language} has other fields'
+        elif any(name and name != other for (name, _), (other, _) in zip(wanted, fields)):
+            yield f'a field of a further set of {language} has another name'
 
 
 def numbers_of_crate():
@@ -140,7 +161,7 @@ def numbers_differ():
 def main():
     """The status is 0 if nothing differs."""
     faults = [fault for language, found in (('C', of_header()), ('Rust', of_rust()), ('Python', of_python()))
-              for fault in calls_differ(language, found)] + list(numbers_differ())
+              for fault in calls_differ(language, found)] + list(fields_differ()) + list(numbers_differ())
     for fault in faults:
         print(f'tests/exports.py: {fault}')
     numbers = sum(map(len, numbers_of_crate().values()))

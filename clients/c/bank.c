@@ -35,7 +35,7 @@ static void want(const char *what, uint32_t code, uint32_t wanted) {
 }
 
 /* Waits for a lock; after a second it says that it still waits. */
-static void lock(lockrun_caller *caller, uint8_t set, enum lockrun_mode mode) {
+static void lock(lockrun_caller *caller, uint32_t set, enum lockrun_mode mode) {
     uint32_t code = lockrun_lock(caller, set, mode, 1000);
     for (int second = 0; code == LOCKRUN_WAITS && second < SECONDS; second++) {
         fprintf(stderr, "bank: caller %u still waits for set %u\n", lockrun_client(&caller->session), set);
@@ -45,14 +45,14 @@ static void lock(lockrun_caller *caller, uint8_t set, enum lockrun_mode mode) {
     work[lockrun_client(&caller->session)].told++;
 }
 
-static void unlock(lockrun_caller *caller, uint8_t set, enum lockrun_mode mode) {
+static void unlock(lockrun_caller *caller, uint32_t set, enum lockrun_mode mode) {
     want("unlock", lockrun_unlock(caller, set, mode, LOCKRUN_FOREVER), LOCKRUN_UNLOCKED);
     work[lockrun_client(&caller->session)].told++;
 }
 
 /* Locks the accounts in order, so that no callers wait for each other in a ring. */
 static void transfer(lockrun_caller *caller, int from, int to) {
-    uint8_t lesser = 1 + (from < to ? from : to), greater = 1 + (from < to ? to : from);
+    uint32_t lesser = 1 + (from < to ? from : to), greater = 1 + (from < to ? to : from);
     lock(caller, BANK, LOCKRUN_INTENTION_WRITE);
     lock(caller, lesser, LOCKRUN_WRITE);
     lock(caller, greater, LOCKRUN_WRITE);

@@ -14,8 +14,8 @@ static lockrun_journal journal;
 static uint64_t count = 7;
 static size_t submitted, polled;
 
-/* The most commands of a script. */
-enum { MOST = 4096 };
+/* The most commands of a script, and the most sets of a service. */
+enum { MOST = 4096, MOST_SETS = 65536 };
 
 #define IS(call, wanted) is(#call, __LINE__, call, wanted)
 
@@ -27,6 +27,28 @@ static void is(const char *call, int line, size_t got, size_t wanted) {
 
 static uint32_t open_text(const char *text, uint64_t limit, uint32_t places) {
     return lockrun_open((const uint8_t *)text, strlen(text), limit, places, &service);
+}
+
+static uint32_t open_sets(const char *text, const lockrun_new_set *sets, size_t count) {
+    return lockrun_open_sets((const uint8_t *)text, strlen(text), sets, count, 100, 2, &service);
+}
+
+static lockrun_new_set new_set(const char *name, const char *parent) {
+    lockrun_new_set set = {(const uint8_t *)name, strlen(name), (const uint8_t *)parent, strlen(parent)};
+    return set;
+}
+
+/* Opens the text with a further set. */
+static uint32_t open_set(const char *text, const char *name, const char *parent) {
+    lockrun_new_set set = new_set(name, parent);
+    return open_sets(text, &set, 1);
+}
+
+static uint32_t number = 77;
+
+/* What is told of a name, and the number. */
+static uint32_t find(lockrun_session *session, const char *name) {
+    return lockrun_set(session, (const uint8_t *)name, strlen(name), &number);
 }
 
 static void rest(void) {
@@ -50,6 +72,14 @@ static void opening(void) {
     IS(open_text(text, 100, 0), LOCKRUN_BAD_ARGUMENT);
     IS(open_text(text, 100, UINT32_MAX), LOCKRUN_BAD_ARGUMENT);
     IS(lockrun_open((const uint8_t *)text, ((size_t)1 << 20) + 1, 100, 2, &service), LOCKRUN_BAD_ARGUMENT);
+    IS(open_set("nodes 0\n", "c", ""), LOCKRUN_BAD_SCRIPT);
+    IS(open_set(text, "", ""), LOCKRUN_BAD_SET);
+    IS(open_set(text, "7", ""), LOCKRUN_BAD_SET);
+    IS(open_set(text, "b", ""), LOCKRUN_BAD_SET);
+    IS(open_set(text, "ann", ""), LOCKRUN_BAD_SET);
+    IS(open_set(text, "c", "ann"), LOCKRUN_BAD_SET);
+    IS(open_set(text, "c", "c"), LOCKRUN_BAD_SET);
+    IS(lockrun_open_sets((const uint8_t *)text, ((size_t)1 << 20) + 1, 0, 0, 100, 2, &service), LOCKRUN_BAD_ARGUMENT);
     IS(service.at != 0, 0);
     IS(open_text(text, 14, 2), LOCKRUN_OK);
 }
@@ -111,6 +141,8 @@ static void wrong_handles(void) {
     IS(lockrun_forget(&ann), LOCKRUN_WRONG_HANDLE);
     IS(lockrun_submit(&station[0], LOCKRUN_LOCK, 0, LOCKRUN_READ, 0), LOCKRUN_WRONG_HANDLE);
     IS(lockrun_poll(&station[0], &count), LOCKRUN_WRONG_HANDLE);
+    IS(find(&station[0], "a"), LOCKRUN_WRONG_HANDLE);
+    IS(number, 77);
     IS(lockrun_left(&station[0]), 0);
     IS(lockrun_client(&station[1]), 0);
     IS(lockrun_home(&station[1]), 0);
@@ -130,6 +162,13 @@ static void submitting(void) {
     IS(lockrun_client(&ben), 1);
     IS(lockrun_home(&ben), 1);
     IS(lockrun_left(&ann), lockrun_left(&ben));
+    IS(find(&ann, "c"), LOCKRUN_NOTHING);
+    IS(find(&ann, ""), LOCKRUN_NOTHING);
+    IS(number, 77);
+    IS(find(&ann, "b"), LOCKRUN_OK);
+    IS(number, 1);
+    IS(find(&ben, "a"), LOCKRUN_OK);
+    IS(number, 0);
     IS(lockrun_submit(&ann, LOCKRUN_LOCK, 2, LOCKRUN_READ, 0), LOCKRUN_BAD_ARGUMENT);
     IS(lockrun_submit(&ann, LOCKRUN_LOCK, 0, LOCKRUN_WRITE + 1, 0), LOCKRUN_BAD_ARGUMENT);
     IS(lockrun_submit(&ann, LOCKRUN_LOCK, 0, LOCKRUN_READ_INTENTION_WRITE, 0), LOCKRUN_BAD_ARGUMENT);
@@ -244,6 +283,64 @@ static void too_many(void) {
     IS(service.at != 0 || journal.at != 0, 0);
 }
 
+/* As many sets as a service may have, some of them in the family of the first: each is known by its name. The service goes on,
+ * and has no journal. */
+static void many_sets(void) {
+    static const char script[] = "nodes 1\nset a\nclient c at 0\nclient d at 0\n";
+    static char names[MOST_SETS][8];
+    static lockrun_new_set sets[MOST_SETS];
+    for (int k = 0; k < MOST_SETS; k++) {
+        sprintf(names[k], "s%d", k);
+        sets[k] = new_set(names[k], k % 4096 == 4093 ? "a" : "");
+    }
+    IS(open_sets(script, sets, MOST_SETS), LOCKRUN_TOO_MANY);
+    IS(service.at != 0, 0);
+    IS(open_sets(script, sets, MOST_SETS - 1), LOCKRUN_OK);
+    IS(lockrun_take_station(&service, &station[0]), LOCKRUN_OK);
+    IS(lockrun_take_session(&service, &ann), LOCKRUN_OK);
+    IS(lockrun_take_session(&service, &ben), LOCKRUN_OK);
+    for (int k = 0; k < MOST_SETS - 1; k++)
+        if (find(&ann, names[k]) != LOCKRUN_OK || number != 1 + (uint32_t)k) { IS(number, 1 + (size_t)k); break; }
+    IS(find(&ann, names[MOST_SETS - 1]), LOCKRUN_NOTHING);
+    IS(lockrun_submit(&ann, LOCKRUN_LOCK, MOST_SETS, LOCKRUN_WRITE, 0), LOCKRUN_BAD_ARGUMENT);
+    IS(lockrun_submit(&ann, LOCKRUN_LOCK, UINT32_MAX, LOCKRUN_WRITE, 0), LOCKRUN_BAD_ARGUMENT);
+    IS(lockrun_submit(&ann, LOCKRUN_LOCK, MOST_SETS - 1, LOCKRUN_WRITE, 0), LOCKRUN_OK);
+    while (lockrun_poll(&ann, &count) == LOCKRUN_NOTHING) lockrun_turn(&station[0]);
+    IS(lockrun_submit(&ann, LOCKRUN_LOCK, MOST_SETS - 2, LOCKRUN_WRITE, 0), LOCKRUN_OK);
+    while (lockrun_poll(&ann, &count) == LOCKRUN_NOTHING) lockrun_turn(&station[0]);
+    IS(lockrun_submit(&ben, LOCKRUN_TRY, MOST_SETS - 1, LOCKRUN_READ, 0), LOCKRUN_OK);
+    while ((number = lockrun_poll(&ben, &count)) == LOCKRUN_NOTHING) lockrun_turn(&station[0]);
+    IS(number, LOCKRUN_FALSE);
+    IS(lockrun_submit(&ben, LOCKRUN_DROP, 0, 0, 0), LOCKRUN_OK);
+    while ((number = lockrun_poll(&ben, &count)) == LOCKRUN_NOTHING) lockrun_turn(&station[0]);
+    IS(number, LOCKRUN_DROPPED);
+    IS(count, 1);
+    IS(lockrun_give(&service, &station[0]), LOCKRUN_OK);
+    IS(lockrun_give(&service, &ann), LOCKRUN_OK);
+    IS(lockrun_give(&service, &ben), LOCKRUN_OK);
+    served(4, 4);
+    IS(lockrun_finish(&service, &journal), LOCKRUN_TOO_MANY);
+    IS(service.at != 0 || journal.at != 0, 0);
+}
+
+/* With no more than 8 sets, of which some are further ones, it has one. */
+static void eight_sets(void) {
+    static const char script[] = "nodes 1\nset a\nclient c at 0\n";
+    const lockrun_new_set sets[] = {new_set("b", "a"), new_set("c1", "b"), new_set("d", ""), new_set("e", "d"),
+                                    new_set("f", ""), new_set("g", ""), new_set("h", "g")};
+    const char *text = "nodes 1\nset a\nset b with a\nset c1 with a\nset d\nset e with d\nset f\nset g\nset h with g\n"
+                       "client c at 0\n";
+    uint8_t bytes[128];
+    lockrun_nodes nodes;
+    IS(lockrun_nodes_open_sets(&nodes, script, sizeof script - 1, sets, 7, 1 << 20), LOCKRUN_OK);
+    IS(lockrun_find(&nodes.caller[0], "h", &number), LOCKRUN_OK);
+    IS(number, 7);
+    IS(lockrun_nodes_finish(&nodes, &journal), LOCKRUN_OK);
+    IS(lockrun_script(&journal, 0, bytes, sizeof bytes), strlen(text));
+    IS(memcmp(bytes, text, strlen(text)) != 0, 0);
+    lockrun_free(&journal);
+}
+
 /* Stations forget while replies are still to be polled and a client waits. The service goes on, and has no journal. */
 static void forgetting(void) {
     IS(open_text(text, 1 << 20, 2), LOCKRUN_OK);
@@ -334,6 +431,8 @@ int main(void) {
     lockrun_free(&service);
     whole_life();
     too_many();
+    many_sets();
+    eight_sets();
     forgetting();
     patience();
     forgetful();

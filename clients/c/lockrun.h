@@ -3,13 +3,13 @@
  * tests/exports.py compares this file with the exports of crates/lt_live_c. What a C compiler can't see is a duty of the
  * caller, and nothing checks it:
  * - A handle that isn't in use is {0}. Each call wants handles that stand for something, but for the last argument of
- *   lockrun_open, lockrun_take_station, lockrun_take_session and lockrun_finish. That one is written over where the call
- *   answers LOCKRUN_OK, so it is to be {0}: what it stood for would never be freed.
+ *   lockrun_open, lockrun_open_sets, lockrun_take_station, lockrun_take_session and lockrun_finish. That one is written
+ *   over where the call answers LOCKRUN_OK, so it is to be {0}: what it stood for would never be freed.
  * - Two arguments of a call are never the same handle, and no two copies of a handle are in use. It is in one call at a
  *   time. It may go from thread to thread if the calls are ordered: by a mutex, pthread_create or pthread_join, or a
  *   sequentially consistent atomic. Two sessions, or a session and its station, may be in calls at the same time.
  * - lockrun_finish wants a service that has all stations in the order of nodes, and all sessions in the order of clients,
- *   which one lockrun_open made. lockrun_served wants them so if there are as many as all.
+ *   which were opened by one call. lockrun_served wants them so if there are as many as all.
  * - No call comes from a signal handler, nor from the forked child of a process with threads.
  * - malloc, realloc and free are those of one allocator.
  */
@@ -40,7 +40,8 @@ enum lockrun_kind { LOCKRUN_LOCK, LOCKRUN_TRY, LOCKRUN_UNLOCK, LOCKRUN_CHANGE, L
 
 enum lockrun_code {
     LOCKRUN_OK,
-    LOCKRUN_NOTHING,      /* no station or session is left; no move was made; no reply is known; one is still out */
+    LOCKRUN_NOTHING,      /* no station or session is left; no move was made; no reply is known; no set has this name;
+                             one is still out */
     LOCKRUN_WRONG_HANDLE, /* it stands for something else; nothing happened */
     LOCKRUN_NO_MEMORY,
     LOCKRUN_BAD_ARGUMENT, /* a number out of range, or a command that names what the script doesn't have */
@@ -49,7 +50,8 @@ enum lockrun_code {
     LOCKRUN_FULL,         /* the ring has no place now: try again later */
     LOCKRUN_LOG_FULL,     /* the node made as many moves as it may */
     LOCKRUN_FORGOTTEN,    /* a station has forgotten moves or commands */
-    LOCKRUN_TOO_MANY      /* more than 4,096 commands: no script has as many */
+    LOCKRUN_TOO_MANY,     /* more than 4,096 commands or 8 sets: no text of a script has as many; more than 65,536 sets */
+    LOCKRUN_BAD_SET       /* a further set has no new name, or its parent is no set before it */
 };
 
 enum lockrun_reply {
@@ -67,6 +69,20 @@ enum lockrun_reply {
  * most 2^55, and a session's rings have `places` places, at most 4,096. */
 uint32_t lockrun_open(const uint8_t *text, size_t length, uint64_t limit, uint32_t places, lockrun_service *service);
 
+/* A further set: its name, and that of its parent, which is a set before it. A parent of no bytes is none, and no pointer is
+ * null even then. */
+typedef struct {
+    const uint8_t *name;
+    size_t length;
+    const uint8_t *parent;
+    size_t parent_length;
+} lockrun_new_set;
+
+/* The same with `count` further sets behind those of the text, at most 65,536 with these. If they are more than 8 the service
+ * has no journal. */
+uint32_t lockrun_open_sets(const uint8_t *text, size_t length, const lockrun_new_set *sets, size_t count, uint64_t limit,
+                           uint32_t places, lockrun_service *service);
+
 /* The station of the next node, and the session of the next client, in the order of the script. */
 uint32_t lockrun_take_station(lockrun_service *service, lockrun_station *station);
 uint32_t lockrun_take_session(lockrun_service *service, lockrun_session *session);
@@ -82,10 +98,13 @@ uint32_t lockrun_forget(lockrun_station *station);
 
 /* Submits a command of this lockrun_kind. `first` is the mode, of LOCKRUN_CHANGE the mode that is held, of LOCKRUN_DROP the
  * client whose locks are dropped; `second` is the new mode of LOCKRUN_CHANGE, and else not looked at. */
-uint32_t lockrun_submit(lockrun_session *session, uint32_t kind, uint8_t set, uint32_t first, uint32_t second);
+uint32_t lockrun_submit(lockrun_session *session, uint32_t kind, uint32_t set, uint32_t first, uint32_t second);
 
 /* The next reply, or LOCKRUN_NOTHING. Of LOCKRUN_DROPPED `count` tells how many locks were dropped. */
 uint32_t lockrun_poll(lockrun_session *session, uint64_t *count);
+
+/* The number of the set with this name, or LOCKRUN_NOTHING. Sets are numbered from 0 in the order of the script. */
+uint32_t lockrun_set(lockrun_session *session, const uint8_t *name, size_t length, uint32_t *set);
 
 /* How many commands may still be submitted. */
 uint64_t lockrun_left(lockrun_session *session);

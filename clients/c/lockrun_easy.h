@@ -108,7 +108,7 @@ static inline uint32_t lockrun_wait(lockrun_caller *caller, int64_t patience) {
 }
 
 /* Submits a command and waits for its reply: a lockrun_reply, or the code of what kept it from being submitted. */
-static inline uint32_t lockrun_call(lockrun_caller *caller, uint32_t kind, uint8_t set, uint32_t first, uint32_t second,
+static inline uint32_t lockrun_call(lockrun_caller *caller, uint32_t kind, uint32_t set, uint32_t first, uint32_t second,
                                     int64_t patience) {
     if (caller->waits) return LOCKRUN_WAITS;
     uint32_t code = lockrun_submit(&caller->session, kind, set, first, second);
@@ -117,29 +117,34 @@ static inline uint32_t lockrun_call(lockrun_caller *caller, uint32_t kind, uint8
     return lockrun_wait(caller, patience);
 }
 
+/* The number of the set with this name: LOCKRUN_OK or LOCKRUN_NOTHING. */
+static inline uint32_t lockrun_find(lockrun_caller *caller, const char *name, uint32_t *set) {
+    return lockrun_set(&caller->session, (const uint8_t *)name, strlen(name), set);
+}
+
 /* LOCKRUN_GRANTED. */
-static inline uint32_t lockrun_lock(lockrun_caller *caller, uint8_t set, enum lockrun_mode mode, int64_t patience) {
+static inline uint32_t lockrun_lock(lockrun_caller *caller, uint32_t set, enum lockrun_mode mode, int64_t patience) {
     return lockrun_call(caller, LOCKRUN_LOCK, set, mode, 0, patience);
 }
 
 /* LOCKRUN_TRUE or LOCKRUN_FALSE. */
-static inline uint32_t lockrun_try(lockrun_caller *caller, uint8_t set, enum lockrun_mode mode, int64_t patience) {
+static inline uint32_t lockrun_try(lockrun_caller *caller, uint32_t set, enum lockrun_mode mode, int64_t patience) {
     return lockrun_call(caller, LOCKRUN_TRY, set, mode, 0, patience);
 }
 
 /* LOCKRUN_UNLOCKED or LOCKRUN_NOT_HELD. */
-static inline uint32_t lockrun_unlock(lockrun_caller *caller, uint8_t set, enum lockrun_mode mode, int64_t patience) {
+static inline uint32_t lockrun_unlock(lockrun_caller *caller, uint32_t set, enum lockrun_mode mode, int64_t patience) {
     return lockrun_call(caller, LOCKRUN_UNLOCK, set, mode, 0, patience);
 }
 
 /* LOCKRUN_CHANGED or LOCKRUN_NOT_HELD. */
-static inline uint32_t lockrun_change(lockrun_caller *caller, uint8_t set, enum lockrun_mode held, enum lockrun_mode mode,
+static inline uint32_t lockrun_change(lockrun_caller *caller, uint32_t set, enum lockrun_mode held, enum lockrun_mode mode,
                                       int64_t patience) {
     return lockrun_call(caller, LOCKRUN_CHANGE, set, held, mode, patience);
 }
 
 /* Drops the locks of a client of the same node in the set's family: LOCKRUN_DROPPED or LOCKRUN_BUSY. */
-static inline uint32_t lockrun_drop(lockrun_caller *caller, uint8_t set, uint32_t whose, int64_t patience) {
+static inline uint32_t lockrun_drop(lockrun_caller *caller, uint32_t set, uint32_t whose, int64_t patience) {
     return lockrun_call(caller, LOCKRUN_DROP, set, whose, 0, patience);
 }
 
@@ -179,16 +184,28 @@ static inline uint32_t lockrun_add_caller(lockrun_nodes *nodes) {
     return LOCKRUN_OK;
 }
 
-/* Opens all nodes of a script, with a caller for each client. `nodes` stays where it is until it is finished or freed. */
-static inline uint32_t lockrun_nodes_open(lockrun_nodes *nodes, const char *text, size_t length, uint64_t limit) {
-    memset(nodes, 0, sizeof *nodes);
-    uint32_t code = lockrun_open((const uint8_t *)text, length, limit, 4, &nodes->service);
+/* Takes all stations and sessions of the service, if it was opened. */
+static inline uint32_t lockrun_nodes_begin(lockrun_nodes *nodes, uint32_t code) {
     while (code == LOCKRUN_OK) code = lockrun_add_node(nodes);
     if (code == LOCKRUN_NOTHING) code = LOCKRUN_OK;
     while (code == LOCKRUN_OK) code = lockrun_add_caller(nodes);
     if (code == LOCKRUN_NOTHING) return LOCKRUN_OK;
     lockrun_nodes_free(nodes);
     return code;
+}
+
+/* Opens all nodes of a script, with a caller for each client. `nodes` stays where it is until it is finished or freed. */
+static inline uint32_t lockrun_nodes_open(lockrun_nodes *nodes, const char *text, size_t length, uint64_t limit) {
+    memset(nodes, 0, sizeof *nodes);
+    return lockrun_nodes_begin(nodes, lockrun_open((const uint8_t *)text, length, limit, 4, &nodes->service));
+}
+
+/* The same with further sets. */
+static inline uint32_t lockrun_nodes_open_sets(lockrun_nodes *nodes, const char *text, size_t length,
+                                               const lockrun_new_set *sets, size_t count, uint64_t limit) {
+    memset(nodes, 0, sizeof *nodes);
+    const uint8_t *bytes = (const uint8_t *)text;
+    return lockrun_nodes_begin(nodes, lockrun_open_sets(bytes, length, sets, count, limit, 4, &nodes->service));
 }
 
 /* Lets all nodes make turns until none of them makes a move in two turns. */

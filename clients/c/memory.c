@@ -6,17 +6,17 @@
 #include <stdio.h>
 #include <string.h>
 
-enum call { OPEN, TAKE_STATION, TAKE_SESSION, TURN, FORGET, GIVE, FINISH, CALLS };
+enum call { OPEN, OPEN_SETS, TAKE_STATION, TAKE_SESSION, TURN, FORGET, GIVE, FINISH, CALLS };
 
 enum { NODES = 2, CLIENTS = 6, MOST_BYTES = 8192 };
 
-static const char *const names[CALLS] = {"open", "take_station", "take_session", "turn", "forget", "give", "finish"};
+static const char *const names[CALLS] = {"open", "open_sets", "take_station", "take_session", "turn", "forget", "give", "finish"};
 
 static const char text[] = "nodes 2\nset a\nset b with a\n"
                            "client c0 at 0\nclient c1 at 1\nclient c2 at 0\nclient c3 at 1\nclient c4 at 0\nclient c5 at 1\n";
 
 /* What is submitted, by which client. */
-static const struct { int client; uint32_t kind; uint8_t set; uint32_t first, second; } commands[] = {
+static const struct { int client; uint32_t kind; uint32_t set; uint32_t first, second; } commands[] = {
     {0, LOCKRUN_LOCK, 0, LOCKRUN_UPGRADE, 0},
     {1, LOCKRUN_LOCK, 0, LOCKRUN_READ, 0},
     {2, LOCKRUN_LOCK, 0, LOCKRUN_UPGRADE, 0},
@@ -76,6 +76,16 @@ static void open_to(lockrun_service *opened) {
     want(code == LOCKRUN_OK, "open");
 }
 
+static void open_more(lockrun_service *opened) {
+    const lockrun_new_set sets[] = {{(const uint8_t *)"c", 1, (const uint8_t *)"b", 1},
+                                    {(const uint8_t *)"d", 1, (const uint8_t *)"", 0}};
+    const uint8_t *bytes = (const uint8_t *)text;
+    uint32_t code;
+    while (wants_memory(OPEN_SETS, code = lockrun_open_sets(bytes, sizeof text - 1, sets, 2, 100, 2, opened)))
+        want(!opened->at, "a service of no memory");
+    want(code == LOCKRUN_OK, "open_sets");
+}
+
 static void take_all(lockrun_service *from) {
     uint32_t code = LOCKRUN_OK;
     for (int k = 0; k < NODES && code == LOCKRUN_OK; k++)
@@ -101,10 +111,11 @@ static void free_all(void) {
     for (int k = 0; k < CLIENTS; k++) lockrun_free(&session[k]);
 }
 
-/* Gives the stations and sessions to another service, whose lists have no place for all, and takes them again. */
+/* Gives the stations and sessions to another service, which has further sets and no place for all in its lists, and takes them
+ * again. */
 static void lend(void) {
     lockrun_service other = {0};
-    open_to(&other);
+    open_more(&other);
     give_all(&other);
     take_all(&other);
     free_all();

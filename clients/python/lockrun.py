@@ -14,7 +14,8 @@ import threading
 import time
 from ctypes import POINTER, c_size_t, c_uint8, c_uint32, c_uint64
 
-OK, NOTHING, WRONG_HANDLE, NO_MEMORY, BAD_ARGUMENT, BAD_SCRIPT, SPENT, FULL, LOG_FULL, FORGOTTEN, TOO_MANY = range(11)
+OK, NOTHING, WRONG_HANDLE, NO_MEMORY, BAD_ARGUMENT, BAD_SCRIPT, SPENT, FULL, LOG_FULL, FORGOTTEN, TOO_MANY, BAD_SET = \
+    range(12)
 LOCK, TRY, UNLOCK, CHANGE, DROP = range(5)
 GRANTED, TRUE, FALSE, UNLOCKED, NOT_HELD, CHANGED, DROPPED, BUSY = range(16, 24)
 MODES = ('intention_read', 'read', 'upgrade', 'intention_write', 'read_intention_write', 'write')
@@ -29,7 +30,8 @@ FAULTS = {
     SPENT: "the session's share of commands is used up",
     LOG_FULL: 'a node made as many moves as it may',
     FORGOTTEN: 'a node has forgotten moves or commands',
-    TOO_MANY: 'the nodes were asked for more than 4,096 commands, and have no journal',
+    TOO_MANY: 'more than 65,536 sets; or more than 8 sets or 4,096 commands, and so no journal',
+    BAD_SET: 'a further set has no new name, or its parent is no set before it',
     NOT_HELD: "the client doesn't hold this mode",
     BUSY: 'the client whose locks should be dropped waits',
 }
@@ -41,15 +43,25 @@ class Handle(ctypes.Structure):
 
 
 AT = POINTER(Handle)
-BYTES, COUNT, SIZE = POINTER(c_uint8), POINTER(c_uint64), POINTER(c_size_t)
+BYTES, NUMBER, COUNT, SIZE = POINTER(c_uint8), POINTER(c_uint32), POINTER(c_uint64), POINTER(c_size_t)
+
+
+class NewSet(ctypes.Structure):
+    """A further set, by its name and that of its parent."""
+    _fields_ = [('name', BYTES), ('length', c_size_t), ('parent', BYTES), ('parent_length', c_size_t)]
+
+
+SETS = POINTER(NewSet)
 EXPORTS = {
     'lockrun_open': (c_uint32, BYTES, c_size_t, c_uint64, c_uint32, AT),
+    'lockrun_open_sets': (c_uint32, BYTES, c_size_t, SETS, c_size_t, c_uint64, c_uint32, AT),
     'lockrun_take_station': (c_uint32, AT, AT),
     'lockrun_take_session': (c_uint32, AT, AT),
     'lockrun_turn': (c_uint32, AT),
     'lockrun_forget': (c_uint32, AT),
-    'lockrun_submit': (c_uint32, AT, c_uint32, c_uint8, c_uint32, c_uint32),
+    'lockrun_submit': (c_uint32, AT, c_uint32, c_uint32, c_uint32, c_uint32),
     'lockrun_poll': (c_uint32, AT, COUNT),
+    'lockrun_set': (c_uint32, AT, BYTES, c_size_t, NUMBER),
     'lockrun_left': (c_uint64, AT),
     'lockrun_client': (c_uint32, AT),
     'lockrun_home': (c_uint32, AT),
@@ -90,20 +102,33 @@ def said(code):
         raise LockError(code)
 
 
-def named(script, word):
-    """The numbers of the sets, or of the clients, by their names."""
+def numbered(script):
+    """The numbers of the clients by their names."""
     lines = (line.split() for line in script.splitlines())
-    return {words[1]: number for number, words in enumerate(words for words in lines if words[:1] == [word])}
+    return {words[1]: number for number, words in enumerate(words for words in lines if words[:1] == ['client'])}
+
+
+def bytes_of(text):
+    """The bytes of a text for C, and how many they are."""
+    data = text.encode()
+    return (c_uint8 * len(data))(*data), len(data)
+
+
+def new_sets(sets):
+    """Further sets for C, where a parent of no bytes is none."""
+    return (NewSet * len(sets))(*(NewSet(*bytes_of(name), *bytes_of(parent or '')) for name, parent in sets))
 
 
 class Nodes:
-    """The nodes of an open script, with a session for each client."""
+    """The nodes of an open script, with a session for each client. `sets` are further sets behind those of the script, at most
+    65,536 with these: pairs of a name and that of a parent, which is a set before it, or None. If they are more than 8 the nodes
+    have no journal."""
 
-    def __init__(self, script, limit=1 << 40, library=None):
+    def __init__(self, script, limit=1 << 40, library=None, sets=()):
         self.library = load(library or os.environ['LOCKRUN_LIBRARY'])
-        self.sets, self.clients = named(script, 'set'), named(script, 'client')
-        self.service, text = Handle(), script.encode()
-        said(self.library.lockrun_open((c_uint8 * len(text))(*text), len(text), limit, 4, self.service))
+        self.clients = numbered(script)
+        self.service, more = Handle(), new_sets(sets)
+        said(self.library.lockrun_open_sets(*bytes_of(script), more, len(more), limit, 4, self.service))
         self.stations = [(station, threading.Lock()) for station in self._all(self.library.lockrun_take_station)]
         self.sessions = [Session(self, session) for session in self._all(self.library.lockrun_take_session)]
 
@@ -205,12 +230,23 @@ class Session:
         self.nodes, self.handle = nodes, handle
         # Whether a reply is still to come, and the lock that it is to grant, if the command asked for one.
         self.waits, self.asked = False, None
+        # The numbers of sets that were named here before.
+        self.sets = {}
         self.home = nodes.library.lockrun_home(handle)
         self.client = nodes.library.lockrun_client(handle)
 
     def left(self):
         """How many commands may still be submitted."""
         return self.nodes.library.lockrun_left(self.handle)
+
+    def number(self, name):
+        """The number of the set with this name."""
+        if name not in self.sets:
+            number = c_uint32()
+            if self.nodes.library.lockrun_set(self.handle, *bytes_of(name), number) == NOTHING:
+                raise KeyError(name)
+            self.sets[name] = number.value
+        return self.sets[name]
 
     def lock(self, name, mode, patience=None):
         """Waits until the lock is granted, or for so many seconds; then StillWaits is raised."""
@@ -243,7 +279,7 @@ class Session:
     def _submit(self, kind, name, first, second=0):
         if self.waits:
             raise StillWaits
-        said(self.nodes.library.lockrun_submit(self.handle, kind, self.nodes.sets[name], first, second))
+        said(self.nodes.library.lockrun_submit(self.handle, kind, self.number(name), first, second))
         self.waits = True
 
     def _call(self, kind, name, first, second=0):

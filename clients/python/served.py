@@ -1,10 +1,14 @@
 #!/usr/bin/env python3
 """What sessions were served so far: before anything, while a client waits, after all nodes have forgotten, and at the end; and
-while one is out, or of what is no service, nothing is told. Nodes that have forgotten have no journal. The status is 0 if each answer is as it should be."""
+while one is out, or of what is no service, nothing is told. Nodes that have forgotten have no journal, nor have those of 65,536
+sets. The status is 0 if each answer is as it should be."""
 import sys
-from ctypes import c_size_t
+from ctypes import c_size_t, c_uint8, c_uint32
 
-from lockrun import FORGOTTEN, NOTHING, OK, WRONG_HANDLE, LockError, Nodes, StillWaits
+from lockrun import BAD_SET, FORGOTTEN, NOTHING, OK, TOO_MANY, WRONG_HANDLE, LockError, Nodes, StillWaits
+
+
+SCRIPT = 'nodes 2\nset a\nclient ann at 0\nclient ben at 1\n'
 
 
 def asked(nodes, handle):
@@ -33,7 +37,7 @@ def finish(nodes):
 
 def forgetful():
     """What nodes that forget in the middle answer, and what they should."""
-    nodes = Nodes('nodes 2\nset a\nclient ann at 0\nclient ben at 1\n')
+    nodes = Nodes(SCRIPT)
     ann, ben = nodes.sessions
     yield nodes.library.lockrun_forget(ann.handle), WRONG_HANDLE
     held = ann.lock('a', 'read')
@@ -47,9 +51,36 @@ def forgetful():
     yield finish(nodes), FORGOTTEN
 
 
+def opens(sets):
+    """The code of why nothing is opened with these further sets."""
+    try:
+        Nodes(SCRIPT, sets=sets)
+    except LockError as error:
+        return error.code
+    return OK
+
+
+def many_sets():
+    """What nodes of 65,536 sets answer, and what they should."""
+    sets = [(f's{k}', 's1' if k == 2 else None) for k in range(1, 65536)]
+    nodes = Nodes(SCRIPT, sets=sets)
+    ann = nodes.session('ann')
+    yield ann.number('a'), 0
+    yield ann.number('s65535'), 65535
+    yield nodes.library.lockrun_set(nodes.service, (c_uint8 * 1)(97), 1, c_uint32()), WRONG_HANDLE
+    ann.lock('s2', 'write')
+    with ann.lock('s65535', 'write'):
+        yield nodes.session('ben').try_lock('s65535', 'read'), None
+    yield ann.drop('s1', 'ann'), 1
+    yield nodes.served(), (5, 5)
+    yield finish(nodes), TOO_MANY
+    yield opens(sets + [('b', None)]), TOO_MANY
+    yield opens([('b', 'c')]), BAD_SET
+
+
 def answers():
     """What is answered, and what should be."""
-    nodes = Nodes('nodes 2\nset a\nclient ann at 0\nclient ben at 1\n')
+    nodes = Nodes(SCRIPT)
     ann, ben = nodes.sessions
     yield nodes.served(), (0, 0)
     yield asked(nodes, nodes.service), (NOTHING, 11, 13)
@@ -70,7 +101,7 @@ def answers():
 def main():
     """Prints each answer that is another."""
     bad = 0
-    for place, (answer, wanted) in enumerate([*answers(), *forgetful()]):
+    for place, (answer, wanted) in enumerate([*answers(), *forgetful(), *many_sets()]):
         if answer != wanted:
             print(f'served.py: answer {place} is {answer} and not {wanted}')
             bad = 1

@@ -13,8 +13,10 @@ pub enum Error {
     LogFull,
     /// A node has forgotten moves or commands.
     Forgotten,
-    /// More than 4,096 commands: no script has as many.
+    /// More than 4,096 commands or 8 sets: no text of a script has as many; or more than 65,536 sets.
     TooMany,
+    /// A further set has no new name, or its parent is no set before it.
+    BadSet,
     /// The client didn't hold the mode that it gives up.
     NotHeld,
     /// The client whose locks should be dropped waits.
@@ -36,6 +38,7 @@ impl Error {
             exports::LOG_FULL => Error::LogFull,
             exports::FORGOTTEN => Error::Forgotten,
             exports::TOO_MANY => Error::TooMany,
+            exports::BAD_SET => Error::BadSet,
             exports::NOT_HELD => Error::NotHeld,
             exports::BUSY => Error::Busy,
             _ => Error::BadArgument,
@@ -52,7 +55,8 @@ impl fmt::Display for Error {
             Error::Spent => "the session's share of commands is used up",
             Error::LogFull => "a node made as many moves as it may",
             Error::Forgotten => "a node has forgotten moves or commands",
-            Error::TooMany => "the nodes were asked for more than 4,096 commands, and have no journal",
+            Error::TooMany => "more than 65,536 sets; or more than 8 sets or 4,096 commands, and so no journal",
+            Error::BadSet => "a further set has no new name, or its parent is no set before it",
             Error::NotHeld => "the client doesn't hold this mode",
             Error::Busy => "the client whose locks should be dropped waits",
             Error::StillWaits => "the client still waits",

@@ -12,14 +12,27 @@ pub struct Handle {
 // SAFETY: it is proved of the library's handle that it may go from thread to thread.
 unsafe impl Send for Handle {}
 
+/// A further set, by its name and that of its parent.
+#[repr(C)]
+pub struct NewSet {
+    pub name: *const u8,
+    pub length: usize,
+    pub parent: *const u8,
+    pub parent_length: usize,
+}
+
 extern "C" {
     pub fn lockrun_open(text: *const u8, length: usize, limit: u64, places: u32, service: *mut Handle) -> u32;
+    pub fn lockrun_open_sets(
+        text: *const u8, length: usize, sets: *const NewSet, count: usize, limit: u64, places: u32, service: *mut Handle,
+    ) -> u32;
     pub fn lockrun_take_station(service: *mut Handle, station: *mut Handle) -> u32;
     pub fn lockrun_take_session(service: *mut Handle, session: *mut Handle) -> u32;
     pub fn lockrun_turn(station: *mut Handle) -> u32;
     pub fn lockrun_forget(station: *mut Handle) -> u32;
-    pub fn lockrun_submit(session: *mut Handle, kind: u32, set: u8, first: u32, second: u32) -> u32;
+    pub fn lockrun_submit(session: *mut Handle, kind: u32, set: u32, first: u32, second: u32) -> u32;
     pub fn lockrun_poll(session: *mut Handle, count: *mut u64) -> u32;
+    pub fn lockrun_set(session: *mut Handle, name: *const u8, length: usize, set: *mut u32) -> u32;
     pub fn lockrun_left(session: *mut Handle) -> u64;
     pub fn lockrun_client(session: *mut Handle) -> u32;
     pub fn lockrun_home(session: *mut Handle) -> u32;
@@ -60,6 +73,7 @@ pub const FULL: u32 = 7;
 pub const LOG_FULL: u32 = 8;
 pub const FORGOTTEN: u32 = 9;
 pub const TOO_MANY: u32 = 10;
+pub const BAD_SET: u32 = 11;
 
 pub const LOCK: u32 = 0;
 pub const TRY: u32 = 1;

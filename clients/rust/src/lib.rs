@@ -11,5 +11,5 @@ mod nodes;
 mod session;
 
 pub use error::Error;
-pub use nodes::{open, Journal, Nodes, Served};
+pub use nodes::{open, open_sets, Journal, NewSet, Nodes, Served};
 pub use session::{Guard, Mode, Session};

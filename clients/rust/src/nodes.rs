@@ -36,17 +36,37 @@ pub struct Served {
 /// `lockrun_take_station` or `lockrun_take_session`.
 type Take = unsafe extern "C" fn(*mut Handle, *mut Handle) -> u32;
 
+/// A further set: its name, and that of its parent, which is a set before it, if it has one.
+#[derive(Clone, Copy, Debug)]
+pub struct NewSet<'a> {
+    pub name: &'a str,
+    pub parent: Option<&'a str>,
+}
+
 /// Opens the script's nodes, sets and clients: its nodes, and a session for each client, in order. Each node makes at most
 /// `limit` moves.
 pub fn open(script: &str, limit: u64) -> Result<(Nodes, Vec<Session>), Error> {
-    let mut service = Handle::NONE;
-    // SAFETY: the text is borrowed for the call, and the handle stands for nothing.
-    check(unsafe { exports::lockrun_open(script.as_ptr(), script.len(), limit, 4, &mut service) })?;
+    open_sets(script, &[], limit)
+}
+
+/// The same with further sets behind those of the script, at most 65,536 with these. If they are more than 8 the nodes have no
+/// journal.
+pub fn open_sets(script: &str, sets: &[NewSet<'_>], limit: u64) -> Result<(Nodes, Vec<Session>), Error> {
+    let sets: Vec<exports::NewSet> = sets.iter().map(new_set).collect();
+    let (text, length, mut service) = (script.as_ptr(), script.len(), Handle::NONE);
+    // SAFETY: the text and the names are borrowed for the call, and the handle stands for nothing.
+    check(unsafe { exports::lockrun_open_sets(text, length, sets.as_ptr(), sets.len(), limit, 4, &mut service) })?;
     let stations = take_all(&mut service, exports::lockrun_take_station)?;
     let sessions = take_all(&mut service, exports::lockrun_take_session)?;
     let stations = Arc::new(Stations(stations.into_iter().map(Mutex::new).collect()));
     let nodes = Nodes { service, stations: stations.clone(), clients: sessions.len() };
     Ok((nodes, sessions.into_iter().map(|raw| Session::new(raw, stations.clone())).collect()))
+}
+
+// The same for C, where a parent of no bytes is none.
+fn new_set(set: &NewSet<'_>) -> exports::NewSet {
+    let (name, parent) = (set.name, set.parent.unwrap_or(""));
+    exports::NewSet { name: name.as_ptr(), length: name.len(), parent: parent.as_ptr(), parent_length: parent.len() }
 }
 
 fn take_all(service: &mut Handle, take: Take) -> Result<Vec<Handle>, Error> {

@@ -31,13 +31,13 @@ pub struct Session {
     home: usize,
     // Whether a reply is still to come, and the lock that it is to grant, if the command asked for one.
     waits: bool,
-    asked: Option<(u8, Mode)>,
+    asked: Option<(u32, Mode)>,
 }
 
 /// A lock that a session holds. It is given up when it is dropped; if the share of commands is used up then, it stays held.
 pub struct Guard<'s> {
     session: &'s mut Session,
-    set: u8,
+    set: u32,
     mode: Mode,
 }
 
@@ -71,14 +71,22 @@ impl Session {
         unsafe { exports::lockrun_left(&mut self.raw) }
     }
 
+    /// The number of the set with this name.
+    pub fn set(&mut self, name: &str) -> Option<u32> {
+        let mut set = 0;
+        // SAFETY: the handle stands for something, and the name is borrowed for the call.
+        let code = unsafe { exports::lockrun_set(&mut self.raw, name.as_ptr(), name.len(), &mut set) };
+        (code == exports::OK).then_some(set)
+    }
+
     /// Waits until the lock is granted.
-    pub fn lock(&mut self, set: u8, mode: Mode) -> Result<Guard<'_>, Error> {
+    pub fn lock(&mut self, set: u32, mode: Mode) -> Result<Guard<'_>, Error> {
         self.ask(set, mode)?;
         self.granted(None)
     }
 
     /// Waits for so long. After `StillWaits` the lock is still asked for, and `wait` goes on waiting for it.
-    pub fn lock_within(&mut self, set: u8, mode: Mode, patience: Duration) -> Result<Guard<'_>, Error> {
+    pub fn lock_within(&mut self, set: u32, mode: Mode, patience: Duration) -> Result<Guard<'_>, Error> {
         self.ask(set, mode)?;
         self.granted(Some(patience))
     }
@@ -89,7 +97,7 @@ impl Session {
     }
 
     /// Has the lock at once, or none.
-    pub fn try_lock(&mut self, set: u8, mode: Mode) -> Result<Option<Guard<'_>>, Error> {
+    pub fn try_lock(&mut self, set: u32, mode: Mode) -> Result<Option<Guard<'_>>, Error> {
         match self.call(exports::TRY, set, mode as u32, 0)?.0 {
             exports::TRUE => Ok(Some(Guard { session: self, set, mode })),
             exports::FALSE => Ok(None),
@@ -98,14 +106,14 @@ impl Session {
     }
 
     /// Drops the locks of a client of the same node in the set's family: how many they were.
-    pub fn drop_locks(&mut self, set: u8, whose: u32) -> Result<u64, Error> {
+    pub fn drop_locks(&mut self, set: u32, whose: u32) -> Result<u64, Error> {
         match self.call(exports::DROP, set, whose, 0)? {
             (exports::DROPPED, count) => Ok(count),
             (code, _) => Err(Error::of(code)),
         }
     }
 
-    fn ask(&mut self, set: u8, mode: Mode) -> Result<(), Error> {
+    fn ask(&mut self, set: u32, mode: Mode) -> Result<(), Error> {
         self.submit(exports::LOCK, set, mode as u32, 0)?;
         self.asked = Some((set, mode));
         Ok(())
@@ -123,7 +131,7 @@ impl Session {
     }
 
     // A call that nobody can go on with later. A turn without memory loses nothing, so it is made again.
-    fn call(&mut self, kind: u32, set: u8, first: u32, second: u32) -> Result<(u32, u64), Error> {
+    fn call(&mut self, kind: u32, set: u32, first: u32, second: u32) -> Result<(u32, u64), Error> {
         self.submit(kind, set, first, second)?;
         loop {
             match self.reply(None) {
@@ -133,7 +141,7 @@ impl Session {
         }
     }
 
-    fn submit(&mut self, kind: u32, set: u8, first: u32, second: u32) -> Result<(), Error> {
+    fn submit(&mut self, kind: u32, set: u32, first: u32, second: u32) -> Result<(), Error> {
         if self.waits {
             return Err(Error::StillWaits);
         }
@@ -185,7 +193,7 @@ fn back_off(tries: u32) {
 
 impl Guard<'_> {
     /// A further lock of the same client, which is given up before this one.
-    pub fn and(&mut self, set: u8, mode: Mode) -> Result<Guard<'_>, Error> {
+    pub fn and(&mut self, set: u32, mode: Mode) -> Result<Guard<'_>, Error> {
         self.session.lock(set, mode)
     }
 

@@ -4,7 +4,7 @@ use Rattle.std.proofs.lemmas.Bool.{and_parts}
 use Rattle.lt_spec.specs.declared.moves.TheConstants.{MAX_MOVES_OF_SERVICE}
 use Rattle.lt_spec.specs.declared.limits.TheConstants.{MAX_COMMANDS}
 use Rattle.lt_live_c.specs.declared.limits.TheConstants.{MAX_BYTES}
-use Rattle.lt_live_c.specs.Journals.{fits_for_c}
+use Rattle.lt_live_c.specs.Opening.{fits_for_c}
 
 module _ (text : List ℕ) (limit places : ℕ) (h : fits_for_c text limit places ≡ true) where
   rest : (nat_lt 0 limit && nat_le limit MAX_MOVES_OF_SERVICE ≡ true) × (nat_lt 0 places && nat_le places MAX_COMMANDS ≡ true)

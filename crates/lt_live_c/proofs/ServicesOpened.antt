@@ -1,5 +1,5 @@
 -- What follows where a service is opened or finished, and of its journal.
-use Rattle.std.proofs.Common.{◌≡◌, ◌≢◌, ◌<◌, ◌≤◌, ◌++◌, ◌∷◌, [], ℕ, List, Result, Ok, Err, Option, Some, None, true, refl, sym, ap, subst, codes, count_by, drop, length, take, le-leb, lt-ltb, ◌∙◌}
+use Rattle.std.proofs.Common.{◌≡◌, ◌≢◌, ◌<◌, ◌≤◌, ◌⊎◌, inl, inr, map, ◌++◌, ◌∷◌, [], ℕ, List, Result, Ok, Err, Option, Some, None, true, refl, sym, ap, subst, codes, count_by, drop, length, take, le-leb, lt-ltb, ◌∙◌}
 use Rattle.std.proofs.lemmas.Bool.{and_from, false≢true}
 use Rattle.lt_modes.specs.declared.command.Command.TheVariants.{Lock}
 use Rattle.lt_modes.specs.declared.mode.Mode.TheVariants.{Write}
@@ -7,29 +7,33 @@ use Rattle.lt_modes.specs.Modes.{conflicts}
 use Rattle.lt_modes.specs.Script.{ScriptData}
 use Rattle.lt_spec.specs.declared.moves.TheConstants.{MAX_MOVES_OF_SERVICE}
 use Rattle.lt_spec.specs.declared.limits.TheConstants.{MAX_COMMANDS}
+use Rattle.lt_spec.specs.Script.{IsScript, IsShort}
 use Rattle.lt_spec.specs.World.{Logged}
 use Rattle.lt_text.specs.Text as text
 use Rattle.lt_script.specs.declared.fault.Fault.TheVariants as faults
 use Rattle.lt_script.specs.declared.fault.ScriptFault.{ScriptFault}
+use Rattle.lt_script.specs.Printing.{print_of}
 use Rattle.lt_script.specs.Reading.{read_of}
 use Rattle.lt_script.specs.Reading as reading
 use Rattle.lt_journal.specs.RunLines.{closing_lines}
 use Rattle.lt_live.specs.Live.{AreLive, IsServedRun}
-use Rattle.lt_live.specs.Stations.{IsOpen, most_share}
+use Rattle.lt_threads.specs.Meeting.{AreTooMany}
+use Rattle.lt_live.specs.Stations.{IsOpen, most_share, runner_of}
 use Rattle.lt_live_c.specs.declared.content.Content.{Content}
 use Rattle.lt_live_c.specs.declared.content.Content.TheVariants as contents
 use Rattle.lt_live_c.specs.declared.journal.Journal.{Journal}
 use Rattle.lt_live_c.specs.declared.service.Service.{Service}
-use Rattle.lt_live_c.specs.Journals.{HandleOpened, IsOpenedFrom, OpenRefused, fits_for_c, HandleFinishes, HandleNotFinished, TellsOf, CopiesFrom, says_held, says_waiting, text_of_content, script_at}
+use Rattle.lt_live_c.specs.Opening.{HandleOpened, IsOpenedFrom, OpenRefused, fits_for_c}
+use Rattle.lt_live_c.specs.Journals.{HandleFinishes, HandleNotFinished, TellsOf, CopiesFrom, says_held, says_waiting, text_of_content, script_at}
 use Rattle.lt_live_c.specs.Told.{kind_of}
 use Rattle.lt_live_c.specs.ServicesTold.{OfService, client_text, client_script, OpensTold, OfJournal, three_writers, one_holds, AfterEnd, FinishesTold, IsCopied, CopiesTold}
 
 -- What is opened.
 
-abbrev with_command : ScriptData
+abbrev pub with_command : ScriptData
 with_command = record client_script { commands = (0, Lock 0 Write) ∷ [] }
 
-client_read : read_of client_text ≡ Ok with_command
+pub client_read : read_of client_text ≡ Ok with_command
 unfolding reading.script_body reading.read_from text.lines text.cut_at reading.line_step text.words
 client_read = refl
 
@@ -40,10 +44,10 @@ nothing_read : read_of [] ≡ Err no_nodes
 unfolding reading.script_body reading.read_from text.lines text.cut_at reading.line_step text.words
 nothing_read = refl
 
-same_script : (a b : ScriptData) (read : Result ScriptData ScriptFault) → read ≡ Ok a → read ≡ Ok b → a ≡ b
+pub same_script : (a b : ScriptData) (read : Result ScriptData ScriptFault) → read ≡ Ok a → read ≡ Ok b → a ≡ b
 same_script a b read e f = cc
 
-script_or_fault : (script : ScriptData) (fault : ScriptFault) (read : Result ScriptData ScriptFault)
+pub script_or_fault : (script : ScriptData) (fault : ScriptFault) (read : Result ScriptData ScriptFault)
     → read ≡ Ok script → read ≡ Err fault → ⊥
 script_or_fault script fault read e f = cc
 
@@ -68,7 +72,7 @@ never_opened (Some (contents.Station other)) h = h
 never_opened (Some (contents.Session other)) h = h
 never_opened (Some (contents.Journal other)) h = h
 
-fits : (bytes : List ℕ) (limit places : ℕ)
+pub fits : (bytes : List ℕ) (limit places : ℕ)
     → length bytes ≤ 1048576 → 0 < limit → limit ≤ 36028797018963968 → 0 < places → places ≤ 4096
     → fits_for_c bytes limit places ≡ true
 fits bytes limit places few some_moves few_moves some_places few_places =
@@ -105,7 +109,23 @@ finished first s None live h = absurd h
 finished first s (Some (contents.Service other)) live h = absurd h
 finished first s (Some (contents.Station other)) live h = absurd h
 finished first s (Some (contents.Session other)) live h = absurd h
-finished first s (Some (contents.Journal journal)) live h = h first live
+finished first s (Some (contents.Journal journal)) live h =
+    let made = h first live in (made.0, made.1, made.2, made.4)
+
+-- the text of a short script can be read
+abbrev pub Prints : Type 0
+Prints = (s : ScriptData) → IsScript s → IsShort s → read_of (print_of s) ≡ Ok s
+
+read_again : Prints → (first : ScriptData) (s : Service) (new : Option Content) → AreLive first s.stations.items s.sessions.items
+    → HandleFinishes (Some (contents.Service s)) new
+    → OfJournal new (λ journal. (script : ScriptData) × (read_of journal.script.items ≡ Ok script))
+read_again prints first s None live h = absurd h
+read_again prints first s (Some (contents.Service other)) live h = absurd h
+read_again prints first s (Some (contents.Station other)) live h = absurd h
+read_again prints first s (Some (contents.Session other)) live h = absurd h
+read_again prints first s (Some (contents.Journal journal)) live h =
+    let made = h first live in
+    (made.0, ap read_of made.4.script_is ∙ prints made.0 made.2.is_script made.3)
 
 never_finished : (content : Content) (new : Option Content) → kind_of content ≢ 0
     → HandleFinishes (Some content) new → ⊥
@@ -150,9 +170,14 @@ forgotten_so (contents.Station x) other h = h.forgotten refl
 forgotten_so (contents.Session s) other h = h.forgotten refl
 forgotten_so (contents.Journal journal) other h = h.forgotten refl
 
-pub finishes_told : FinishesTold
-finishes_told = record {
+many_so : (first : ScriptData) (s : Service) → AreLive first s.stations.items s.sessions.items → HandleNotFinished 10 (Some (contents.Service s))
+    → AreTooMany (map runner_of s.stations.items) ⊎ (8 < length first.sets)
+many_so first s live h = elim (h.many refl) [ inl commands ↦ inl commands | inr sets ↦ inr (sets first live) ]
+
+pub finishes_told : Prints → FinishesTold
+finishes_told prints = record {
   served = finished;
+  read_back = read_again prints;
   never_finished = never_finished;
   script = λ script run journal h. h.script_is;
   text = λ script run journal h. h.text_is;
@@ -160,7 +185,7 @@ finishes_told = record {
   waiting = waiting_so;
   forgotten = λ s all h. h.forgotten refl all;
   forgotten_of_others = forgotten_so;
-  too_many = λ s h. h.many refl;
+  too_many = many_so;
   too_many_of_others = too_many_so;
   finish_codes = λ code content h. h.only;
   wrong = λ s h. false≢true (sym h);

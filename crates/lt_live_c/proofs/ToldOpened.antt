@@ -26,6 +26,7 @@ call_codes_are = record {
   log_full = refl;
   forgotten = refl;
   too_many = refl;
+  bad_set = refl;
   bytes = refl;
 }
 

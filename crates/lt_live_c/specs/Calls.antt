@@ -1,5 +1,5 @@
 -- The numbers by which C tells commands, and is told replies.
-use Rattle.std.specs.Prelude.{ℕ, Option, Some, None, ◌==◌, nat_lt, if◌then◌else◌, ◌≡◌, ◌≢◌, ◌++◌, ◌∷◌, [], ◌+◌, ◌<◌, ◌≤◌, ◌⊎◌, IsSomeAnd, length, ⊤}
+use Rattle.std.specs.Prelude.{ℕ, List, Option, Some, None, ◌==◌, nat_lt, if◌then◌else◌, ◌≡◌, ◌≢◌, ◌++◌, ◌∷◌, [], ◌+◌, ◌<◌, ◌≤◌, ◌⊎◌, IsSomeAnd, length, ⊤}
 use mathlib.Core.List.{IsPrefix}
 use Rattle.rtrb.specs.Ring.{known_free}
 use Rattle.lt_modes.specs.declared.command.Command.{Command}
@@ -7,7 +7,7 @@ use Rattle.lt_modes.specs.declared.command.Command.TheVariants as commands
 use Rattle.lt_modes.specs.declared.mode.Mode.{Mode}
 use Rattle.lt_modes.specs.declared.mode.Mode.TheVariants as modes
 use Rattle.lt_spec.specs.NodeMove.{home}
-use Rattle.lt_spec.specs.Script.{HasTargets, HasModesOf}
+use Rattle.lt_spec.specs.Script.{HasTargets, HasModesOf, set_number}
 use Rattle.lt_runner.specs.declared.turning.Turned.{Turned}
 use Rattle.lt_runner.specs.declared.turning.Turned.TheVariants as turns
 use Rattle.lt_live.specs.declared.reply.Reply.{Reply}
@@ -15,7 +15,7 @@ use Rattle.lt_live.specs.declared.reply.Reply.TheVariants as replies
 use Rattle.lt_live.specs.declared.ends.Session.{Session}
 use Rattle.lt_live.specs.Words.{submitted, polled, known_replies, places}
 use Rattle.lt_live.specs.Stations.{StationData, StationTurns}
-use Rattle.lt_live_c.specs.declared.code.TheConstants.{OK, NOTHING, LOG_FULL, NO_MEMORY, BAD_ARGUMENT, SPENT, FULL}
+use Rattle.lt_live_c.specs.declared.code.TheConstants.{OK, NOTHING, WRONG_HANDLE, LOG_FULL, NO_MEMORY, BAD_ARGUMENT, SPENT, FULL}
 use Rattle.lt_live_c.specs.declared.content.Content.{Content}
 use Rattle.lt_live_c.specs.declared.content.Content.TheVariants as contents
 
@@ -132,6 +132,20 @@ PollEnds code was count s t = HasNoReply code was count s t ⊎ ((reply : Reply)
 pub record Polls (code was count : ℕ) (s t : Session) : Type 0 where
   pub ends : PollEnds code was count s t
   pub commands : (submitted t ≡ submitted s) × (t.left ≡ s.left)
+
+-- C is told the number, or that there is none
+abbrev pub TellsNumber : Option ℕ → ℕ → ℕ → ℕ → Type 0
+TellsNumber None code was number = (code ≡ NOTHING) × (number ≡ was)
+TellsNumber (Some found) code was number = (code ≡ OK) × (number ≡ found)
+
+-- the number of the session's set with this name
+abbrev pub TellsSet : Content → List ℕ → ℕ → ℕ → ℕ → Type 0
+TellsSet (contents.Session s) name code was set = TellsNumber (set_number s.script name) code was set
+TellsSet other name code was set = (code ≡ WRONG_HANDLE) × (set ≡ was)
+
+abbrev pub HandleTellsSet : Option Content → List ℕ → ℕ → ℕ → ℕ → Type 0
+HandleTellsSet None name code was set = ⊤
+HandleTellsSet (Some content) name code was set = TellsSet content name code was set
 
 -- how many commands may still be submitted; 0 where it is no session
 abbrev pub left_in : Content → ℕ

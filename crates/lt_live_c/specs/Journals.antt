@@ -1,25 +1,22 @@
 -- The journal of a service's run.
-use Rattle.std.specs.Prelude.{◌≡◌, ℕ, ◌-◌, ◌++◌, ◌⊎◌, Bool, true, false, List, [], Option, Some, None, min, length, take, drop, count_by, ⊤, ◌&&◌, Ok, Err, nat_le, nat_lt, map}
+use Rattle.std.specs.Prelude.{◌≡◌, ◌<◌, ℕ, ◌-◌, ◌++◌, ◌⊎◌, Bool, true, false, List, [], Option, Some, None, min, length, take, drop, count_by, ⊤, map}
 use Rattle.lt_modes.specs.Script.{ScriptData}
 use Rattle.lt_spec.specs.World.{Logged}
-use Rattle.lt_spec.specs.declared.moves.TheConstants.{MAX_MOVES_OF_SERVICE}
-use Rattle.lt_spec.specs.declared.limits.TheConstants.{MAX_COMMANDS}
+use Rattle.lt_spec.specs.declared.limits.TheConstants.{MAX_SETS}
+use Rattle.lt_spec.specs.Script.{IsShort}
 use Rattle.lt_script.specs.Printing.{print_of}
-use Rattle.lt_script.specs.declared.fault.ScriptFault.{ScriptFault}
-use Rattle.lt_script.specs.Reading.{read_of}
 use Rattle.lt_journal.specs.declared.line.Line.{Line}
 use Rattle.lt_journal.specs.declared.line.Line.TheVariants.{Held, Waiting}
 use Rattle.lt_journal.specs.RunLines.{closing_lines, text_of}
 use Rattle.lt_live.specs.Live.{AreLive, IsServedRun}
 use Rattle.lt_threads.specs.Meeting.{HaveAll, AreTooMany}
-use Rattle.lt_live.specs.Stations.{IsOpen, most_share, runner_of}
-use Rattle.lt_live_c.specs.declared.code.TheConstants.{OK, WRONG_HANDLE, NO_MEMORY, BAD_ARGUMENT, BAD_SCRIPT, FORGOTTEN, TOO_MANY}
+use Rattle.lt_live.specs.Stations.{runner_of}
+use Rattle.lt_live_c.specs.declared.code.TheConstants.{OK, WRONG_HANDLE, NO_MEMORY, FORGOTTEN, TOO_MANY}
 use Rattle.lt_live_c.specs.declared.journal.Journal.{Journal}
 use Rattle.lt_live_c.specs.declared.service.Service.{Service}
 use Rattle.lt_live_c.specs.declared.content.Content.{Content}
 use Rattle.lt_live_c.specs.declared.content.Content.TheVariants as contents
 use Rattle.lt_live_c.specs.Taking.{BothStand}
-use Rattle.lt_live_c.specs.declared.limits.TheConstants.{MAX_BYTES}
 
 -- the line says what is held at the end
 abbrev pub says_held : Line → Bool
@@ -38,11 +35,12 @@ pub record TellsOf (script : ScriptData) (run : List Logged) (journal : Journal)
   pub held : journal.held ≡ count_by says_held (closing_lines script run None)
   pub waiting : journal.waiting ≡ count_by says_waiting (closing_lines script run None)
 
--- it tells of a run by the rules, in which each client's commands are a first part of those that its session submitted, and what
--- the session polled is a first part of its replies
+-- it tells of a run by the rules, in which each client's commands are a first part of those that its session submitted, and
+-- what the session polled is a first part of its replies; the text of its script can be read
 abbrev pub IsJournalOfService : Service → Journal → Type 0
 IsJournalOfService s journal = (first : ScriptData) → AreLive first s.stations.items s.sessions.items
-    → (script : ScriptData) × (run : List Logged) × IsServedRun first s.sessions.items script run × TellsOf script run journal
+    → (script : ScriptData) × (run : List Logged) × IsServedRun first s.sessions.items script run × IsShort script
+    × TellsOf script run journal
 
 abbrev pub JournalIsOf : Content → Content → Type 0
 JournalIsOf (contents.Service s) (contents.Journal journal) = IsJournalOfService s journal
@@ -59,9 +57,13 @@ abbrev pub ServiceForgot : Content → Type 0
 ServiceForgot (contents.Service s) = SomeForgot s
 ServiceForgot other = ⊥
 
--- its stations have appended more commands together than the text of a script may have
+-- the script that they were opened for has more sets than the text of a script may have
+abbrev pub HasManySets : Service → Type 0
+HasManySets s = (first : ScriptData) → AreLive first s.stations.items s.sessions.items → MAX_SETS < length first.sets
+
+-- its stations have appended more commands together than the text of a script may have, or it has more sets
 abbrev pub HaveTooMany : Service → Type 0
-HaveTooMany s = AreTooMany (map runner_of s.stations.items)
+HaveTooMany s = AreTooMany (map runner_of s.stations.items) ⊎ HasManySets s
 
 abbrev pub ServiceHasTooMany : Content → Type 0
 ServiceHasTooMany (contents.Service s) = HaveTooMany s
@@ -108,25 +110,3 @@ TellsEnd other code was held waited waiting = (code ≡ WRONG_HANDLE) × (held �
 abbrev pub HandleTellsEnd : Option Content → ℕ → ℕ → ℕ → ℕ → ℕ → Type 0
 HandleTellsEnd None code was held waited waiting = ⊤
 HandleTellsEnd (Some content) code was held waited waiting = TellsEnd content code was held waited waiting
-
--- What is opened.
-
--- the numbers are in range, and the text isn't too long
-abbrev pub fits_for_c : List ℕ → ℕ → ℕ → Bool
-fits_for_c text limit places =
-    nat_le (length text) MAX_BYTES && ((nat_lt 0 limit && nat_le limit MAX_MOVES_OF_SERVICE) && (nat_lt 0 places && nat_le places MAX_COMMANDS))
-
--- the stations and sessions of the script that the text denotes, without its commands
-abbrev pub IsOpenedFrom : List ℕ → ℕ → ℕ → Service → Type 0
-IsOpenedFrom text limit places s = (script : ScriptData) × (read_of text ≡ Ok script)
-    × IsOpen (record script { commands = [] }) limit places (most_share script) s.stations.items s.sessions.items
-
-abbrev pub HandleOpened : List ℕ → ℕ → ℕ → Option Content → Type 0
-HandleOpened text limit places (Some (contents.Service s)) = IsOpenedFrom text limit places s
-HandleOpened text limit places other = ⊥
-
--- why nothing was opened
-pub record OpenRefused (code : ℕ) (text : List ℕ) (limit places : ℕ) : Type 0 where
-  pub bad_argument : code ≡ BAD_ARGUMENT → fits_for_c text limit places ≡ false
-  pub bad_script : code ≡ BAD_SCRIPT → (fault : ScriptFault) × (read_of text ≡ Err fault)
-  pub only : (code ≡ BAD_ARGUMENT) ⊎ ((code ≡ BAD_SCRIPT) ⊎ (code ≡ NO_MEMORY))

@@ -1,8 +1,11 @@
 pub mod Handles
 pub mod Calls
+pub mod NewSets
+pub mod Opening
 pub mod Taking
 pub mod Forgetting
 pub mod Journals
 pub mod Serving
 pub mod Told
 pub mod ServicesTold
+pub mod SetsTold

@@ -22,7 +22,8 @@ use Rattle.lt_live_c.specs.declared.content.Content.TheVariants as contents
 use Rattle.lt_live_c.specs.declared.journal.Journal.{Journal}
 use Rattle.lt_live_c.specs.declared.service.Service.{Service}
 use Rattle.lt_live_c.specs.Taking.{IsWholeHandle, IsOfOther, HandleTakesStation, HandleTakesSession, HandleHasNoStation, HandleHasNoSession, HandleGives, HandleKeeps, HandleGiveRefused}
-use Rattle.lt_live_c.specs.Journals.{HandleOpened, OpenRefused, HandleFinishes, HandleNotFinished, TellsOf, HandleTellsEnd, CopiesFrom, text_of_content, script_at}
+use Rattle.lt_live_c.specs.Opening.{HandleOpened, OpenRefused}
+use Rattle.lt_live_c.specs.Journals.{HandleFinishes, HandleNotFinished, TellsOf, HandleTellsEnd, CopiesFrom, text_of_content, script_at}
 use Rattle.lt_live_c.specs.Serving.{HandleTellsServed, HandleNotTold, IsWholeHandleIfAll}
 use Rattle.lt_live_c.specs.Told.{kind_of}
 
@@ -172,6 +173,9 @@ pub record FinishesTold : Type 0 where
       → AreLive first s.stations.items s.sessions.items → HandleFinishes (Some (contents.Service s)) new
       → OfJournal new (λ journal. (script : ScriptData) × (run : List Logged)
       × IsServedRun first s.sessions.items script run × TellsOf script run journal)
+  pub read_back : (first : ScriptData) (s : Service) (new : Option Content)
+      → AreLive first s.stations.items s.sessions.items → HandleFinishes (Some (contents.Service s)) new
+      → OfJournal new (λ journal. (script : ScriptData) × (read_of journal.script.items ≡ Ok script))
   pub never_finished : (content : Content) (new : Option Content) → kind_of content ≢ 0
       → HandleFinishes (Some content) new → ⊥
   pub script : (script : ScriptData) (run : List Logged) (journal : Journal)
@@ -183,7 +187,9 @@ pub record FinishesTold : Type 0 where
   pub forgotten : (s : Service) → HaveAll (map runner_of s.stations.items)
       → HandleNotFinished 9 (Some (contents.Service s)) → ⊥
   pub forgotten_of_others : (content : Content) → kind_of content ≢ 0 → HandleNotFinished 9 (Some content) → ⊥
-  pub too_many : (s : Service) → HandleNotFinished 10 (Some (contents.Service s)) → AreTooMany (map runner_of s.stations.items)
+  pub too_many : (first : ScriptData) (s : Service) → AreLive first s.stations.items s.sessions.items
+      → HandleNotFinished 10 (Some (contents.Service s))
+      → AreTooMany (map runner_of s.stations.items) ⊎ (8 < length first.sets)
   pub too_many_of_others : (content : Content) → kind_of content ≢ 0 → HandleNotFinished 10 (Some content) → ⊥
   pub finish_codes : (code : ℕ) (content : Content) → HandleNotFinished code (Some content)
       → (code ≡ 2) ⊎ ((code ≡ 3) ⊎ ((code ≡ 9) ⊎ (code ≡ 10)))

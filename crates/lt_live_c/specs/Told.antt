@@ -15,7 +15,7 @@ use Rattle.lt_live.specs.declared.reply.Reply.TheVariants as replies
 use Rattle.lt_live.specs.Live.{StationGoesOn}
 use Rattle.lt_live.specs.Stations.{StationData, StationTurns}
 use Rattle.lt_live.specs.Words.{submitted, polled, known_replies, SameSession}
-use Rattle.lt_live_c.specs.declared.code.TheConstants.{OK, NOTHING, WRONG_HANDLE, NO_MEMORY, BAD_ARGUMENT, BAD_SCRIPT, SPENT, FULL, LOG_FULL, FORGOTTEN, TOO_MANY}
+use Rattle.lt_live_c.specs.declared.code.TheConstants.{OK, NOTHING, WRONG_HANDLE, NO_MEMORY, BAD_ARGUMENT, BAD_SCRIPT, SPENT, FULL, LOG_FULL, FORGOTTEN, TOO_MANY, BAD_SET}
 use Rattle.lt_live_c.specs.declared.content.Content.{Content}
 use Rattle.lt_live_c.specs.declared.content.Content.TheVariants as contents
 use Rattle.lt_live_c.specs.declared.journal.Journal.{Journal}
@@ -38,6 +38,7 @@ pub record CallCodesAre : Type 0 where
   pub log_full : LOG_FULL ≡ 8
   pub forgotten : FORGOTTEN ≡ 9
   pub too_many : TOO_MANY ≡ 10
+  pub bad_set : BAD_SET ≡ 11
   pub bytes : MAX_BYTES ≡ 1048576
 
 -- the reply's number, and what stands in the count after it where 9 stood there

@@ -1,10 +1,11 @@
 // What the calls on stations and sessions do with what a handle stands for.
 ghost use Rattle.std.specs.Prelude.{◌≡◌};
+ghost use Rattle.lt_spec.specs.Script.{set_number};
 ghost use Rattle.lt_live.specs.Words.{SameSession};
 ghost use Rattle.lt_live.specs.Live.{StationGoesOn};
 ghost use Rattle.lt_live_c.specs.Taking.{ContentGoesOn, OnStation, OnSession};
 ghost use Rattle.lt_live_c.specs.Forgetting.{ForgetsStation};
-ghost use Rattle.lt_live_c.specs.Calls.{TurnsStation, Submits, Polls, left_in, client_of, home_of_content};
+ghost use Rattle.lt_live_c.specs.Calls.{TurnsStation, Submits, Polls, left_in, client_of, home_of_content, TellsSet, TellsNumber};
 
 use crate::code::{
     BAD_ARGUMENT, FULL, NO_MEMORY, NOTHING, OK, SPENT, WRONG_HANDLE, number_of_reply,
@@ -107,6 +108,28 @@ fn poll_from(session: &mut Session, count: &mut u64) -> u32
 {
     match session.poll() {
         Some(reply) => number_of_reply(reply, count),
+        None => NOTHING,
+    }
+}
+
+/// Tells the number of the session's set with this name.
+pub fn tell_set(content: &Content, name: &[u8], set: &mut u32) -> u32
+    ensures { TellsSet content.now name.now result set.old set.new }
+{
+    match content {
+        Content::Session(session) => tell_set_of(session, name, set),
+        _ => WRONG_HANDLE,
+    }
+}
+
+fn tell_set_of(session: &Session, name: &[u8], set: &mut u32) -> u32
+    ensures { TellsNumber (set_number session.now.script name.now) result set.old set.new }
+{
+    match session.set(name) {
+        Some(number) => {
+            *set = number;
+            OK
+        }
         None => NOTHING,
     }
 }

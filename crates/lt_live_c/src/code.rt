@@ -33,8 +33,11 @@ pub const LOG_FULL: u32 = 8;
 /// Some station has forgotten moves or commands.
 pub const FORGOTTEN: u32 = 9;
 
-/// The stations have appended more commands together than the text of a script may have.
+/// There are more commands or sets than the text of a script may have, or more sets than a service may have.
 pub const TOO_MANY: u32 = 10;
+
+/// A further set has no new name, or its parent is no set.
+pub const BAD_SET: u32 = 11;
 
 /// How a turn ended.
 pub fn number_of_turn(turned: Turned) -> u32

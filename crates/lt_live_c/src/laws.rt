@@ -1,6 +1,9 @@
 // What the calls' contracts say, in literals.
 ghost use Rattle.lt_live_c.specs.Told.{CallCodesAre, ReplyNumbersAre, ModeNumbersAre, CommandNumbersAre, TurnsTold, ForgetsTold, SubmitsTold, PollsTold, KindsTold, AsksTold};
 ghost use Rattle.lt_live_c.specs.ServicesTold.{TakesTold, GivesTold, OpensTold, FinishesTold, CopiesTold, ServedTold};
+ghost use Rattle.lt_live_c.specs.SetsTold.{NamesTold, OpensSetsTold};
+
+use lt_script::law_print;
 
 /// What C is told, by the numbers of `clients/c/lockrun.h`: what follows from each code of a call, field by field.
 ///
@@ -22,4 +25,8 @@ pub fn law_c_told()
     ensures finishes { FinishesTold }
     ensures copies { CopiesTold }
     ensures served { ServedTold }
-{}
+    ensures names { NamesTold }
+    ensures opens_sets { OpensSetsTold }
+{
+    law_print();
+}

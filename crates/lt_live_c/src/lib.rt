@@ -13,6 +13,7 @@ mod journal;
 mod journals;
 mod laws;
 mod limits;
+mod new_sets;
 mod parts;
 mod service;
 mod services;

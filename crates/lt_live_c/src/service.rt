@@ -1,19 +1,23 @@
 // The stations and sessions of a script, until they are taken, and after they are given back.
-ghost use Rattle.std.specs.Prelude.{◌≡◌, ◌≢◌, ◌<◌, ◌≤◌, ◌∷◌, ◌++◌, [], drop, slice_get, IfOk, IfErr, IfSome, IfNone, OnOk};
+ghost use Rattle.std.specs.Prelude.{◌≡◌, ◌<◌, ◌≤◌, ◌-◌, ◌^◌, [], Ok, Some, length, map, IfOk, IfErr, IfSome, IfNone};
 ghost use Rattle.lt_spec.specs.declared.moves.TheConstants.{MAX_MOVES_OF_SERVICE};
 ghost use Rattle.lt_spec.specs.declared.limits.TheConstants.{MAX_COMMANDS};
+ghost use Rattle.lt_script.specs.Reading.{read_of};
 ghost use Rattle.lt_live.specs.Stations.{IsOpen, most_share};
 ghost use Rattle.lt_live.specs.Live.{LiveScript};
 ghost use Rattle.lt_live.specs.declared.finishing.FinishError.TheVariants as errors;
-ghost use Rattle.lt_live_c.specs.Journals.{IsOpenedFrom, OpenRefused, fits_for_c, IsJournalOfService, SomeForgot, HaveTooMany};
+ghost use Rattle.lt_live_c.specs.Journals.{IsJournalOfService, SomeForgot, HaveTooMany};
+ghost use Rattle.lt_live_c.specs.NewSets.{set_words, with_sets};
+ghost use Rattle.lt_live_c.specs.Opening.{IsOpenedFrom, OpenRefused, IsOpenedWith, OpenSetsRefused, IsOpenedOf, fits_for_c, TextRefused, SetsRefused};
 ghost use Rattle.lt_live_c.specs.Serving.{has_all};
 ghost use Rattle.lt_live_c.specs.Taking.{TakesFirstStation, TakesFirstSession};
 
-use crate::code::{BAD_ARGUMENT, BAD_SCRIPT, NO_MEMORY};
+use crate::code::{BAD_ARGUMENT, BAD_SCRIPT, BAD_SET, NO_MEMORY, TOO_MANY};
 use crate::journal::Journal;
 use crate::limits::MAX_BYTES;
+use crate::new_sets::{NewSet, add_sets};
 use lt_live::{FinishError, Session, Station, finish, law_live_lasts, most_share, open};
-use lt_script::{MAX_COMMANDS, ReadError, Script};
+use lt_script::{MAX_COMMANDS, MAX_SETS, MAX_SETS_OF_SERVICE, ReadError, Script};
 use lt_spec::MAX_MOVES_OF_SERVICE;
 use std::alloc::{AllocError, Global};
 
@@ -34,11 +38,42 @@ impl Service {
         if !fits(text, limit, places) {
             return Err(BAD_ARGUMENT);
         }
-        let script = match lt_script::read(alloc, text) {
-            Ok(script) => script,
-            Err(ReadError::Memory) => return Err(NO_MEMORY),
-            Err(ReadError::Fault(_)) => return Err(BAD_SCRIPT),
-        };
+        let script = script_in(alloc, text)?;
+        let service = Service::start(alloc, &script, limit, places)?;
+        Ok(service)
+    }
+
+    /// The same of the script with further sets.
+    #[tactic(auto, using(crate::proofs::Fitting::limit_fits, crate::proofs::Fitting::places_fit, crate::proofs::Fitting::length_fits))]
+    pub fn open_sets(
+        alloc: Global,
+        text: &[u8],
+        sets: &[NewSet<'_>],
+        limit: u64,
+        places: u32,
+    ) -> Result<Service, u32>
+        ensures opened { IfOk result (λ s. IsOpenedWith text.now (map set_words sets.now) limit places s) }
+        ensures whole { IfOk result (λ s. LiveScript s.stations.items s.sessions.items) }
+        ensures refused { IfErr result (λ code.
+            OpenSetsRefused code text.now (map set_words sets.now) limit places) }
+    {
+        if !fits(text, limit, places) {
+            return Err(BAD_ARGUMENT);
+        }
+        let script = script_in(alloc, text)?;
+        let script = with_sets(script, sets)?;
+        let service = Service::start(alloc, &script, limit, places)?;
+        Ok(service)
+    }
+
+    // The stations and sessions of the script, without its commands.
+    fn start(alloc: Global, script: &Script, limit: u64, places: u32) -> Result<Service, u32>
+        requires limit { (0 < limit) × (limit ≤ MAX_MOVES_OF_SERVICE) }
+        requires places { (0 < places) × (places ≤ MAX_COMMANDS) }
+        ensures opened { IfOk result (λ s. IsOpenedOf script.now limit places s) }
+        ensures whole { IfOk result (λ s. LiveScript s.stations.items s.sessions.items) }
+        ensures refused { IfErr result (λ code. code ≡ NO_MEMORY) }
+    {
         let Ok(script) = script.without_commands(alloc) else {
             return Err(NO_MEMORY);
         };
@@ -69,6 +104,9 @@ impl Service {
         ensures many { IfErr result (λ error. error ≡ errors.TooMany → HaveTooMany self) }
     {
         let (script, run) = finish(alloc, self.stations, self.sessions)?;
+        if script.sets() > MAX_SETS {
+            return Err(FinishError::TooMany);
+        }
         let journal = Journal::of(alloc, &script, &run)?;
         Ok(journal)
     }
@@ -105,6 +143,35 @@ impl Service {
         } else {
             Some(self.sessions.remove(0))
         }
+    }
+}
+
+// The script that the text denotes.
+fn script_in(alloc: Global, text: &[u8]) -> Result<Script, u32>
+    requires { length text.now < 2 ^ 32 - 1 }
+    ensures read { IfOk result (λ script. read_of text.now ≡ Ok script) }
+    ensures refused { IfErr result (λ code. TextRefused code text.now) }
+{
+    match lt_script::read(alloc, text) {
+        Ok(script) => Ok(script),
+        Err(ReadError::Memory) => Err(NO_MEMORY),
+        Err(ReadError::Fault(_)) => Err(BAD_SCRIPT),
+    }
+}
+
+// The script with these sets behind its own.
+fn with_sets(mut script: Script, sets: &[NewSet<'_>]) -> Result<Script, u32>
+    ensures sets { IfOk result (λ made. with_sets script (map set_words sets.now) ≡ Some made) }
+    ensures refused { IfErr result (λ code. SetsRefused code (map set_words sets.now) script) }
+{
+    let room = MAX_SETS_OF_SERVICE - script.sets();
+    if sets.len() > room as usize {
+        return Err(TOO_MANY);
+    }
+    match add_sets(&mut script, sets) {
+        Ok(true) => Ok(script),
+        Ok(false) => Err(BAD_SET),
+        Err(_) => Err(NO_MEMORY),
     }
 }
 

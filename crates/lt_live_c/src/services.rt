@@ -1,14 +1,17 @@
 // The calls on services.
-ghost use Rattle.std.specs.Prelude.{◌≡◌, ◌≢◌, None, IsSome};
+ghost use Rattle.std.specs.Prelude.{◌≡◌, ◌≢◌, None, IsSome, map};
 ghost use Rattle.lt_live_c.specs.Taking.{IsWholeHandle, IsOfOther, HandleTakesStation, HandleTakesSession, HandleHasNoStation, HandleHasNoSession, HandleGives, HandleKeeps, HandleGiveRefused};
 ghost use Rattle.lt_live_c.specs.Serving.{IsWholeHandleIfAll, HandleTellsServed, HandleNotTold};
-ghost use Rattle.lt_live_c.specs.Journals.{HandleOpened, OpenRefused, HandleFinishes, HandleNotFinished};
+ghost use Rattle.lt_live_c.specs.NewSets.{set_words};
+ghost use Rattle.lt_live_c.specs.Opening.{HandleOpened, OpenRefused, HandleOpenedWith, OpenSetsRefused};
+ghost use Rattle.lt_live_c.specs.Journals.{HandleFinishes, HandleNotFinished};
 
 use crate::boxes::{put, room, take};
 use crate::code::{FORGOTTEN, NO_MEMORY, OK, TOO_MANY, WRONG_HANDLE};
 use crate::content::Content;
 use crate::handle::Handle;
 use crate::journal::Journal;
+use crate::new_sets::NewSet;
 use crate::service::Service;
 use crate::serving::tell_served;
 use crate::taking::{give_back, journal_of, next_session, next_station, stands_for_service};
@@ -34,6 +37,30 @@ pub extern "C" fn lockrun_open(
         return NO_MEMORY;
     };
     match Service::open(alloc, text, limit, places) {
+        Ok(opened) => put(room, Content::Service(opened), service),
+        Err(code) => code,
+    }
+}
+
+/// Opens the script with further sets: `service` stands for its stations and sessions.
+#[unsafe(no_mangle)]
+pub extern "C" fn lockrun_open_sets(
+    alloc: Global,
+    text: &[u8],
+    sets: &[NewSet<'_>],
+    limit: u64,
+    places: u32,
+    service: &mut Handle,
+) -> u32
+    ensures opened { result ≡ OK → HandleOpenedWith text.now (map set_words sets.now) limit places service.new.value }
+    ensures whole { result ≡ OK → IsWholeHandle service.new.value }
+    ensures keeps { result ≢ OK → service.new.value ≡ service.old.value }
+    ensures refused { result ≢ OK → OpenSetsRefused result text.now (map set_words sets.now) limit places }
+{
+    let Ok(room) = room(alloc) else {
+        return NO_MEMORY;
+    };
+    match Service::open_sets(alloc, text, sets, limit, places) {
         Ok(opened) => put(room, Content::Service(opened), service),
         Err(code) => code,
     }
@@ -145,8 +172,8 @@ pub extern "C" fn lockrun_served(
 }
 
 /// Ends the service, all of whose stations and sessions were given back in order: `journal` stands for what they did.
-/// Without memory, where a station has forgotten moves or commands, or where there are more commands than the text of a
-/// script may have, all is dropped.
+/// Without memory, where a station has forgotten moves or commands, or where there are more commands or sets than the
+/// text of a script may have, all is dropped.
 #[unsafe(no_mangle)]
 pub extern "C" fn lockrun_finish(alloc: Global, service: &mut Handle, journal: &mut Handle) -> u32
     requires some { IsSome service.old.value }

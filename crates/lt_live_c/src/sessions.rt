@@ -2,7 +2,7 @@
 ghost use Rattle.std.specs.Prelude.{◌≡◌, IsSome};
 ghost use Rattle.lt_live_c.specs.Taking.{HandleGoesOn, AtStation, AtSession};
 ghost use Rattle.lt_live_c.specs.Forgetting.{ForgetsStation};
-ghost use Rattle.lt_live_c.specs.Calls.{TurnsStation, Submits, Polls, left_at, client_in, home_in, command_numbered as the_command};
+ghost use Rattle.lt_live_c.specs.Calls.{TurnsStation, Submits, Polls, left_at, client_in, home_in, HandleTellsSet, command_numbered as the_command};
 
 use crate::boxes::take;
 use crate::calls;
@@ -71,6 +71,24 @@ pub extern "C" fn lockrun_poll(alloc: Global, session: &mut Handle, count: &mut 
 {
     let mut inside = take(alloc, session);
     let code = calls::poll(&mut inside, count);
+    *session = Handle::of(inside);
+    code
+}
+
+/// Tells the number of the set with this name.
+#[unsafe(no_mangle)]
+pub extern "C" fn lockrun_set(
+    alloc: Global,
+    session: &mut Handle,
+    name: &[u8],
+    set: &mut u32,
+) -> u32
+    requires { IsSome session.old.value }
+    ensures keeps { session.new.value ≡ session.old.value }
+    ensures tells { HandleTellsSet session.old.value name.now result set.old set.new }
+{
+    let inside = take(alloc, session);
+    let code = calls::tell_set(&inside, name, set);
     *session = Handle::of(inside);
     code
 }

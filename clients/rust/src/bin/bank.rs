@@ -19,7 +19,7 @@ const BETWEEN: usize = 100;
 const COMMANDS: usize = 6;
 
 /// The set that stands for the whole bank. An account's set has the number after the account's.
-const BANK: u8 = 0;
+const BANK: u32 = 0;
 
 /// Plain words: nothing but the locks keeps callers apart.
 struct Money([UnsafeCell<i64>; ACCOUNTS]);
@@ -49,8 +49,8 @@ fn script(callers: usize, nodes: usize) -> String {
 // Locks the accounts in order, so that no callers wait for each other in a ring.
 fn transfer(session: &mut Session, money: &Money, from: usize, to: usize) -> Result<(), Error> {
     let mut bank = session.lock(BANK, Mode::IntentionWrite)?;
-    let mut lesser = bank.and(1 + from.min(to) as u8, Mode::Write)?;
-    let _greater = lesser.and(1 + from.max(to) as u8, Mode::Write)?;
+    let mut lesser = bank.and(1 + from.min(to) as u32, Mode::Write)?;
+    let _greater = lesser.and(1 + from.max(to) as u32, Mode::Write)?;
     let (in_from, in_to) = (money.get(from), money.get(to));
     yield_now();
     money.set(from, in_from - AMOUNT);

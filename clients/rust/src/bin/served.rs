@@ -1,6 +1,6 @@
 //! What sessions were served so far: before anything, while a client waits, and at the end; and of other sessions than all
-//! nothing is told. Nodes that forget in the middle go on, and have no journal.
-use lockrun::{open, Error, Mode, Served};
+//! nothing is told. Nodes that forget in the middle go on, and have no journal; so do those of 65,536 sets.
+use lockrun::{open, open_sets, Error, Mode, NewSet, Served};
 use std::time::Duration;
 
 fn forgetful(script: &str) -> Result<(), Error> {
@@ -14,6 +14,24 @@ fn forgetful(script: &str) -> Result<(), Error> {
     nodes.forget()?;
     assert_eq!(nodes.served(&mut sessions)?, Served { submitted: 4, polled: 4 });
     assert_eq!(nodes.finish(sessions).err(), Some(Error::Forgotten));
+    Ok(())
+}
+
+fn many_sets() -> Result<(), Error> {
+    let script = "nodes 1\nset a\nclient ann at 0\n";
+    let names: Vec<String> = (1..65_536).map(|k| format!("s{k}")).collect();
+    let mut sets: Vec<NewSet> = names.iter().map(|name| NewSet { name, parent: None }).collect();
+    sets[1].parent = Some("s1");
+    let (nodes, mut sessions) = open_sets(script, &sets, 1 << 20)?;
+    assert_eq!(sessions[0].set("b"), None);
+    assert_eq!(sessions[0].set("s65535"), Some(65_535));
+    std::mem::forget(sessions[0].lock(2, Mode::Write)?);
+    drop(sessions[0].lock(65_535, Mode::Write)?);
+    assert_eq!(sessions[0].drop_locks(1, 0)?, 1);
+    assert_eq!(nodes.finish(sessions).err(), Some(Error::TooMany));
+    sets.push(NewSet { name: "b", parent: None });
+    assert_eq!(open_sets(script, &sets, 1 << 20).err(), Some(Error::TooMany));
+    assert_eq!(open_sets(script, &[NewSet { name: "a", parent: None }], 1 << 20).err(), Some(Error::BadSet));
     Ok(())
 }
 
@@ -34,6 +52,7 @@ fn main() -> Result<(), Error> {
     assert_eq!(nodes.served(&mut sessions)?, Served { submitted: 4, polled: 4 });
     nodes.finish(sessions)?;
     forgetful(script)?;
+    many_sets()?;
     println!("served: it is as it should be");
     Ok(())
 }

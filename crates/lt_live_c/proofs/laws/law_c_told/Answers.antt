@@ -4,6 +4,7 @@ use Rattle.lt_live_c.proofs.KindsOpened.{kinds_told, asks_told}
 use Rattle.lt_live_c.proofs.TakingOpened.{takes_told, gives_told}
 use Rattle.lt_live_c.proofs.ServicesOpened.{opens_told, finishes_told, copies_told}
 use Rattle.lt_live_c.proofs.ServingOpened.{served_told}
+use Rattle.lt_live_c.proofs.SetsOpened.{names_told, opens_sets_told}
 use Rattle.lt_live_c.proofs.laws.law_c_told.Goals as goal
 
 pub returns : goal.returns
@@ -21,7 +22,9 @@ returns c = record {
   takes = takes_told;
   gives = gives_told;
   opens = opens_told;
-  finishes = finishes_told;
+  finishes = finishes_told c.law_print.ensures;
   copies = copies_told;
   served = served_told;
+  names = names_told;
+  opens_sets = opens_sets_told;
 }
