@@ -9,3 +9,4 @@ pub mod MarkLemmas
 pub mod OwnLemmas
 pub mod TouchLemmas
 pub mod AddedLemmas
+pub mod TouchedLemmas

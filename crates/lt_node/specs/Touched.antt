@@ -1,16 +1,18 @@
 -- Which sets a command touches, and what has to be free there before it is made.
-use Rattle.std.specs.Prelude.{ℕ, Bool, true, List, [], ◌∷◌, Option, None, Some, All, sum_by, ◌+◌, ◌&&◌, nat_le}
+use Rattle.std.specs.Prelude.{ℕ, Bool, true, List, [], ◌∷◌, Option, None, Some, All, sum_by, ◌+◌, ◌&&◌, nat_le, if◌then◌else◌}
 use Rattle.std.specs.List.{list_all}
 use Rattle.lt_modes.specs.declared.command.Command.{Command}
 use Rattle.lt_modes.specs.declared.command.Command.TheVariants as commands
 use Rattle.lt_modes.specs.Script.{ScriptData}
 use Rattle.lt_modes.specs.State.{Letter}
+use Rattle.lt_modes.specs.Modes.{locks_of}
 use Rattle.lt_spec.specs.NodeMove.{NodeState, next_command, related, set_within, leaves_ask, locks_in_sets}
 use Rattle.lt_spec.specs.declared.limits.TheConstants.{MAX_COMMANDS_OF_SERVICE}
 use Rattle.lt_desk.specs.DeskData.{OutData}
 use Rattle.lt_core.specs.CoreData.{HasMemory}
 use Rattle.lt_core.specs.Bound.{RoomToSend}
-use Rattle.lt_node.specs.NodeData.{NodeData, core_at, state_of, most_sent}
+use Rattle.lt_node.specs.NodeData.{NodeData, core_at, state_of, most_sent, HasFewAsks}
+use Rattle.lt_node.specs.Sets.{SetsData, core_in}
 
 -- the set that the command names, and for a drop all sets of its family
 abbrev pub touched_sets : ScriptData → Command → List ℕ
@@ -19,6 +21,14 @@ touched_sets script (commands.Try s mode) = s ∷ []
 touched_sets script (commands.Unlock s mode) = s ∷ []
 touched_sets script (commands.Change s gives_up mode) = s ∷ []
 touched_sets script (commands.DropAll other s) = related script s
+
+-- the set that the command names
+abbrev pub named_set : Command → ℕ
+named_set (commands.Lock s mode) = s
+named_set (commands.Try s mode) = s
+named_set (commands.Unlock s mode) = s
+named_set (commands.Change s gives_up mode) = s
+named_set (commands.DropAll other s) = s
 
 abbrev pub touched_by : ScriptData → Option Command → List ℕ
 touched_by script None = []
@@ -60,7 +70,34 @@ leaves_room_to_act script n client = leaves_room_to_obey script n (next_command 
 abbrev pub leaves_room_to_take : NodeState → Letter → Bool
 leaves_room_to_take n letter = set_within n.clock (n.set letter.set)
 
+-- The same set by set.
+
+-- what the node keeps for the set leaves room for a command
+abbrev pub leaves_room_in : NodeState → ℕ → Bool
+leaves_room_in n s = set_within n.clock (n.set s) && leaves_ask (n.set s)
+
+-- so many locks and those that the client has in the set, where all of them may be dropped there
+abbrev pub with_dropped : NodeState → ℕ → ℕ → ℕ → Option ℕ
+with_dropped n s client locks =
+    if leaves_room_in n s && nat_le (locks + locks_of (n.set s).held client) MAX_COMMANDS_OF_SERVICE
+    then Some (locks + locks_of (n.set s).held client)
+    else None
+
+-- Memory.
+
 -- room for the client's next command: in each set that it touches, and for what they all send, with a line of its own
 pub record RoomToAct (client : ℕ) (n : NodeData) (out : OutData) : Type 0 where
   pub cores : All (λ s. HasMemory 0 (core_at n s)) (touches n.script (state_of n) client)
   pub send : RoomToSend (sum_by (λ s. most_sent (core_at n s)) (touches n.script (state_of n) client) + 1) out
+
+-- no more asks wait in each of these sets than a script has clients
+abbrev pub HaveFewAsks : SetsData → List ℕ → Type 0
+HaveFewAsks sets numbers = All (λ s. HasFewAsks (core_in sets s)) numbers
+
+-- each of them has memory for a move
+abbrev pub HaveMemory : SetsData → List ℕ → Type 0
+HaveMemory sets numbers = All (λ s. HasMemory 0 (core_in sets s)) numbers
+
+-- how many letters at most, and how many event lines, come from them
+abbrev pub sent_by : SetsData → List ℕ → ℕ
+sent_by sets numbers = sum_by (λ s. most_sent (core_in sets s)) numbers

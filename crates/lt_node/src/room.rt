@@ -1,81 +1,47 @@
-ghost use Rattle.std.specs.Prelude.{◌≡◌, ◌+◌, ◌≤◌, ◌<◌, ◌^◌, length, IfSome, IsOk, IsTrue, OnOk};
+// Memory for a move, before it is made: in the sets that it touches.
+ghost use Rattle.std.specs.Prelude.{◌≡◌, ◌≢◌, ◌+◌, ◌≤◌, ◌<◌, ◌^◌, ℕ, length, IfOk, IsOk, IsTrue, OnOk};
 ghost use Rattle.lt_modes.specs.Fits.{fits, numbers_of};
+ghost use Rattle.lt_spec.specs.NodeMove.{home, has_command, related};
+ghost use Rattle.lt_spec.specs.declared.limits.TheConstants.{MAX_SETS_OF_SERVICE};
 ghost use Rattle.lt_desk.specs.LetterSeen.{letter_seen, body_seen, asks_in};
 ghost use Rattle.lt_core.specs.Bound.{brought};
-ghost use Rattle.lt_spec.specs.NodeMove.{home, has_command, node_within};
-ghost use Rattle.lt_node.specs.NodeData.{SameNode, core_at, state_of, RoomToAct, RoomForNext, RoomInSet, RoomToTake, RoomForLetter, HasFewAsks, kept_of, next_set, touched_set};
+ghost use Rattle.lt_core.specs.CoreData.{HasMemory};
+ghost use Rattle.lt_node.specs.NodeData.{SameNode, RoomToTake, RoomForLetter, HasFewAsks, state_of, most_sent};
+ghost use Rattle.lt_node.specs.Sets.{SameSets, core_in};
+ghost use Rattle.lt_node.specs.Touched.{RoomToAct, HaveFewAsks, HaveMemory, leaves_room_to_act, leaves_room_to_take, touched_sets, named_set, sent_by};
 
 use crate::node::Node;
-use crate::ready::{forget, reserve_each};
-use lt_core::Core;
+use crate::sets::Sets;
 use lt_desk::{Body, Letter, Out};
 use lt_modes::Command;
+use lt_script::Script;
 use std::alloc::AllocError;
 
 impl Node {
-    /// Makes room for one command.
+    /// Makes room for the client's next command.
     #[inline(always)]
-    pub fn reserve(&mut self, out: &mut Out) -> Result<(), AllocError>
-        requires { IsTrue (node_within self.old.script (state_of self.old)) }
-        ensures node { SameNode self.old self.new }
-        ensures out { (out.new.posts ≡ out.old.posts) × (out.new.events ≡ out.old.events) }
-        ensures room { OnOk result (RoomToAct self.new out.new) }
-        ensures full { RoomToAct self.old out.old → IsOk result }
-        ensures same { RoomToAct self.old out.old → out.new ≡ out.old }
-    {
-        let all = reserve_each(&mut self.cores, &mut self.sent)?;
-        let sent = all + 1;
-        out.reserve(sent, sent)
-    }
-
-    /// Makes room for the client's next command: in the set that it names, and for a drop in all.
-    #[inline(always)]
-    pub fn reserve_next(&mut self, client: u16, out: &mut Out) -> Result<(), AllocError>
+    pub fn reserve(&mut self, client: u16, out: &mut Out) -> Result<(), AllocError>
         requires client { client < length self.old.script.clients }
         requires home { home self.old.script client ≡ self.old.me }
         requires left { IsTrue (has_command self.old.script (state_of self.old) client) }
-        requires within { IsTrue (node_within self.old.script (state_of self.old)) }
+        requires within { IsTrue (leaves_room_to_act self.old.script (state_of self.old) client) }
         ensures node { SameNode self.old self.new }
         ensures out { (out.new.posts ≡ out.old.posts) × (out.new.events ≡ out.old.events) }
-        ensures room { OnOk result (RoomForNext client self.new out.new) }
-        ensures full { RoomForNext client self.old out.old → IsOk result }
-        ensures same { RoomForNext client self.old out.old → out.new ≡ out.old }
+        ensures room { OnOk result (RoomToAct client self.new out.new) }
+        ensures full { RoomToAct client self.old out.old → IsOk result }
+        ensures same { RoomToAct client self.old out.old → out.new ≡ out.old }
     {
-        match self.set_of_next(client) {
-            Some(set) => self.reserve_in(set, out),
-            None => self.reserve(out),
-        }
-    }
-
-    // The set that the client's next command names, unless it is a drop.
-    fn set_of_next(&self, client: u16) -> Option<u8>
-        requires client { client < length self.now.script.clients }
-        requires home { home self.now.script client ≡ self.now.me }
-        requires left { IsTrue (has_command self.now.script (state_of self.now) client) }
-        ensures set { result ≡ next_set self.now.script (state_of self.now) client }
-        ensures inside { IfSome result (λ set. (set < length self.now.script.sets) × (set < length self.now.cores)) }
-    {
-        set_of(self.clients[usize::from(client)].upcoming())
-    }
-
-    // Makes room for one command at the set.
-    fn reserve_in(&mut self, set: u8, out: &mut Out) -> Result<(), AllocError>
-        requires set { set < length self.old.script.sets }
-        requires within { IsTrue (node_within self.old.script (state_of self.old)) }
-        ensures node { SameNode self.old self.new }
-        ensures out { (out.new.posts ≡ out.old.posts) × (out.new.events ≡ out.old.events) }
-        ensures room { OnOk result (RoomInSet (core_at self.new set) out.new) }
-        ensures full { RoomInSet (core_at self.old set) out.old → IsOk result }
-        ensures same { RoomInSet (core_at self.old set) out.old → out.new ≡ out.old }
-    {
-        forget(&mut self.sent, set);
-        reserve_core(&mut self.cores[usize::from(set)], out)
+        let command = self.clients[usize::from(client)].upcoming();
+        let touched = reserve_touched(&mut self.sets, self.script.kept(), command)?;
+        let sent = touched + 1;
+        out.reserve(sent, sent)
     }
 
     /// Makes room to take the letter, in its set and in the desk that it brings.
     pub fn reserve_for(&mut self, letter: &mut Letter, out: &mut Out) -> Result<(), AllocError>
-        requires fits { IsTrue (fits (numbers_of self.old.script) self.old.me self.old.clock ((state_of self.old).set letter.old.set) (letter_seen letter.old)) }
-        requires within { IsTrue (node_within self.old.script (state_of self.old)) }
+        requires fits { IsTrue (fits (numbers_of self.old.script) self.old.me self.old.clock
+            ((state_of self.old).set letter.old.set) (letter_seen letter.old)) }
+        requires within { IsTrue (leaves_room_to_take (state_of self.old) (letter_seen letter.old)) }
         ensures node { SameNode self.old self.new }
         ensures letter { letter_seen letter.new ≡ letter_seen letter.old }
         ensures out { (out.new.posts ≡ out.old.posts) × (out.new.events ≡ out.old.events) }
@@ -83,51 +49,83 @@ impl Node {
         ensures full { RoomToTake self.old letter.old out.old → IsOk result }
         ensures same { RoomToTake self.old letter.old out.old → out.new ≡ out.old }
     {
-        forget(&mut self.sent, letter.set);
-        reserve_for(&mut self.cores[usize::from(letter.set)], letter, out)
+        reserve_for(&mut self.sets, letter, out)
     }
 }
 
-// The set that the command names, unless it is a drop.
-fn set_of(command: Command) -> Option<u8>
-    ensures { result ≡ touched_set command }
+// Makes room in each set that the command touches, and says how many letters, and event lines, they may send.
+fn reserve_touched(sets: &mut Sets, script: &Script, command: Command) -> Result<u32, AllocError>
+    requires named { named_set command < length script.now.sets }
+    requires count { length sets.old.cores ≡ length script.now.sets }
+    requires few_sets { length script.now.sets ≤ MAX_SETS_OF_SERVICE }
+    requires few { HaveFewAsks sets.old (touched_sets script.now command) }
+    ensures same { SameSets sets.old sets.new }
+    ensures room { OnOk result (HaveMemory sets.new (touched_sets script.now command)) }
+    ensures sent { IfOk result (λ sent. sent ≡ sent_by sets.new (touched_sets script.now command)) }
+    ensures small { IfOk result (λ sent. sent + 1 < 2 ^ 32) }
+    ensures full { HaveMemory sets.old (touched_sets script.now command) → IsOk result }
 {
     match command {
         Command::Lock { set, .. }
         | Command::Try { set, .. }
         | Command::Unlock { set, .. }
-        | Command::Change { set, .. } => Some(set),
-        Command::DropAll { .. } => None,
+        | Command::Change { set, .. } => reserve_set(sets, set),
+        Command::DropAll { set, .. } => reserve_family(sets, script, set),
     }
 }
 
-// Makes room in a set for one command.
-fn reserve_core(core: &mut Core, out: &mut Out) -> Result<(), AllocError>
-    requires { HasFewAsks core.old }
-    ensures kept { kept_of core.new ≡ kept_of core.old }
-    ensures out { (out.new.posts ≡ out.old.posts) × (out.new.events ≡ out.old.events) }
-    ensures room { OnOk result (RoomInSet core.new out.new) }
-    ensures full { RoomInSet core.old out.old → IsOk result }
-    ensures same { RoomInSet core.old out.old → out.new ≡ out.old }
+// The same in the family of a set.
+fn reserve_family(sets: &mut Sets, script: &Script, set: u32) -> Result<u32, AllocError>
+    requires set { set < length script.now.sets }
+    requires count { length sets.old.cores ≡ length script.now.sets }
+    requires few_sets { length script.now.sets ≤ MAX_SETS_OF_SERVICE }
+    requires few { HaveFewAsks sets.old (related script.now set) }
+    ensures same { SameSets sets.old sets.new }
+    ensures room { OnOk result (HaveMemory sets.new (related script.now set)) }
+    ensures sent { IfOk result (λ sent. sent ≡ sent_by sets.new (related script.now set)) }
+    ensures small { IfOk result (λ sent. sent + 1 < 2 ^ 32) }
+    ensures full { HaveMemory sets.old (related script.now set) → IsOk result }
 {
-    core.reserve()?;
-    let sent = core.most_sent() + 2;
-    out.reserve(sent, sent)
+    let family = script.family(set);
+    let mut sent = 0;
+    for k in 0..script.sets() {
+        if script.family(k) == family {
+            sent += reserve_set(sets, k)?;
+        }
+    }
+    Ok(sent)
 }
 
-// Makes room in a set, and in the desk that the letter brings, to take the letter.
-fn reserve_for(core: &mut Core, letter: &mut Letter, out: &mut Out) -> Result<(), AllocError>
-    requires few { HasFewAsks core.old }
+// The same in one set.
+fn reserve_set(sets: &mut Sets, set: u32) -> Result<u32, AllocError>
+    requires set { set < length sets.old.cores }
+    requires few { HasFewAsks (core_in sets.old set) }
+    ensures same { SameSets sets.old sets.new }
+    ensures others { (other : ℕ) → other ≢ set → core_in sets.new other ≡ core_in sets.old other }
+    ensures room { OnOk result (HasMemory 0 (core_in sets.new set)) }
+    ensures sent { IfOk result (λ sent. sent ≡ most_sent (core_in sets.new set)) }
+    ensures small { IfOk result (λ sent. sent ≤ 323) }
+    ensures full { HasMemory 0 (core_in sets.old set) → IsOk result }
+{
+    sets.reserve(set)?;
+    Ok(sets.core(set).most_sent() + 2)
+}
+
+// Makes room in the letter's set, and in the desk that it brings, to take the letter.
+fn reserve_for(sets: &mut Sets, letter: &mut Letter, out: &mut Out) -> Result<(), AllocError>
+    requires set { letter.old.set < length sets.old.cores }
+    requires few { HasFewAsks (core_in sets.old letter.old.set) }
     requires asks { asks_in letter.old.body ≤ 256 }
-    ensures kept { kept_of core.new ≡ kept_of core.old }
+    ensures sets { SameSets sets.old sets.new }
     ensures letter { letter_seen letter.new ≡ letter_seen letter.old }
     ensures out { (out.new.posts ≡ out.old.posts) × (out.new.events ≡ out.old.events) }
-    ensures room { OnOk result (RoomForLetter core.new letter.new out.new) }
-    ensures full { RoomForLetter core.old letter.old out.old → IsOk result }
-    ensures same { RoomForLetter core.old letter.old out.old → out.new ≡ out.old }
+    ensures room { OnOk result (RoomForLetter (core_in sets.new letter.new.set) letter.new out.new) }
+    ensures full { RoomForLetter (core_in sets.old letter.old.set) letter.old out.old → IsOk result }
+    ensures same { RoomForLetter (core_in sets.old letter.old.set) letter.old out.old → out.new ≡ out.old }
 {
-    core.reserve_for(letter)?;
-    let sent = core.most_sent() + 2 + brought(&letter.body);
+    let set = letter.set;
+    sets.reserve_for(set, letter)?;
+    let sent = sets.core(set).most_sent() + 2 + brought(&letter.body);
     out.reserve(sent, sent)?;
     Ok(())
 }
