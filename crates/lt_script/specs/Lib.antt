@@ -1,5 +1,6 @@
 pub mod Fault
 pub mod Views
+pub mod ByName
 pub mod Forms
 pub mod Faults
 pub mod Reading

@@ -26,4 +26,4 @@ pub use lt_spec::{
 pub use name::is_name;
 pub use printing::print;
 pub use reading::read;
-pub use script::Script;
+pub use script::{Script, SetByName};

@@ -4,11 +4,13 @@ ghost use Rattle.lt_spec.specs.Script.{IsScript, most_nodes, load_of};
 ghost use Rattle.lt_spec.specs.declared.limits.TheConstants.{MAX_NODES, MAX_NODES_OF_FIRST};
 
 mod adding;
+mod by_name;
 mod naming;
 mod parts;
 
 use crate::declarations::{ClientDecl, SetDecl};
 use crate::index::Named;
+pub use crate::script::by_name::SetByName;
 use crate::script::parts::{Parts, room_for_commands};
 use lt_modes::Command;
 use std::alloc::{AllocError, Global};
