@@ -1,5 +1,4 @@
 pub mod ScriptLemmas
-pub mod PartsLemmas
 pub mod NameLemmas
 pub mod IndexLemmas
 pub mod FirstLineEnd

@@ -1,6 +1,6 @@
-use Rattle.std.proofs.Common.{rules, ◌≡◌, ◌∙◌, ◌+◌, ◌<◌, ◌^◌, ◌++◌, ◌∷◌, [], ℕ, None, List, length, position, slice_index, slice_set, sym, ap, subst, arith, bytes_eq, vec_len}
+use Rattle.std.proofs.Common.{rules, ◌≡◌, ◌∙◌, ◌<◌, ◌^◌, ℕ, None, List, length, position, slice_index, sym, ap, subst, arith, bytes_eq}
 use Rattle.std.proofs.lemmas.List.{get_or_read}
-use Rattle.lt_script.specs.Index.{spot_of, IsIndex}
+use Rattle.lt_script.specs.Index.{spot_of}
 use Rattle.lt_script.proofs.IndexLemmas.{index_pushed}
 use Rattle.lt_script.proofs.index.Index.push.Goals as goal
 
