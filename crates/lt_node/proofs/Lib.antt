@@ -10,3 +10,4 @@ pub mod OwnLemmas
 pub mod TouchLemmas
 pub mod AddedLemmas
 pub mod TouchedLemmas
+pub mod RoomLemmas

@@ -1,12 +1,11 @@
 -- What a command asks of the sets that it touches.
-use Rattle.std.proofs.Common.{◌≡◌, ◌<◌, ◌≤◌, ◌+◌, ◌∙◌, ◌==◌, ◌&&◌, ◌≢◌, ◌*◌, ℕ, zero, suc, inl, inr, All, Bool, true, false, not, nat_le, List, [], ◌∷◌, Option, Some, None, IsTrue, Contains, length, arith, refl, sym, ap, subst, slice_get, slice_index_or, sum_by, leb-true, if◌then◌else◌}
+use Rattle.std.proofs.Common.{◌≡◌, ◌<◌, ◌≤◌, ◌+◌, ◌∙◌, ◌==◌, ◌&&◌, ℕ, Bool, true, false, not, nat_le, List, [], ◌∷◌, Option, Some, None, IsTrue, Contains, length, arith, refl, sym, ap, subst, slice_get, leb-true, if◌then◌else◌}
 use Rattle.std.specs.List.{AllByRecursion, list_all}
 use Rattle.std.proofs.Math.Bool.{and-true}
-use Rattle.std.proofs.Math.Path.{fun_ext}
-use Rattle.std.proofs.lemmas.Bool.{and_from, cases_eq, and_parts, leb-false, le-leb, lt-leb, not-true, not-false}
+use Rattle.std.proofs.lemmas.Bool.{and_from, and_parts, leb-false, le-leb, lt-leb, not-true, not-false}
 use Rattle.std.proofs.lemmas.Option.{get_or_from_slice_get, slice_get_within}
 use Rattle.std.proofs.lemmas.List.{drop_all}
-use Rattle.std.proofs.lemmas.List.Elements.{Contains-get_or, All-from_recursion, recursion_from_All}
+use Rattle.std.proofs.lemmas.List.Elements.{Contains-get_or}
 use Rattle.std.proofs.lemmas.List.Sums.{sum_by-cons}
 use Rattle.std.proofs.lemmas.List.Filters.{sum_by-filter_both}
 use Rattle.lt_modes.specs.declared.command.Command.{Command}
@@ -15,19 +14,14 @@ use Rattle.lt_modes.specs.Freezing.{places_from, cons_if}
 use Rattle.lt_modes.specs.declared.parts.Row.{Row}
 use Rattle.lt_modes.specs.Modes.{is_of, locks_of, locks_in}
 use Rattle.lt_modes.specs.Script.{ScriptData, SetData, family_at}
-use Rattle.lt_modes.specs.State.{SetState, Letter}
+use Rattle.lt_modes.specs.State.{Letter}
 use Rattle.lt_lists.proofs.Members.{some_equal}
 use Rattle.lt_lists.proofs.Searches.{any_below_none}
 use Rattle.lt_spec.specs.Script.{IsScript, HasTargets}
 use Rattle.lt_spec.specs.NodeMove.{NodeState, commands_of, next_command, family, related, set_within, node_within, leaves_ask, leaves_asks, locks_in_sets}
 use Rattle.lt_spec.specs.declared.limits.TheConstants.{MAX_COMMANDS_OF_SERVICE}
-use Rattle.lt_core.specs.CoreData.{HasMemory, waiting_here}
-use Rattle.lt_core.specs.Bound.{most}
-use Rattle.lt_node.specs.NodeData.{KeptData, HasFewAsks, kept_of, most_sent, untouched}
-use Rattle.lt_node.specs.Sets.{SetsData, SameSets, core_in}
-use Rattle.lt_node.specs.Touched.{touched_sets, touched_by, named_set, sets_within, sets_leave_asks, drops_few, leaves_room_to_obey, leaves_room_to_act, leaves_room_to_take, leaves_room_in, with_dropped, HaveFewAsks, HaveMemory, sent_by}
+use Rattle.lt_node.specs.Touched.{touched_sets, touched_by, named_set, sets_within, sets_leave_asks, drops_few, leaves_room_to_obey, leaves_room_to_act, leaves_room_to_take, leaves_room_in, with_dropped, touches}
 use Rattle.lt_node.proofs.AdvanceLemmas.{targets_of}
-use Rattle.lt_node.proofs.NodeLemmas.{kept_at}
 use Rattle.lt_node.proofs.FamilyLemmas.{related_from, related_in, related_out}
 
 -- The sets that a command touches are sets of the script.
@@ -121,9 +115,6 @@ pub record IsCountedTo (script : ScriptData) (n : NodeState) (set client k locks
   pub all : locks + locks_in_sets n client (related_from script set k) ≡ locks_in_sets n client (related script set)
   pub few : locks ≤ MAX_COMMANDS_OF_SERVICE
 
-pub counted_none : (script : ScriptData) (n : NodeState) (set client : ℕ) → IsCountedTo script n set client 0 0
-counted_none script n set client = record { within = refl; asks = refl; all = omega arith; few = omega arith }
-
 pub counted_past : (script : ScriptData) (n : NodeState) (set client k locks : ℕ) → IsCountedTo script n set client k locks
     → k < length script.sets → (family_at script.sets k == family script set) ≡ false → IsCountedTo script n set client (k + 1) locks
 counted_past script n set client k locks counted inside other =
@@ -198,7 +189,7 @@ counted_out_of_room script n set client k locks counted inside mine none =
     ∙ ap (λ (b : Bool). (set_within n.clock (n.set k) && sets_within n rest) && (b && nat_le all MAX_COMMANDS_OF_SERVICE)) (sym next.1)
     ∙ none_left (set_within n.clock (n.set k)) (leaves_ask (n.set k)) (nat_le sum MAX_COMMANDS_OF_SERVICE) (sets_within n rest) (sets_leave_asks n rest) (nat_le all MAX_COMMANDS_OF_SERVICE) out many
 
-related_none : (script : ScriptData) (set k : ℕ) → length script.sets ≤ k → related_from script set k ≡ []
+pub related_none : (script : ScriptData) (set k : ℕ) → length script.sets ≤ k → related_from script set k ≡ []
 related_none script set k past = ap (λ (l : List SetData). places_from (λ j (x : SetData). x.family == family script set) k l) (drop_all k script.sets past)
 
 pub counted_to_end : (script : ScriptData) (n : NodeState) (set client k locks : ℕ) → IsCountedTo script n set client k locks → length script.sets ≤ k
@@ -217,130 +208,7 @@ named_inside script client (commands.Unlock s mode) inside = inside
 named_inside script client (commands.Change s gives_up mode) inside = inside
 named_inside script client (commands.DropAll other s) targets = targets.0
 
--- Memory in the sets of a family.
-
+-- what a test says of all sets it says of each
 pub all_true_each : (test : ℕ → Bool) (sets : List ℕ) → list_all test sets ≡ true → AllByRecursion (λ s. test s ≡ true) sets
 all_true_each test [] all = record {}
 all_true_each test (s ∷ rest) all = let parts = and_parts (test s) (list_all test rest) all in (parts.0, all_true_each test rest parts.1)
-
--- where all sets stand in the same states, each does
-pub core_kept : (old new : SetsData) → SameSets old new → (s : ℕ) → kept_of (core_in new s) ≡ kept_of (core_in old s)
-core_kept old new same s =
-    ap (λ (n : ℕ). kept_of (slice_index_or new.cores s (untouched n new.me s))) same.nodes
-    ∙ ap (λ (q : ℕ). kept_of (slice_index_or new.cores s (untouched old.nodes q s))) same.me
-    ∙ kept_at new.cores old.cores s (untouched old.nodes old.me s) same.kept
-
-pub few_still : (old new : SetsData) (s : ℕ) → SameSets old new → HasFewAsks (core_in old s) → HasFewAsks (core_in new s)
-few_still old new s same few =
-    subst (λ (x : SetState). waiting_here x ≤ 256) (sym (ap (λ (k : KeptData). k.state) (core_kept old new same s))) few
-
-pub sent_still : (old new : SetsData) (s : ℕ) → SameSets old new → most_sent (core_in new s) ≡ most_sent (core_in old s)
-sent_still old new s same = ap (λ (k : KeptData). most k.state + 2) (core_kept old new same s)
-
-same_sent : (old new : SetsData) (numbers : List ℕ) → SameSets old new → sent_by new numbers ≡ sent_by old numbers
-same_sent old new numbers same = ap (λ (f : ℕ → ℕ). sum_by f numbers) (fun_ext (λ s. sent_still old new s same))
-
-same_then : (a b c : SetsData) → SameSets a b → SameSets b c → SameSets a c
-same_then a b c first second = record {
-  nodes = second.nodes ∙ first.nodes;
-  me = second.me ∙ first.me;
-  kept = second.kept ∙ first.kept;
-}
-
--- the sets of the family before place k have memory, and may send so much
-pub record IsReservedTo (script : ScriptData) (set k sent : ℕ) (old now : SetsData) : Type 0 where
-  pub same : SameSets old now
-  pub rest : (s : ℕ) → k ≤ s → core_in now s ≡ core_in old s
-  pub asks : AllByRecursion (λ s. HasFewAsks (core_in old s)) (related_from script set k)
-  pub room : (s : ℕ) → s < k → (family_at script.sets s == family script set) ≡ true → HasMemory 0 (core_in now s)
-  pub had : AllByRecursion (λ s. HasMemory 0 (core_in old s)) (related script set) → AllByRecursion (λ s. HasMemory 0 (core_in old s)) (related_from script set k)
-  pub left : sent + sent_by old (related_from script set k) ≡ sent_by old (related script set)
-  pub few : sent ≤ k * 323
-
-pub reserved_none : (script : ScriptData) (set : ℕ) (sets : SetsData) → HaveFewAsks sets (related script set) → IsReservedTo script set 0 0 sets sets
-reserved_none script set sets few = record {
-  same = record { nodes = refl; me = refl; kept = refl };
-  rest = λ s above. refl;
-  asks = recursion_from_All (λ s. HasFewAsks (core_in sets s)) (related script set) few;
-  room = λ s below mine. absurd (omega (arith, below));
-  had = λ memory. memory;
-  left = omega arith;
-  few = omega arith;
-}
-
-pub reserved_past : (script : ScriptData) (set k sent : ℕ) (old now : SetsData) → IsReservedTo script set k sent old now
-    → k < length script.sets → (family_at script.sets k == family script set) ≡ false → IsReservedTo script set (k + 1) sent old now
-reserved_past script set k sent old now to inside other =
-    let same = related_out script set k inside other in
-    record {
-      same = to.same;
-      rest = λ s above. to.rest s (omega (arith, above));
-      asks = subst (AllByRecursion (λ s. HasFewAsks (core_in old s))) same to.asks;
-      room = λ s below mine. elim (cases_eq s k) [
-        | inl here ↦ cc (other, ap (λ (i : ℕ). family_at script.sets i == family script set) here, mine)
-        | inr apart ↦ to.room s (omega (arith, below, apart)) mine
-      ];
-      had = λ memory. subst (AllByRecursion (λ s. HasMemory 0 (core_in old s))) same (to.had memory);
-      left = ap (λ (l : List ℕ). sent + sent_by old l) (sym same) ∙ to.left;
-      few = omega (arith, to.few);
-    }
-
--- the next set of the family
-pub reserved_asks : (script : ScriptData) (set k sent : ℕ) (old now : SetsData) → IsReservedTo script set k sent old now
-    → k < length script.sets → (family_at script.sets k == family script set) ≡ true → HasFewAsks (core_in now k)
-reserved_asks script set k sent old now to inside mine =
-    few_still old now k to.same (subst (AllByRecursion (λ s. HasFewAsks (core_in old s))) (related_in script set k inside mine) to.asks).0
-
-pub reserved_had : (script : ScriptData) (set k sent : ℕ) (old now : SetsData) → IsReservedTo script set k sent old now
-    → k < length script.sets → (family_at script.sets k == family script set) ≡ true → HaveMemory old (related script set) → HasMemory 0 (core_in now k)
-reserved_had script set k sent old now to inside mine memory =
-    let has = to.had (recursion_from_All (λ s. HasMemory 0 (core_in old s)) (related script set) memory) in
-    subst (HasMemory 0) (sym (to.rest k (omega arith))) (subst (AllByRecursion (λ s. HasMemory 0 (core_in old s))) (related_in script set k inside mine) has).0
-
-pub reserved_more : (script : ScriptData) (set k sent most : ℕ) (old now new : SetsData) → IsReservedTo script set k sent old now
-    → k < length script.sets → (family_at script.sets k == family script set) ≡ true
-    → SameSets now new → ((s : ℕ) → s ≢ k → core_in new s ≡ core_in now s) → HasMemory 0 (core_in new k) → most ≡ most_sent (core_in new k) → most ≤ 323
-    → IsReservedTo script set (k + 1) (sent + most) old new
-reserved_more script set k sent most old now new to inside mine same others memory is few =
-    let first = related_in script set k inside mine in
-    let all = same_then old now new to.same same in
-    let rest = related_from script set (k + 1) in
-    record {
-      same = all;
-      rest = λ s above. others s (λ e. absurd (omega (arith, above, e))) ∙ to.rest s (omega (arith, above));
-      asks = (subst (AllByRecursion (λ s. HasFewAsks (core_in old s))) first to.asks).1;
-      room = λ s below own. elim (cases_eq s k) [
-        | inl here ↦ subst (λ (i : ℕ). HasMemory 0 (core_in new i)) (sym here) memory
-        | inr apart ↦ subst (HasMemory 0) (sym (others s apart)) (to.room s (omega (arith, below, apart)) own)
-      ];
-      had = λ has. (subst (AllByRecursion (λ s. HasMemory 0 (core_in old s))) first (to.had has)).1;
-      left = omega (arith, to.left, ap (λ (l : List ℕ). sent_by old l) first, sum_by-cons (λ s. most_sent (core_in old s)) k rest, is, sent_still old new k all);
-      few = omega (arith, to.few, few);
-    }
-
--- what holds of each set of the family holds of all
-each_from : (P : ℕ → Type 0) (script : ScriptData) (set m k : ℕ) → ((s : ℕ) → s < length script.sets → (family_at script.sets s == family script set) ≡ true → P s)
-    → k + m ≡ length script.sets → AllByRecursion P (related_from script set k)
-each_from P script set zero k each count = subst (AllByRecursion P) (sym (related_none script set k (omega (arith, count)))) (record {})
-each_from P script set (suc m) k each count = by_test (family_at script.sets k == family script set) refl (each_from P script set m (k + 1) each (omega (arith, count)))
-  where
-    by_test : (b : Bool) → (family_at script.sets k == family script set) ≡ b → AllByRecursion P (related_from script set (k + 1)) → AllByRecursion P (related_from script set k)
-    by_test true mine later = subst (AllByRecursion P) (sym (related_in script set k (omega (arith, count)) mine)) (each k (omega (arith, count)) mine, later)
-    by_test false other later = subst (AllByRecursion P) (sym (related_out script set k (omega (arith, count)) other)) later
-
-pub reserved_room : (script : ScriptData) (set k sent : ℕ) (old now : SetsData) → IsReservedTo script set k sent old now → length script.sets ≤ k → HaveMemory now (related script set)
-reserved_room script set k sent old now to past =
-    All-from_recursion (λ s. HasMemory 0 (core_in now s)) (related script set)
-    (each_from (λ s. HasMemory 0 (core_in now s)) script set (length script.sets) 0 (λ s inside mine. to.room s (omega (arith, inside, past)) mine) (omega arith))
-
-pub reserved_sent : (script : ScriptData) (set k sent : ℕ) (old now : SetsData) → IsReservedTo script set k sent old now → length script.sets ≤ k → sent ≡ sent_by now (related script set)
-reserved_sent script set k sent old now to past =
-    omega (arith, to.left, ap (λ (l : List ℕ). sent_by old l) (related_none script set k past), same_sent old now (related script set) to.same)
-
--- one set
-
-pub all_one : (P : ℕ → Type 0) (s : ℕ) → P s → All P (s ∷ [])
-all_one P s h = All-from_recursion P (s ∷ []) (h, record {})
-
-pub one_of : (P : ℕ → Type 0) (s : ℕ) → All P (s ∷ []) → P s
-one_of P s h = (recursion_from_All P (s ∷ []) h).0

@@ -1,9 +1,9 @@
-use Rattle.std.proofs.Common.{◌≡◌, ◌<◌, ◌+◌, ◌∙◌, ◌==◌, ℕ, true, false, IsOk, length, sym, subst, arith, eq-eqb, ne_eqb}
+use Rattle.std.proofs.Common.{◌<◌, ◌+◌, ◌∙◌, ℕ, false, IsOk, length, sym, subst, arith, eq-eqb, ne_eqb}
 use Rattle.std.proofs.lemmas.Bool.{false≢true}
 use Rattle.lt_modes.specs.Script.{family_at}
 use Rattle.lt_spec.specs.NodeMove.{family}
 use Rattle.lt_node.specs.Sets.{SetsData}
-use Rattle.lt_node.proofs.TouchedLemmas.{IsReservedTo, reserved_none, reserved_past, reserved_asks, reserved_had, reserved_more, reserved_room, reserved_sent}
+use Rattle.lt_node.proofs.RoomLemmas.{IsReservedTo, reserved_past, reserved_asks, reserved_had, reserved_more, reserved_room, reserved_sent}
 use Rattle.lt_node.proofs.room.reserve_family.Goals as goal
 use Rattle.lt_node.proofs.room.reserve_family.Goals.{then-family+in_ok-sent, else-family}
 

@@ -1,4 +1,4 @@
-use Rattle.lt_node.proofs.TouchedLemmas.{IsReservedTo}
+use Rattle.lt_node.proofs.RoomLemmas.{IsReservedTo}
 use Rattle.lt_node.proofs.room.reserve_family.Given as goal
 
 abbrev pub invariant-loop-k : goal.invariant-loop-k

@@ -1,6 +1,6 @@
 use Rattle.std.proofs.Common.{ap, arith}
 use Rattle.lt_core.specs.CoreData.{waiting_here}
-use Rattle.lt_node.proofs.TouchedLemmas.{few_still}
+use Rattle.lt_node.proofs.RoomLemmas.{few_still}
 use Rattle.lt_node.proofs.room.reserve_set.Goals as goal
 
 pub most_sent-requires : goal.most_sent-requires

@@ -1,8 +1,8 @@
-use Rattle.std.proofs.Common.{◌≡◌, ◌∷◌, [], All, List, ℕ, ap, inl, inr, subst}
+use Rattle.std.proofs.Common.{◌≡◌, ◌∷◌, [], ap, inl, inr, subst}
 use Rattle.lt_core.specs.CoreData.{HasMemory}
 use Rattle.lt_node.specs.Sets.{core_in}
 use Rattle.lt_node.specs.Touched.{HaveMemory, touched_sets}
-use Rattle.lt_node.proofs.TouchedLemmas.{one_of}
+use Rattle.lt_node.proofs.RoomLemmas.{one_of}
 use Rattle.lt_node.proofs.room.reserve_touched.Goals as goal
 
 pub returns-in-Lock-clause-full : goal.returns-in-Lock-clause-full

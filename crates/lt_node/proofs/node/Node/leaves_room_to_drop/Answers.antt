@@ -1,7 +1,7 @@
 use Rattle.std.proofs.Common.{◌≡◌, ◌∙◌, ◌+◌, ◌==◌, ◌<◌, ℕ, List, true, false, length, ap, sym, subst, arith, eq-eqb, ne_eqb}
 use Rattle.lt_modes.specs.Script.{ScriptData, SetData, family_at}
 use Rattle.lt_node.specs.NodeData.{NodeData, state_of}
-use Rattle.lt_node.proofs.TouchedLemmas.{IsCountedTo, counted_none, counted_past, counted_more, counted_out_of_room, counted_to_end}
+use Rattle.lt_node.proofs.TouchedLemmas.{IsCountedTo, counted_past, counted_more, counted_out_of_room, counted_to_end}
 use Rattle.lt_node.proofs.node.Node.leaves_room_to_drop.Goals as goal
 use Rattle.lt_node.proofs.node.Node.leaves_room_to_drop.Goals.{then-family+in-Some, else-family}
 

@@ -1,0 +1,290 @@
+-- Memory in the sets that a move touches.
+use Rattle.std.proofs.Common.{◌≡◌, ◌<◌, ◌≤◌, ◌+◌, ◌∙◌, ◌==◌, ◌≢◌, ◌*◌, Result, Ok, Err, OnOk, ℕ, zero, suc, inl, inr, All, Bool, true, false, List, [], ◌∷◌, Some, IsTrue, length, arith, refl, sym, ap, subst, slice_index_or, sum_by}
+use Rattle.std.specs.List.{AllByRecursion}
+use Rattle.std.proofs.Math.Path.{fun_ext}
+use Rattle.std.proofs.lemmas.Bool.{cases_eq, and_parts}
+use Rattle.std.proofs.lemmas.List.{length-map}
+use Rattle.std.proofs.lemmas.List.Elements.{All-from_recursion, recursion_from_All}
+use Rattle.std.proofs.lemmas.List.Sums.{sum_by-cons}
+use Rattle.lt_modes.specs.declared.command.Command.{Command}
+use Rattle.lt_modes.specs.declared.event.Event.{Event}
+use Rattle.lt_modes.specs.declared.command.Command.TheVariants as commands
+use Rattle.lt_modes.specs.Script.{ScriptData, SetData, ClientData, family_at}
+use Rattle.lt_modes.specs.Fits.{fits, numbers_of}
+use Rattle.lt_modes.specs.State.{SetState, Letter, Post, Body as RulesBody, AskBody, TellBody, CopyBody, TokenBody, FreezeBody}
+use Rattle.lt_lists.proofs.AllLemmas.{all_weaker}
+use Rattle.lt_spec.specs.NodeMove.{NodeState, next_command, family, related, set_within}
+use Rattle.lt_desk.specs.DeskData.{OutData}
+use Rattle.lt_desk.specs.declared.letter.Letter.{Letter as AnyLetter}
+use Rattle.lt_desk.specs.declared.letter.Body.{Body}
+use Rattle.lt_desk.specs.declared.letter.Body.TheVariants as bodies
+use Rattle.lt_desk.specs.LetterSeen.{letter_seen, body_seen, asks_in}
+use Rattle.lt_core.specs.CoreData.{CoreData, HasMemory, waiting_here}
+use Rattle.lt_core.specs.Bound.{most, brought}
+use Rattle.lt_node.specs.NodeData.{NodeData, KeptData, IsNode, SameNode, HasFewAsks, core_at, first_core, kept_of, most_sent, state_of, untouched}
+use Rattle.lt_node.specs.Sets.{SetsData, AreSetsOf, SameSets, core_in}
+use Rattle.lt_node.specs.Clients.{Progress, next_of}
+use Rattle.lt_node.specs.Forgetting.{without_first}
+use Rattle.lt_node.specs.Touched.{touched_sets, touched_by, named_set, sets_within, leaves_room_to_act, leaves_room_to_take, RoomToAct, HaveFewAsks, HaveMemory, sent_by, touches}
+use Rattle.lt_node.proofs.AdvanceLemmas.{HasNext, next_is, next_targets}
+use Rattle.lt_node.proofs.NodeLemmas.{kept_at, kept_length, node_is, set_numbers}
+use Rattle.lt_node.proofs.TokenLemmas.{few_brought, fitting}
+use Rattle.lt_node.proofs.FamilyLemmas.{related_from, related_in, related_out}
+use Rattle.lt_node.proofs.TouchedLemmas.{all_true_each, named_inside, related_none}
+
+-- where all sets stand in the same states, each does
+pub core_kept : (old new : SetsData) → SameSets old new → (s : ℕ) → kept_of (core_in new s) ≡ kept_of (core_in old s)
+core_kept old new same s =
+    ap (λ (n : ℕ). kept_of (slice_index_or new.cores s (untouched n new.me s))) same.nodes
+    ∙ ap (λ (q : ℕ). kept_of (slice_index_or new.cores s (untouched old.nodes q s))) same.me
+    ∙ kept_at new.cores old.cores s (untouched old.nodes old.me s) same.kept
+
+pub few_still : (old new : SetsData) (s : ℕ) → SameSets old new → HasFewAsks (core_in old s) → HasFewAsks (core_in new s)
+few_still old new s same few =
+    subst (λ (x : SetState). waiting_here x ≤ 256) (sym (ap (λ (k : KeptData). k.state) (core_kept old new same s))) few
+
+pub sent_still : (old new : SetsData) (s : ℕ) → SameSets old new → most_sent (core_in new s) ≡ most_sent (core_in old s)
+sent_still old new s same = ap (λ (k : KeptData). most k.state + 2) (core_kept old new same s)
+
+same_sent : (old new : SetsData) (numbers : List ℕ) → SameSets old new → sent_by new numbers ≡ sent_by old numbers
+same_sent old new numbers same = ap (λ (f : ℕ → ℕ). sum_by f numbers) (fun_ext (λ s. sent_still old new s same))
+
+same_then : (a b c : SetsData) → SameSets a b → SameSets b c → SameSets a c
+same_then a b c first second = record {
+  nodes = second.nodes ∙ first.nodes;
+  me = second.me ∙ first.me;
+  kept = second.kept ∙ first.kept;
+}
+
+-- the sets of the family before place k have memory, and may send so much
+pub record IsReservedTo (script : ScriptData) (set k sent : ℕ) (old now : SetsData) : Type 0 where
+  pub same : SameSets old now
+  pub rest : (s : ℕ) → k ≤ s → core_in now s ≡ core_in old s
+  pub asks : AllByRecursion (λ s. HasFewAsks (core_in old s)) (related_from script set k)
+  pub room : (s : ℕ) → s < k → (family_at script.sets s == family script set) ≡ true → HasMemory 0 (core_in now s)
+  pub had : AllByRecursion (λ s. HasMemory 0 (core_in old s)) (related script set) → AllByRecursion (λ s. HasMemory 0 (core_in old s)) (related_from script set k)
+  pub left : sent + sent_by old (related_from script set k) ≡ sent_by old (related script set)
+  pub few : sent ≤ k * 323
+
+pub reserved_past : (script : ScriptData) (set k sent : ℕ) (old now : SetsData) → IsReservedTo script set k sent old now
+    → k < length script.sets → (family_at script.sets k == family script set) ≡ false → IsReservedTo script set (k + 1) sent old now
+reserved_past script set k sent old now to inside other =
+    let same = related_out script set k inside other in
+    record {
+      same = to.same;
+      rest = λ s above. to.rest s (omega (arith, above));
+      asks = subst (AllByRecursion (λ s. HasFewAsks (core_in old s))) same to.asks;
+      room = λ s below mine. elim (cases_eq s k) [
+        | inl here ↦ cc (other, ap (λ (i : ℕ). family_at script.sets i == family script set) here, mine)
+        | inr apart ↦ to.room s (omega (arith, below, apart)) mine
+      ];
+      had = λ memory. subst (AllByRecursion (λ s. HasMemory 0 (core_in old s))) same (to.had memory);
+      left = ap (λ (l : List ℕ). sent + sent_by old l) (sym same) ∙ to.left;
+      few = omega (arith, to.few);
+    }
+
+-- the next set of the family
+pub reserved_asks : (script : ScriptData) (set k sent : ℕ) (old now : SetsData) → IsReservedTo script set k sent old now
+    → k < length script.sets → (family_at script.sets k == family script set) ≡ true → HasFewAsks (core_in now k)
+reserved_asks script set k sent old now to inside mine =
+    few_still old now k to.same (subst (AllByRecursion (λ s. HasFewAsks (core_in old s))) (related_in script set k inside mine) to.asks).0
+
+pub reserved_had : (script : ScriptData) (set k sent : ℕ) (old now : SetsData) → IsReservedTo script set k sent old now
+    → k < length script.sets → (family_at script.sets k == family script set) ≡ true → HaveMemory old (related script set) → HasMemory 0 (core_in now k)
+reserved_had script set k sent old now to inside mine memory =
+    let has = to.had (recursion_from_All (λ s. HasMemory 0 (core_in old s)) (related script set) memory) in
+    subst (HasMemory 0) (sym (to.rest k (omega arith))) (subst (AllByRecursion (λ s. HasMemory 0 (core_in old s))) (related_in script set k inside mine) has).0
+
+pub reserved_more : (script : ScriptData) (set k sent most : ℕ) (old now new : SetsData) → IsReservedTo script set k sent old now
+    → k < length script.sets → (family_at script.sets k == family script set) ≡ true
+    → SameSets now new → ((s : ℕ) → s ≢ k → core_in new s ≡ core_in now s) → HasMemory 0 (core_in new k) → most ≡ most_sent (core_in new k) → most ≤ 323
+    → IsReservedTo script set (k + 1) (sent + most) old new
+reserved_more script set k sent most old now new to inside mine same others memory is few =
+    let first = related_in script set k inside mine in
+    let all = same_then old now new to.same same in
+    let rest = related_from script set (k + 1) in
+    record {
+      same = all;
+      rest = λ s above. others s (λ e. absurd (omega (arith, above, e))) ∙ to.rest s (omega (arith, above));
+      asks = (subst (AllByRecursion (λ s. HasFewAsks (core_in old s))) first to.asks).1;
+      room = λ s below own. elim (cases_eq s k) [
+        | inl here ↦ subst (λ (i : ℕ). HasMemory 0 (core_in new i)) (sym here) memory
+        | inr apart ↦ subst (HasMemory 0) (sym (others s apart)) (to.room s (omega (arith, below, apart)) own)
+      ];
+      had = λ has. (subst (AllByRecursion (λ s. HasMemory 0 (core_in old s))) first (to.had has)).1;
+      left = omega (arith, to.left, ap (λ (l : List ℕ). sent_by old l) first, sum_by-cons (λ s. most_sent (core_in old s)) k rest, is, sent_still old new k all);
+      few = omega (arith, to.few, few);
+    }
+
+-- what holds of each set of the family holds of all
+each_from : (P : ℕ → Type 0) (script : ScriptData) (set m k : ℕ) → ((s : ℕ) → s < length script.sets → (family_at script.sets s == family script set) ≡ true → P s)
+    → k + m ≡ length script.sets → AllByRecursion P (related_from script set k)
+each_from P script set zero k each count = subst (AllByRecursion P) (sym (related_none script set k (omega (arith, count)))) (record {})
+each_from P script set (suc m) k each count = by_test (family_at script.sets k == family script set) refl (each_from P script set m (k + 1) each (omega (arith, count)))
+  where
+    by_test : (b : Bool) → (family_at script.sets k == family script set) ≡ b → AllByRecursion P (related_from script set (k + 1)) → AllByRecursion P (related_from script set k)
+    by_test true mine later = subst (AllByRecursion P) (sym (related_in script set k (omega (arith, count)) mine)) (each k (omega (arith, count)) mine, later)
+    by_test false other later = subst (AllByRecursion P) (sym (related_out script set k (omega (arith, count)) other)) later
+
+pub reserved_room : (script : ScriptData) (set k sent : ℕ) (old now : SetsData) → IsReservedTo script set k sent old now → length script.sets ≤ k → HaveMemory now (related script set)
+reserved_room script set k sent old now to past =
+    All-from_recursion (λ s. HasMemory 0 (core_in now s)) (related script set)
+    (each_from (λ s. HasMemory 0 (core_in now s)) script set (length script.sets) 0 (λ s inside mine. to.room s (omega (arith, inside, past)) mine) (omega arith))
+
+pub reserved_sent : (script : ScriptData) (set k sent : ℕ) (old now : SetsData) → IsReservedTo script set k sent old now → length script.sets ≤ k → sent ≡ sent_by now (related script set)
+reserved_sent script set k sent old now to past =
+    omega (arith, to.left, ap (λ (l : List ℕ). sent_by old l) (related_none script set k past), same_sent old now (related script set) to.same)
+
+-- one set
+
+pub all_one : (P : ℕ → Type 0) (s : ℕ) → P s → All P (s ∷ [])
+all_one P s h = All-from_recursion P (s ∷ []) (h, record {})
+
+pub one_of : (P : ℕ → Type 0) (s : ℕ) → All P (s ∷ []) → P s
+one_of P s h = (recursion_from_All P (s ∷ []) h).0
+
+-- A node, and the storage of its sets.
+
+-- in the storage of a script's node, a set is what the node keeps for it
+core_of_node : (script : ScriptData) (me : ℕ) (sets : SetsData) → AreSetsOf script me sets → (s : ℕ) → slice_index_or sets.cores s (first_core script me s) ≡ core_in sets s
+core_of_node script me sets are s =
+    ap (λ (n : ℕ). slice_index_or sets.cores s (untouched n me s)) (sym are.nodes)
+    ∙ ap (λ (q : ℕ). slice_index_or sets.cores s (untouched sets.nodes q s)) (sym are.node)
+
+pub cores_at : (m n : NodeData) (sets : SetsData) → m ≡ n → m.cores ≡ sets.cores → AreSetsOf m.script m.me sets → core_at n ≡ core_in sets
+cores_at m n sets same cores are =
+    subst (λ (n : NodeData). core_at n ≡ core_in sets) same
+    (fun_ext (λ s. ap (λ (l : List CoreData). slice_index_or l s (first_core m.script m.me s)) cores ∙ core_of_node m.script m.me sets are s))
+
+-- where memory is taken, they are the sets of the same node
+pub sets_same : (script : ScriptData) (me : ℕ) (old new : SetsData) → AreSetsOf script me old → SameSets old new → AreSetsOf script me new
+sets_same script me old new are same = record {
+  nodes = same.nodes ∙ are.nodes;
+  node = same.me ∙ are.node;
+  count = kept_length new.cores old.cores same.kept ∙ are.count;
+  places = λ s.
+      let place = are.places s in
+      let kept = core_kept old new same s in
+      record { node = ap (λ (k : KeptData). k.node) kept ∙ place.node; set = ap (λ (k : KeptData). k.set) kept ∙ place.set };
+}
+
+-- commands that were forgotten change no set
+touched_same : (script : ScriptData) (gone : ℕ) (command : Command) → touched_sets (without_first gone script) command ≡ touched_sets script command
+touched_same script gone (commands.Lock s mode) = refl
+touched_same script gone (commands.Try s mode) = refl
+touched_same script gone (commands.Unlock s mode) = refl
+touched_same script gone (commands.Change s gives_up mode) = refl
+touched_same script gone (commands.DropAll other s) = refl
+
+-- the client's next command is this one, which a node reads in this script, and its sets in this storage
+pub record IsNextHere (n : NodeData) (client : ℕ) (script : ScriptData) (command : Command) (sets : SetsData) : Type 0 where
+  pub cores : core_at n ≡ core_in sets
+  pub touched : touches n.script (state_of n) client ≡ touched_sets script command
+  pub named : named_set command < length script.sets
+  pub few : HaveFewAsks sets (touched_sets script command)
+
+few_touched : (n : NodeData) (sets : SetsData) (numbers : List ℕ) → core_at n ≡ core_in sets → sets_within (state_of n) numbers ≡ true → HaveFewAsks sets numbers
+few_touched n sets numbers cores within =
+    subst (λ (core : ℕ → CoreData). All (λ s. HasFewAsks (core s)) numbers) cores
+    (All-from_recursion (λ s. HasFewAsks (core_at n s)) numbers
+    (all_weaker (λ s. set_within n.clock (core_at n s).state ≡ true) (λ s. HasFewAsks (core_at n s)) (λ s h. (set_numbers n.clock (core_at n s).state h).asks) numbers
+    (all_true_each (λ s. set_within n.clock (core_at n s).state) numbers within)))
+
+pub next_here : (m n : NodeData) (client : ℕ) (progress : Progress) (script : ScriptData) (command : Command) (sets : SetsData) → m ≡ n → IsNode m → AreSetsOf m.script m.me sets → m.cores ≡ sets.cores
+    → HasNext n client progress → command ≡ next_of progress → script ≡ without_first m.gone m.script → IsTrue (leaves_room_to_act n.script (state_of n) client)
+    → IsNextHere n client script command sets
+next_here m n client progress script command sets same node are kept next is read room =
+    let cores = cores_at m n sets same kept are in
+    let asked : next_command n.script (state_of n) client ≡ Some command = next_is n client progress next ∙ ap Some (sym is) in
+    let whole : touched_sets script command ≡ touched_sets n.script command =
+    ap (λ (s : ScriptData). touched_sets s command) read ∙ touched_same m.script m.gone command ∙ ap (λ (n : NodeData). touched_sets n.script command) same in
+    let touched : touches n.script (state_of n) client ≡ touched_sets script command = ap (touched_by n.script) asked ∙ sym whole in
+    let within : sets_within (state_of n) (touches n.script (state_of n) client) ≡ true = (and_parts (sets_within (state_of n) (touches n.script (state_of n) client)) _ room).0 in
+    let inside : named_set (next_of progress) < length n.script.sets = named_inside n.script client (next_of progress) (next_targets n client progress (node_is m n same node) next) in
+    record {
+      cores = cores;
+      touched = touched;
+      named = subst (λ (command : Command). named_set command < length script.sets) (sym is)
+          (subst (λ (sets : List SetData). named_set (next_of progress) < length sets) (sym (ap (λ (s : ScriptData). s.sets) read ∙ ap (λ (n : NodeData). n.script.sets) same)) inside);
+      few = subst (HaveFewAsks sets) touched (few_touched n sets (touches n.script (state_of n) client) cores within);
+    }
+
+-- what was there before
+pub had_memory : (n : NodeData) (client : ℕ) (script : ScriptData) (command : Command) (sets : SetsData) (out : OutData) → IsNextHere n client script command sets → RoomToAct client n out
+    → HaveMemory sets (touched_sets script command)
+had_memory n client script command sets out here room =
+    subst (λ (numbers : List ℕ). HaveMemory sets numbers) here.touched
+    (subst (λ (core : ℕ → CoreData). All (λ s. HasMemory 0 (core s)) (touches n.script (state_of n) client)) here.cores room.cores)
+
+pub had_to_send : (n : NodeData) (client sent : ℕ) (script : ScriptData) (command : Command) (old new : SetsData) → IsNextHere n client script command old → SameSets old new
+    → sent ≡ sent_by new (touched_sets script command) → sent ≡ sum_by (λ s. most_sent (core_at n s)) (touches n.script (state_of n) client)
+had_to_send n client sent script command old new here same is =
+    is ∙ same_sent old new (touched_sets script command) same ∙ sym (ap (sent_by old) here.touched)
+    ∙ sym (ap (λ (core : ℕ → CoreData). sum_by (λ s. most_sent (core s)) (touches n.script (state_of n) client)) here.cores)
+
+-- and what was made
+pub room_made : {T E : Type 0} (r : Result T E) (n new : NodeData) (client touched : ℕ) (script : ScriptData) (command : Command) (sets : SetsData) (had out : OutData)
+    → touches n.script (state_of n) client ≡ touched_sets script command → SameNode n new → AreSetsOf new.script new.me sets → new.cores ≡ sets.cores → HaveMemory sets (touched_sets script command)
+    → touched ≡ sent_by sets (touched_sets script command) → out.posts ≡ had.posts → out.events ≡ had.events
+    → OnOk r (length had.posts + (touched + 1) ≤ out.post_room) → OnOk r (length had.events + (touched + 1) ≤ out.event_room) → OnOk r (RoomToAct client new out)
+room_made (Err e) n new client touched script command sets had out asked same are kept memory is posts events letters lines = record {}
+room_made (Ok x) n new client touched script command sets had out asked same are kept memory is posts events letters lines =
+    let cores = cores_at new new sets refl kept are in
+    let numbers : touches new.script (state_of new) client ≡ touched_sets script command =
+    ap (λ (s : ScriptData). touches s (state_of new) client) same.script ∙ ap (λ (s : NodeState). touches n.script s client) same.state ∙ asked in
+    let sent : touched ≡ sum_by (λ s. most_sent (core_at new s)) (touches new.script (state_of new) client) =
+    is ∙ sym (ap (sent_by sets) numbers) ∙ sym (ap (λ (core : ℕ → CoreData). sum_by (λ s. most_sent (core s)) (touches new.script (state_of new) client)) cores) in
+    record {
+      cores = subst (λ (core : ℕ → CoreData). All (λ s. HasMemory 0 (core s)) (touches new.script (state_of new) client)) (sym cores)
+          (subst (λ (l : List ℕ). HaveMemory sets l) (sym numbers) memory);
+      send = record {
+        posts = omega (arith, letters, sent, ap (λ (l : List Post). length l) posts);
+        events = omega (arith, lines, sent, ap (λ (l : List Event). length l) events);
+      };
+    }
+
+-- A letter.
+
+abbrev seen_asks : RulesBody → ℕ
+seen_asks (AskBody ask marked) = 1
+seen_asks (TellBody tell) = 0
+seen_asks (CopyBody ask) = 1
+seen_asks (TokenBody desk) = length desk.queue
+seen_asks (FreezeBody number modes) = 0
+
+asks_seen : (body : Body) → asks_in body ≡ seen_asks (body_seen body)
+asks_seen (bodies.Ask ask by_hoped) = refl
+asks_seen (bodies.Tell tell) = refl
+asks_seen (bodies.Copy ask) = refl
+asks_seen (bodies.Token d) = refl
+asks_seen (bodies.Freeze news) = refl
+
+pub same_asks : (old new : AnyLetter) → letter_seen new ≡ letter_seen old → asks_in new.body ≡ asks_in old.body
+same_asks old new same = asks_seen new.body ∙ ap (λ (l : Letter). seen_asks l.body) same ∙ sym (asks_seen old.body)
+
+-- as much may be sent as before
+pub letter_sent : (old new : SetsData) (s : ℕ) (before after : AnyLetter) → SameSets old new → letter_seen after ≡ letter_seen before
+    → most_sent (core_in new s) + brought (body_seen after.body) ≡ most_sent (core_in old s) + brought (body_seen before.body)
+letter_sent old new s before after same seen = omega (arith, sent_still old new s same, ap (λ (l : Letter). brought l.body) seen)
+
+-- the letter's set, which a node reads in this storage
+pub record IsLetterHere (n : NodeData) (letter : AnyLetter) (sets : SetsData) : Type 0 where
+  pub cores : core_at n ≡ core_in sets
+  pub inside : letter.set < length sets.cores
+  pub few : HasFewAsks (core_in sets letter.set)
+  pub asks : asks_in letter.body ≤ 256
+
+pub letter_here : (m n : NodeData) (letter : AnyLetter) (sets : SetsData) → m ≡ n → IsNode m → AreSetsOf m.script m.me sets → m.cores ≡ sets.cores
+    → fits (numbers_of n.script) n.me n.clock ((state_of n).set letter.set) (letter_seen letter) ≡ true → leaves_room_to_take (state_of n) (letter_seen letter) ≡ true
+    → IsLetterHere n letter sets
+letter_here m n letter sets same node are kept fit room =
+    let cores = cores_at m n sets same kept are in
+    let here = node_is m n same node in
+    let fits_here = fitting (numbers_of n.script) n.me n.clock ((state_of n).set letter.set) letter fit in
+    record {
+      cores = cores;
+      inside = omega (arith, fits_here.set, are.count, ap (λ (n : NodeData). length n.script.sets) same);
+      few = subst (λ (core : ℕ → CoreData). HasFewAsks (core letter.set)) cores (set_numbers n.clock (core_at n letter.set).state room).asks;
+      asks = few_brought (numbers_of n.script) n.me letter.stamp.clock ((state_of n).set letter.set) letter.body
+          (omega (arith, length-map n.script.clients (λ (client : ClientData). client.node), here.is_script.few_clients)) fits_here.body;
+    }
