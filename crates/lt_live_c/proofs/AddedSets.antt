@@ -1,33 +1,12 @@
 -- Sets are added to a script one after another.
-use Rattle.std.proofs.Common.{◌≡◌, ◌<◌, ◌≤◌, ◌+◌, ◌&&◌, ◌∷◌, ◌++◌, [], ℕ, List, Bool, true, false, Option, Some, None, inr, not, if◌then◌else◌, refl, sym, ap, ◌∙◌, arith, length, map, drop, slice_index_or, option_map, option_and_then}
-use Rattle.std.proofs.lemmas.List.{drop_more, drop_all, length_push}
+use Rattle.std.proofs.Common.{◌≡◌, ◌<◌, ◌+◌, [], ℕ, List, Bool, true, false, Option, Some, None, if◌then◌else◌, sym, ap, ◌∙◌, arith, length, map, drop, slice_index_or, option_map, option_and_then}
+use Rattle.std.proofs.lemmas.List.{drop_more, length_push}
 use Rattle.std.proofs.lemmas.Option.{same_Some}
-use Rattle.lt_modes.specs.Script.{ScriptData, SetData, family_at}
-use Rattle.lt_spec.specs.Script.{is_name, is_declared, set_number, IsFamilyOfNext}
+use Rattle.lt_modes.specs.Script.{ScriptData}
 use Rattle.lt_live_c.specs.declared.new_sets.NewSet.{NewSet}
-use Rattle.lt_live_c.specs.NewSets.{SetWords, set_words, family_with, in_family, is_new_name, with_set, with_sets, AddsSet, AddsSets}
+use Rattle.lt_live_c.specs.NewSets.{SetWords, set_words, family_with, in_family, is_new_name, with_set, with_sets, AddsSet}
 
--- One set.
-
-pub found_family : (s : ScriptData) (set : ℕ) → set < length s.sets → family_at s.sets set ≤ set
-    → family_at s.sets (family_at s.sets set) ≡ family_at s.sets set → IsFamilyOfNext s.sets (family_at s.sets set)
-found_family s set inside earlier first = inr (omega (arith, inside, earlier), first)
-
--- none can be added that has no new name, or whose parent isn't there
-pub no_name : (s : ScriptData) (set : SetWords) → is_new_name s set.name ≡ false → with_set s set ≡ None
-no_name s set e = rw e refl
-
-pub no_parent : (s : ScriptData) (set : SetWords) → family_with s set.parent ≡ None → with_set s set ≡ None
-no_parent s set e = by_name (is_new_name s set.name)
-  where
-    by_name : (t : Bool) → (if t then option_map (in_family s set.name) (family_with s set.parent) else None) ≡ None
-    by_name true = ap (option_map (in_family s set.name)) e
-    by_name false = refl
-
-pub added_set : (s : ScriptData) (set : SetWords) (family : ℕ) → is_new_name s set.name ≡ true
-    → family_with s set.parent ≡ Some family → with_set s set ≡ Some (in_family s set.name family)
-added_set s set family e f = rw e (ap (option_map (in_family s set.name)) f)
-
+-- the script with the set has one more
 one_more : (s t : ScriptData) (set : SetWords) → with_set s set ≡ Some t → length t.sets ≡ length s.sets + 1
 one_more s t set = by_parts (is_new_name s set.name) (family_with s set.parent)
   where
@@ -39,15 +18,10 @@ one_more s t set = by_parts (is_new_name s set.name) (family_with s set.parent)
         ap (λ (x : ScriptData). length x.sets) (sym (same_Some (in_family s set.name family) t e))
         ∙ length_push s.sets (record { name = set.name; family = family })
 
--- All of them.
-
 -- the first k were added, and those behind them are still to be added
 pub record Adding (k : ℕ) (sets : List NewSet) (old now : ScriptData) : Type 0 where
   pub left : with_sets now (map set_words (drop k sets)) ≡ with_sets old (map set_words sets)
   pub count : length now.sets ≡ length old.sets + k
-
-pub adding_starts : (sets : List NewSet) (s : ScriptData) → Adding 0 sets s s
-adding_starts sets s = record { left = refl; count = omega arith }
 
 -- what is read of a place that a list doesn't have
 abbrev pub no_set : NewSet
@@ -68,16 +42,3 @@ adding_on k sets d true old now next so_far adds is below = record {
       ∙ next_left k sets d old now below so_far;
   count = omega (arith, one_more now next (set_words (slice_index_or sets k d)) adds, so_far.count);
 }
-
-pub adding_stops : (k : ℕ) (sets : List NewSet) (d : NewSet) (added : Bool) (old now next : ScriptData) → Adding k sets old now
-    → AddsSet added (set_words (slice_index_or sets k d)) now next → added ≡ false → k < length sets
-    → with_sets old (map set_words sets) ≡ None
-adding_stops k sets d true old now next so_far adds is below = absurd (cc)
-adding_stops k sets d false old now next so_far adds is below =
-    sym (next_left k sets d old now below so_far)
-    ∙ ap (option_and_then (λ (more : ScriptData). with_sets more (map set_words (drop (k + 1) sets)))) adds
-
-pub adding_ends : (k : ℕ) (sets : List NewSet) (old now : ScriptData) → length sets ≤ k → Adding k sets old now
-    → with_sets old (map set_words sets) ≡ Some now
-adding_ends k sets old now all so_far =
-    sym so_far.left ∙ ap (λ (ys : List NewSet). with_sets now (map set_words ys)) (drop_all k sets all)

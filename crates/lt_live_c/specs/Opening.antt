@@ -16,7 +16,8 @@ use Rattle.lt_live_c.specs.NewSets.{SetWords, with_sets}
 -- the numbers are in range, and the text isn't too long
 abbrev pub fits_for_c : List ℕ → ℕ → ℕ → Bool
 fits_for_c text limit places =
-    nat_le (length text) MAX_BYTES && ((nat_lt 0 limit && nat_le limit MAX_MOVES_OF_SERVICE) && (nat_lt 0 places && nat_le places MAX_COMMANDS))
+    nat_le (length text) MAX_BYTES
+    && ((nat_lt 0 limit && nat_le limit MAX_MOVES_OF_SERVICE) && (nat_lt 0 places && nat_le places MAX_COMMANDS))
 
 -- the stations and sessions of the script, without its commands
 abbrev pub IsOpenedOf : ScriptData → ℕ → ℕ → Service → Type 0
@@ -67,4 +68,5 @@ pub record OpenSetsRefused (code : ℕ) (text : List ℕ) (sets : List SetWords)
       → (script : ScriptData) × (read_of text ≡ Ok script) × (MAX_SETS_OF_SERVICE < length script.sets + length sets)
   pub bad_set : code ≡ BAD_SET
       → (script : ScriptData) × (read_of text ≡ Ok script) × (with_sets script sets ≡ None)
-  pub only : (code ≡ BAD_ARGUMENT) ⊎ ((code ≡ BAD_SCRIPT) ⊎ ((code ≡ TOO_MANY) ⊎ ((code ≡ BAD_SET) ⊎ (code ≡ NO_MEMORY))))
+  pub only : (code ≡ BAD_ARGUMENT)
+      ⊎ ((code ≡ BAD_SCRIPT) ⊎ ((code ≡ TOO_MANY) ⊎ ((code ≡ BAD_SET) ⊎ (code ≡ NO_MEMORY))))

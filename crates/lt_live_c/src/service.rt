@@ -29,7 +29,7 @@ pub struct Service {
 
 impl Service {
     /// The stations and sessions of the script, whose commands are left out.
-    #[tactic(auto, using(crate::proofs::Fitting::limit_fits, crate::proofs::Fitting::places_fit, crate::proofs::Fitting::length_fits))]
+    #[tactic(auto, using(crate::proofs::Fitting::limit_fits, crate::proofs::Fitting::places_fit, crate::proofs::Fitting::length_fits, crate::proofs::Unopened::unfit, crate::proofs::Unopened::unread, crate::proofs::Unopened::no_memory))]
     pub fn open(alloc: Global, text: &[u8], limit: u64, places: u32) -> Result<Service, u32>
         ensures opened { IfOk result (λ s. IsOpenedFrom text.now limit places s) }
         ensures whole { IfOk result (λ s. LiveScript s.stations.items s.sessions.items) }
@@ -44,7 +44,7 @@ impl Service {
     }
 
     /// The same of the script with further sets.
-    #[tactic(auto, using(crate::proofs::Fitting::limit_fits, crate::proofs::Fitting::places_fit, crate::proofs::Fitting::length_fits))]
+    #[tactic(auto, using(crate::proofs::Fitting::limit_fits, crate::proofs::Fitting::places_fit, crate::proofs::Fitting::length_fits, crate::proofs::Unopened::unfit, crate::proofs::Unopened::unread, crate::proofs::Unopened::no_memory, crate::proofs::Unopened::without_sets, crate::proofs::Unopened::no_sets))]
     pub fn open_sets(
         alloc: Global,
         text: &[u8],

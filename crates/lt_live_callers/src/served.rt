@@ -38,8 +38,8 @@ impl<C> Served<C> {
         self.callers.iter().all(|called| called.done)
     }
 
-    /// The script, the line `journal` and the journal of the run, as `lockrun check` reads them if the script has no more
-    /// sets than a text may have.
+    /// The script, the line `journal` and the journal of the run, as `lockrun check` reads them where the script has no
+    /// more sets than a text may have.
     pub fn text(&self, alloc: Global) -> Result<Vec<u8>, AllocError>
         ensures { IfOk result (λ text. text.items ≡ with_journal self.now.script self.now.run.entries) }
     {

@@ -1,0 +1,63 @@
+-- Why nothing is opened.
+use Rattle.std.proofs.Common.{◌≡◌, ℕ, List, Ok, false, inl, inr, refl, arith}
+use Rattle.lt_modes.specs.Script.{ScriptData}
+use Rattle.lt_script.specs.Reading.{read_of}
+use Rattle.lt_live_c.specs.declared.code.TheConstants.{BAD_ARGUMENT, NO_MEMORY}
+use Rattle.lt_live_c.specs.NewSets.{SetWords}
+use Rattle.lt_live_c.specs.Opening.{fits_for_c, TextRefused, SetsRefused, OpenRefused, OpenSetsRefused}
+
+module _ (text : List ℕ) (limit places : ℕ) where
+  pub unfit : fits_for_c text limit places ≡ false → OpenRefused BAD_ARGUMENT text limit places
+  unfit h = record { bad_argument = λ e. h; bad_script = λ e. absurd (omega (arith, e)); only = inl refl }
+
+  pub unread : (code : ℕ) → TextRefused code text → OpenRefused code text limit places
+  unread code h = record {
+    bad_argument = λ e. absurd (elim h.only [ inl f ↦ omega (arith, e, f) | inr f ↦ omega (arith, e, f) ]);
+    bad_script = h.bad_script;
+    only = inr h.only;
+  }
+
+  pub no_memory : (code : ℕ) → code ≡ NO_MEMORY → OpenRefused code text limit places
+  no_memory code is = record {
+    bad_argument = λ e. absurd (omega (arith, e, is));
+    bad_script = λ e. absurd (omega (arith, e, is));
+    only = inr (inr is);
+  }
+
+  -- the same where there are further sets
+  module _ (sets : List SetWords) where
+    -- a code of what is opened without them
+    pub without_sets : (code : ℕ) → OpenRefused code text limit places → OpenSetsRefused code text sets limit places
+    without_sets code h = record {
+      bad_argument = h.bad_argument;
+      bad_script = h.bad_script;
+      too_many = λ e. absurd (elim h.only [
+        | inl f ↦ omega (arith, e, f)
+        | inr (inl f) ↦ omega (arith, e, f)
+        | inr (inr f) ↦ omega (arith, e, f)
+      ]);
+      bad_set = λ e. absurd (elim h.only [
+        | inl f ↦ omega (arith, e, f)
+        | inr (inl f) ↦ omega (arith, e, f)
+        | inr (inr f) ↦ omega (arith, e, f)
+      ]);
+      only = elim h.only [ inl f ↦ inl f | inr (inl f) ↦ inr (inl f) | inr (inr f) ↦ inr (inr (inr (inr f))) ];
+    }
+
+    pub no_sets : (code : ℕ) (script : ScriptData) → read_of text ≡ Ok script → SetsRefused code sets script
+        → OpenSetsRefused code text sets limit places
+    no_sets code script read h = record {
+      bad_argument = λ e. absurd (elim h.only [
+        | inl f ↦ omega (arith, e, f)
+        | inr (inl f) ↦ omega (arith, e, f)
+        | inr (inr f) ↦ omega (arith, e, f)
+      ]);
+      bad_script = λ e. absurd (elim h.only [
+        | inl f ↦ omega (arith, e, f)
+        | inr (inl f) ↦ omega (arith, e, f)
+        | inr (inr f) ↦ omega (arith, e, f)
+      ]);
+      too_many = λ e. (script, read, h.too_many e);
+      bad_set = λ e. (script, read, h.bad_set e);
+      only = inr (inr h.only);
+    }
