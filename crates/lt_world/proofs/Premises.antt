@@ -10,19 +10,21 @@ use Rattle.lt_modes.specs.declared.stamp.Stamp.{Stamp}
 use Rattle.lt_lists.specs.Below.{put}
 use Rattle.lt_lists.proofs.Puts.{put-same, put-other}
 use Rattle.lt_spec.specs.Script.{IsScript}
-use Rattle.lt_spec.specs.NodeMove.{node_within, leaves_asks, home, NodeState, node_waits, has_command, NodeMade, node_act, act_stamp}
+use Rattle.lt_spec.specs.NodeMove.{leaves_asks, home, NodeState, node_waits, has_command, NodeMade, node_act, act_stamp}
 use Rattle.lt_spec.specs.World.{Logged, World, world_after, is_enabled, is_runnable, IsRun, put_mail, after_made, letter_for, node_move, move_stamp, has_mail, is_some_letter}
 use Rattle.lt_spec.specs.FixedOrder.{take_turn, senders, takes}
 use Rattle.lt_law_enabled.specs.OrderLaws.{HasLetter}
 use Rattle.lt_law_enabled.proofs.Order.{takes_where}
 use Rattle.lt_model.proofs.ClocksGrow.{clocks_in_runs}
 use Rattle.lt_law_invariant.proofs.SoundStates.{letters_fit_in_runs}
-use Rattle.lt_law_invariant.proofs.FewAsks.{nodes_within, asks_placed, whole}
+use Rattle.lt_law_invariant.proofs.FewAsks.{nodes_within, drops_within, asks_placed, whole}
 use Rattle.lt_desk.specs.DeskData.{OutData}
 use Rattle.lt_node.specs.NodeData.{NodeData, state_of, NodeDoes, SameNode, with_sent}
+use Rattle.lt_node.specs.Touched.{leaves_room_to_act, leaves_room_to_take}
+use Rattle.lt_node.proofs.TouchedLemmas.{room_to_act, room_to_take}
 use Rattle.lt_inbox.specs.Mail.{MailData, mail_in, SameLetters, AreDelivered, takes_in}
 use Rattle.lt_inbox.proofs.TakeOrder.{filter_same, flat_map_same}
-use Rattle.lt_world.specs.Fields.{IsNodeOf, IsWithin, CanAct, CanTake, node_of_none, node_at, IsWorld, OnlyMemory, IsOpened, Holds}
+use Rattle.lt_world.specs.Fields.{IsNodeOf, CanAct, CanTake, node_of_none, node_at, IsWorld, OnlyMemory, IsOpened, Holds}
 use Rattle.lt_world.proofs.Runs.{whole_run, own_mail}
 
 -- what holds of the node of the world holds of the code's
@@ -53,25 +55,22 @@ act_inside script w q client good e =
     let act = act_parts script w q client e in
     subst (λ (x : ℕ). x < script.nodes) act.at_home (good.homes client act.client_is)
 
-pub within : (script : ScriptData) (run : List Logged) (q : ℕ) (n : NodeData) → IsScript script → IsRun script run → q < script.nodes
-    → IsNodeOf script q ((world_after script run).node q) n → IsWithin n
-within script run q n good is_run below is =
-    carried (λ s x state. IsTrue (node_within s state)) is (nodes_within script run good is_run q below)
-
 pub can_act : (script : ScriptData) (run : List Logged) (q client : ℕ) (n : NodeData) → IsScript script → IsRun script run
     → IsTrue (is_enabled script (world_after script run) q (Act client)) → length run + 1 < 2 ^ 62
     → IsNodeOf script q ((world_after script run).node q) n → CanAct n client
 can_act script run q client n good is_run enabled few is =
     let w = world_after script run in
     let act = act_parts script w q client enabled in
+    let below = act_inside script w q client good enabled in
     record {
       client_is = carried (λ s x state. client < length s.clients) is act.client_is;
       at_home = carried (λ s x state. home s client ≡ x) is act.at_home;
       runnable = carried (λ s x state. IsTrue (not (node_waits s state client) && has_command s state client)) is
           (subst (λ (x : ℕ). IsTrue (not (node_waits script (w.node x) client) && has_command script (w.node x) client)) act.at_home act.runs);
-      within = within script run q n good is_run (act_inside script w q client good enabled) is;
-      asks = carried (λ s x state. IsTrue (leaves_asks s state)) is
-          (subst (λ (x : ℕ). IsTrue (leaves_asks script (w.node x))) act.at_home (asks_placed script run good is_run client act.client_is act.runs));
+      within = carried (λ s x state. IsTrue (leaves_room_to_act s state client)) is
+          (room_to_act script (w.node q) client good (nodes_within script run good is_run q below)
+          (subst (λ (x : ℕ). IsTrue (leaves_asks script (w.node x))) act.at_home (asks_placed script run good is_run client act.client_is act.runs))
+          (drops_within script run good is_run q below));
       clock = carried (λ s x state. state.clock + 1 < 2 ^ 62) is (omega (arith, few, clock_below script run q is_run));
     }
 
@@ -89,6 +88,11 @@ front_fits script run q p letter rest good is_run enabled few front =
     subst (λ (r : List Logged). IsTrue (fits (numbers_of script) q ((world_after script r).node q).clock (((world_after script r).node q).set letter.set) letter)) (whole_run run)
     (letters_fit_in_runs script run (whole script good) is_run (length run) p q letter few has.sender has.receiver on')
 
+-- the letter is for a set of the script, and not of the last clock
+record IsHead (numbers : Numbers) (letter : Letter) : Type 0 where
+  pub set : letter.set < numbers.sets
+  pub stamp : letter.stamp.clock + 1 < 2 ^ 62
+
 pub can_take : (script : ScriptData) (run : List Logged) (q p : ℕ) (letter : Letter) (rest : List Letter) (n : NodeData) → IsScript script → IsRun script run
     → IsTrue (is_enabled script (world_after script run) q (Take p)) → length run + 1 < 2 ^ 62
     → (world_after script run).mail p q ≡ letter ∷ rest
@@ -100,17 +104,21 @@ can_take script run q p letter rest n good is_run enabled few front is =
     front_fits script run q p letter rest good is_run enabled few front in
     record {
       fits_here = carried (λ s x state. IsTrue (fits (numbers_of s) x state.clock (state.set letter.set) letter)) is fitting;
-      within = within script run q n good is_run has.receiver is;
+      within = carried (λ s x state. IsTrue (leaves_room_to_take state letter)) is
+          (room_to_take script (w.node q) letter (nodes_within script run good is_run q has.receiver) (head_of (numbers_of script) (w.node q).clock (and_parts _ _ fitting).0).set);
       clock = carried (λ s x state. state.clock + 1 < 2 ^ 62) is (omega (arith, few, clock_below script run q is_run));
-      stamp = early (numbers_of script) (w.node q).clock (and_parts _ _ fitting).0;
+      stamp = (head_of (numbers_of script) (w.node q).clock (and_parts _ _ fitting).0).stamp;
     }
   where
-    early : (numbers : Numbers) (clock : ℕ) → IsTrue (head_fits numbers clock letter) → letter.stamp.clock + 1 < 2 ^ 62
-    early numbers clock e =
+    head_of : (numbers : Numbers) (clock : ℕ) → IsTrue (head_fits numbers clock letter) → IsHead numbers letter
+    head_of numbers clock e =
         let a = and_parts (nat_lt letter.set numbers.sets) _ e in
         let b = and_parts (nat_lt letter.link.node numbers.nodes) _ a.1 in
         let d = and_parts (nat_le letter.link.epoch letter.stamp.clock) _ b.1 in
-        ltb-true (letter.stamp.clock + 1) (2 ^ 62) (and_parts (nat_lt (letter.stamp.clock + 1) (2 ^ 62)) (nat_lt (clock + 1) (2 ^ 62)) d.1).0
+        record {
+          set = ltb-true letter.set numbers.sets a.0;
+          stamp = ltb-true (letter.stamp.clock + 1) (2 ^ 62) (and_parts (nat_lt (letter.stamp.clock + 1) (2 ^ 62)) (nat_lt (clock + 1) (2 ^ 62)) d.1).0;
+        }
 
 -- The code's nodes and letters after a part of a move are those of the world after it.
 

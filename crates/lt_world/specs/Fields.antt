@@ -12,13 +12,14 @@ use Rattle.lt_modes.specs.Fits.{fits, numbers_of}
 use Rattle.lt_lists.specs.Below.{sum_below}
 use Rattle.lt_spec.specs.Script.{IsScript}
 use Rattle.lt_spec.specs.World.{Logged, World, world_after, made_by, is_runnable, is_enabled, opened, IsRun, moves_of, logged, line_client}
-use Rattle.lt_spec.specs.NodeMove.{NodeState, home, node_within, leaves_asks, node_waits, has_command}
+use Rattle.lt_spec.specs.NodeMove.{NodeState, home, node_waits, has_command}
 use Rattle.lt_spec.specs.declared.moves.TheConstants.{MAX_MOVES}
 use Rattle.lt_spec.specs.Facts.{state_at}
 use Rattle.lt_merge.specs.Merging.{RunData, events_at}
 use Rattle.lt_desk.specs.DeskData.{OutData}
 use Rattle.lt_desk.specs.LetterSeen.{letter_seen}
-use Rattle.lt_node.specs.NodeData.{NodeData, SameNode, state_of, RoomForNext, RoomToTake}
+use Rattle.lt_node.specs.NodeData.{NodeData, SameNode, state_of, RoomToTake}
+use Rattle.lt_node.specs.Touched.{RoomToAct, leaves_room_to_act, leaves_room_to_take}
 use Rattle.lt_inbox.specs.Mail.{MailData, mail_in}
 use Rattle.lt_world.specs.declared.network.Network.{Network}
 use Rattle.lt_world.specs.declared.reserved.Reserved.{Reserved}
@@ -146,7 +147,7 @@ step_of (Taking sender letter) = steps.Take sender
 
 -- the node has room for the move; a letter in hand is the front one of its sender, and can go back
 abbrev pub NodeRoom : World → ℕ → List NodeData → MailData → OutData → Reserved → Type 0
-NodeRoom w q nodes inboxes out (Acting client) = RoomForNext client (node_at nodes q) out
+NodeRoom w q nodes inboxes out (Acting client) = RoomToAct client (node_at nodes q) out
 NodeRoom w q nodes inboxes out (Taking sender letter) =
     RoomToTake (node_at nodes q) letter out × (w.mail sender q ≡ letter_seen letter ∷ mail_in inboxes sender q)
     × (0 < inboxes.free)
@@ -192,22 +193,17 @@ other_named step (Some client) = if is_act_of step client then None else Some cl
 
 -- When a node can make a move.
 
--- what the node keeps leaves room for a move
-abbrev pub IsWithin : NodeData → Type 0
-IsWithin n = IsTrue (node_within n.script (state_of n))
-
 -- the node can make the client's next command
 pub record CanAct (n : NodeData) (client : ℕ) : Type 0 where
   pub client_is : client < length n.script.clients
   pub at_home : home n.script client ≡ n.me
   pub runnable : IsTrue (not (node_waits n.script (state_of n) client) && has_command n.script (state_of n) client)
-  pub within : IsWithin n
-  pub asks : IsTrue (leaves_asks n.script (state_of n))
+  pub within : IsTrue (leaves_room_to_act n.script (state_of n) client)
   pub clock : n.clock + 1 < 2 ^ 62
 
 -- the node can take the letter
 pub record CanTake (n : NodeData) (letter : Letter) : Type 0 where
   pub fits_here : IsTrue (fits (numbers_of n.script) n.me n.clock ((state_of n).set letter.set) letter)
-  pub within : IsWithin n
+  pub within : IsTrue (leaves_room_to_take (state_of n) letter)
   pub clock : n.clock + 1 < 2 ^ 62
   pub stamp : letter.stamp.clock + 1 < 2 ^ 62

@@ -6,7 +6,8 @@ ghost use Rattle.lt_modes.specs.declared.moves.Step.TheVariants.{Act, Take};
 ghost use Rattle.lt_spec.specs.World.{start, is_enabled};
 ghost use Rattle.lt_desk.specs.LetterSeen.{letter_seen};
 ghost use Rattle.lt_spec.specs.NodeMove.{node_act, node_take, act_stamp, take_stamp};
-ghost use Rattle.lt_node.specs.NodeData.{NodeDoes, state_of, RoomForNext, RoomToTake};
+ghost use Rattle.lt_node.specs.NodeData.{NodeDoes, state_of, RoomToTake};
+ghost use Rattle.lt_node.specs.Touched.{RoomToAct};
 ghost use Rattle.lt_inbox.specs.Mail.{AreDelivered};
 ghost use Rattle.lt_spec.specs.Script.{IsScript};
 ghost use Rattle.lt_world.specs.Fields.{CanAct, CanTake, IsAfterRun, world_in, run_with, IsReserved, step_of, IsNodeOf, InboxRoom, node_at};
@@ -162,14 +163,14 @@ fn nodes_of(alloc: Global, script: &Script) -> Result<Vec<Node>, AllocError>
 fn act_at(nodes: &mut Vec<Node>, node: u8, client: u16, out: &mut Out) -> Stamp
     requires node { node < length nodes.old.items }
     requires acts { CanAct (node_at nodes.old.items node) client }
-    requires room { RoomForNext client (node_at nodes.old.items node) out.old }
+    requires room { RoomToAct client (node_at nodes.old.items node) out.old }
     ensures stamp { result ≡ act_stamp (node_at nodes.old.items node).me (state_of (node_at nodes.old.items node)) }
     ensures others { nodes.new.items ≡ slice_set nodes.old.items node (node_at nodes.new.items node) }
     ensures does { NodeDoes (node_act (node_at nodes.old.items node).script (node_at nodes.old.items node).me client (state_of (node_at nodes.old.items node))) (node_at nodes.old.items node) out.old (node_at nodes.new.items node) out.new }
 {
     let mover = &mut nodes[usize::from(node)];
     let stamp = mover.stamp_of_act();
-    mover.act_next(client, out);
+    mover.act(client, out);
     stamp
 }
 

@@ -2,7 +2,8 @@ ghost use Rattle.std.specs.Prelude.{◌≡◌, ◌<◌, ◌+◌, ◌^◌, length
 ghost use Rattle.lt_modes.specs.declared.moves.Step.TheVariants.{Act, Take};
 ghost use Rattle.lt_spec.specs.World.{is_enabled};
 ghost use Rattle.lt_desk.specs.LetterSeen.{letter_seen};
-ghost use Rattle.lt_node.specs.NodeData.{RoomForNext, RoomToTake};
+ghost use Rattle.lt_node.specs.NodeData.{RoomToTake};
+ghost use Rattle.lt_node.specs.Touched.{RoomToAct};
 ghost use Rattle.lt_inbox.specs.Mail.{SameLetters};
 ghost use Rattle.lt_world.specs.Fields.{CanAct, CanTake, IsAfterRun, world_in, IsReserved, step_of, OnlyMemory, InboxRoom, node_at};
 ghost use Rattle.lt_world.specs.declared.reserved.Reserved.TheVariants.{Acting, Taking};
@@ -104,10 +105,10 @@ impl Network {
         ensures letters { SameLetters self.old.inboxes self.new.inboxes }
         ensures entries { self.new.run.entries ≡ self.old.run.entries }
         ensures out { (self.new.out.posts ≡ self.old.out.posts) × (self.new.out.events ≡ self.old.out.events) }
-        ensures room { OnOk result (RoomForNext client (node_at self.new.nodes.items node) self.new.out) }
+        ensures room { OnOk result (RoomToAct client (node_at self.new.nodes.items node) self.new.out) }
         ensures send { OnOk result (InboxRoom self.new.inboxes self.new.run self.new.out) }
     {
-        self.nodes[usize::from(node)].reserve_next(client, &mut self.out)?;
+        self.nodes[usize::from(node)].reserve(client, &mut self.out)?;
         reserve_all(&mut self.inboxes, &mut self.run, &self.out)
     }
 

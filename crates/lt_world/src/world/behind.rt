@@ -16,7 +16,7 @@ impl World {
     pub(super) fn behind(
         &self,
         alloc: Global,
-        ask: &Option<(u8, Ask)>,
+        ask: &Option<(u32, Ask)>,
     ) -> Result<Vec<bool>, AllocError>
         requires { IfSome ask.now (λ found. found.0 < length self.now.script.sets) }
         ensures { IfOk result
@@ -30,7 +30,7 @@ impl World {
     }
 
     // Marks each client behind whose ask for the set one of this client waits.
-    fn mark_behind(&self, marks: &mut Vec<bool>, set: u8, client: u16)
+    fn mark_behind(&self, marks: &mut Vec<bool>, set: u32, client: u16)
         requires set { set < length self.now.script.sets }
         requires marks { length marks.old.items ≤ length self.now.script.clients }
         ensures { AreAdded (λ other. waits_behind self.now.script (world_of self.now) set other client)
@@ -42,7 +42,7 @@ impl World {
     }
 
     // Marks those behind whose asks it waits at this node.
-    fn mark_at(&self, marks: &mut Vec<bool>, node: u8, set: u8, client: u16)
+    fn mark_at(&self, marks: &mut Vec<bool>, node: u8, set: u32, client: u16)
         requires node { node < self.now.script.nodes }
         requires set { set < length self.now.script.sets }
         requires marks { length marks.old.items ≤ length self.now.script.clients }
@@ -57,7 +57,7 @@ impl World {
         &self,
         client: u16,
         other: u16,
-        ask: &Option<(u8, Ask)>,
+        ask: &Option<(u32, Ask)>,
         behind: &[bool],
     ) -> bool
         requires other { other < length self.now.script.clients }
@@ -69,7 +69,7 @@ impl World {
     }
 
     // Whether the other client stands in the way of the ask, if there is one.
-    fn is_kept_by_marks(&self, other: u16, ask: &Option<(u8, Ask)>, behind: &[bool]) -> bool
+    fn is_kept_by_marks(&self, other: u16, ask: &Option<(u32, Ask)>, behind: &[bool]) -> bool
         requires other { other < length self.now.script.clients }
         requires set { IfSome ask.now (λ found. found.0 < length self.now.script.sets) }
         requires behind { IfSome ask.now (λ found. AreBehind self.now found.0 found.1.client behind.now) }
@@ -82,7 +82,7 @@ impl World {
     }
 
     // Whether the ask waits behind one of the other client, or this one's lock stands in its way.
-    fn is_marked_or_bars(&self, set: u8, other: u16, ask: &Ask, behind: &[bool]) -> bool
+    fn is_marked_or_bars(&self, set: u32, other: u16, ask: &Ask, behind: &[bool]) -> bool
         requires set { set < length self.now.script.sets }
         requires other { other < length self.now.script.clients }
         requires behind { AreBehind self.now set ask.now.client behind.now }

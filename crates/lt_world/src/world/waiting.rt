@@ -39,7 +39,7 @@ impl World {
     }
 
     // The client's unanswered ask with its set, if it has one.
-    fn ask_of(&self, client: u16) -> Option<(u8, Ask)>
+    fn ask_of(&self, client: u16) -> Option<(u32, Ask)>
         requires { client < length self.now.script.clients }
         ensures within { IfSome result (λ found. found.0 < length self.now.script.sets) }
         ensures waits { (other : ℕ)
@@ -50,7 +50,7 @@ impl World {
     }
 
     // The client's unanswered ask in the first set that has one, with this set.
-    fn first_ask(&self, client: u16) -> Option<(u8, Ask)>
+    fn first_ask(&self, client: u16) -> Option<(u32, Ask)>
         requires { client < length self.now.script.clients }
         ensures { result ≡ first_ask self.now.script ((world_of self.now).node (home self.now.script client)) client }
     {
@@ -58,7 +58,7 @@ impl World {
     }
 
     // Whether the other one is another client, and stands in the way of the client's ask, if there is one.
-    fn waits_by(&self, client: u16, other: u16, ask: &Option<(u8, Ask)>) -> bool
+    fn waits_by(&self, client: u16, other: u16, ask: &Option<(u32, Ask)>) -> bool
         requires other { other < length self.now.script.clients }
         requires set { IfSome ask.now (λ found. found.0 < length self.now.script.sets) }
         ensures { result ≡ waits_by self.now client other ask.now }
@@ -67,7 +67,7 @@ impl World {
     }
 
     // Whether the other client stands in the way of the ask, if there is one.
-    fn is_kept(&self, other: u16, ask: &Option<(u8, Ask)>) -> bool
+    fn is_kept(&self, other: u16, ask: &Option<(u32, Ask)>) -> bool
         requires other { other < length self.now.script.clients }
         requires set { IfSome ask.now (λ found. found.0 < length self.now.script.sets) }
         ensures { result ≡ stands_in_way self.now other ask.now }
@@ -79,7 +79,7 @@ impl World {
     }
 
     // Whether the other client's lock or ask stands in the way of the ask.
-    fn is_kept_by(&self, set: u8, other: u16, ask: &Ask) -> bool
+    fn is_kept_by(&self, set: u32, other: u16, ask: &Ask) -> bool
         requires set { set < length self.now.script.sets }
         requires other { other < length self.now.script.clients }
         ensures { result ≡ is_kept_by self.now.script (world_of self.now) set other ask.now }
@@ -88,7 +88,7 @@ impl World {
     }
 
     // Whether the client holds a lock of the set with which the mode conflicts.
-    pub(super) fn holds_against(&self, set: u8, mode: Mode, client: u16) -> bool
+    pub(super) fn holds_against(&self, set: u32, mode: Mode, client: u16) -> bool
         requires set { set < length self.now.script.sets }
         requires client { client < length self.now.script.clients }
         ensures { result ≡ holds_against self.now.script (world_of self.now) set mode client }
@@ -102,7 +102,7 @@ impl World {
     }
 
     // Whether the client holds a lock of the set in its own mode, and the mode conflicts with that.
-    fn is_against(&self, set: u8, mode: Mode, client: u16, own: Mode) -> bool
+    fn is_against(&self, set: u32, mode: Mode, client: u16, own: Mode) -> bool
         requires set { set < length self.now.script.sets }
         requires client { client < length self.now.script.clients }
         ensures { result ≡ bars_by_lock self.now set mode client own }
@@ -111,7 +111,7 @@ impl World {
     }
 
     // How many locks of the mode the client holds in the set.
-    fn held(&self, set: u8, client: u16, mode: Mode) -> u64
+    fn held(&self, set: u32, client: u16, mode: Mode) -> u64
         requires set { set < length self.now.script.sets }
         requires client { client < length self.now.script.clients }
         ensures { result ≡ count_of (state_at (world_of self.now) set (home self.now.script client)).held client mode }
@@ -122,7 +122,7 @@ impl World {
 
     // Whether at some node the other client's ask for the set stands before the client's, or the client's is parked behind
     // it.
-    fn waits_behind(&self, set: u8, other: u16, client: u16) -> bool
+    fn waits_behind(&self, set: u32, other: u16, client: u16) -> bool
         requires set { set < length self.now.script.sets }
         requires other { other < length self.now.script.clients }
         ensures { result ≡ waits_behind self.now.script (world_of self.now) set other client }
@@ -139,7 +139,7 @@ impl World {
     }
 
     // Whether the client has an unanswered ask for the set. Nobody waits behind one that has none.
-    fn asks(&self, set: u8, client: u16) -> bool
+    fn asks(&self, set: u32, client: u16) -> bool
         requires set { set < length self.now.script.sets }
         requires client { client < length self.now.script.clients }
         ensures { IsFalse result
@@ -150,7 +150,7 @@ impl World {
     }
 
     // The client's unanswered ask for the set, if it has one.
-    fn ask_in(&self, set: u8, client: u16) -> Option<Ask>
+    fn ask_in(&self, set: u32, client: u16) -> Option<Ask>
         requires set { set < length self.now.script.sets }
         requires client { client < length self.now.script.clients }
         ensures { result ≡ pending_ask (state_at (world_of self.now) set (home self.now.script client)) client }
@@ -160,7 +160,7 @@ impl World {
     }
 
     // Whether it is so at this node.
-    fn is_behind(&self, node: u8, set: u8, other: u16, client: u16) -> bool
+    fn is_behind(&self, node: u8, set: u32, other: u16, client: u16) -> bool
         requires node { node < self.now.script.nodes }
         requires set { set < length self.now.script.sets }
         ensures { result ≡ (stands_before (state_at (world_of self.now) set node) other client
