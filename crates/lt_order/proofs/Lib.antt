@@ -1,2 +1,1 @@
-pub mod LockLists
 pub mod Orders

@@ -1,12 +1,13 @@
 -- A client's commands in order, one request of the script after the other.
-use Rattle.std.proofs.Common.{◌≡◌, ℕ, zero, suc, ◌+◌, ◌<◌, List, [], ◌∷◌, length, Option, Some, None, Bool, true, false, refl, sym, ap, arith, ◌∙◌, drop, ◌==◌, ◌&&◌, filter_map, is_some, not, slice_index_or, if◌then◌else◌}
+use Rattle.std.proofs.Common.{◌≡◌, ℕ, zero, suc, ◌+◌, ◌<◌, List, [], ◌∷◌, length, Option, Some, None, Bool, true, false, refl, sym, ap, arith, ◌∙◌, drop, ◌==◌, ◌&&◌, filter_map, is_some, not, IsTrue, inl, inr, slice_index_or, if◌then◌else◌}
 use Rattle.std.specs.List.{cons_option}
-use Rattle.std.proofs.lemmas.Bool.{false≢true}
+use Rattle.std.proofs.lemmas.Bool.{cases_order, false≢true}
 use Rattle.lt_modes.specs.declared.command.Command.{Command}
 use Rattle.lt_modes.specs.Script.{ScriptData}
 use Rattle.lt_spec.specs.NodeMove.{command_if}
 use Rattle.lt_spec.specs.Holdings.{Holding}
-use Rattle.lt_spec.specs.Script.{keeps_order, may_hold_after, is_orderly_from}
+use Rattle.lt_spec.specs.Script.{keeps_order, may_hold_after, is_orderly_from, is_orderly, first_bad}
+use Rattle.lt_spec.proofs.FirstBad.{first_bad_is_exact}
 
 drop_first : {X : Type 0} (i : ℕ) (xs : List X) (d : X) → i < length xs → drop i xs ≡ slice_index_or xs i d ∷ drop (i + 1) xs
 drop_first i [] d h = absurd (omega (arith, h))
@@ -53,6 +54,22 @@ none_left script client i locks requests h = ap (filter_map (command_if client))
     nothing (suc n) [] e = refl
     nothing zero (x ∷ rest) e = absurd (omega (arith, e))
     nothing (suc n) (x ∷ rest) e = nothing n rest (omega (arith, e))
+
+-- the first client that isn't in order is the one that is told
+pub first_is : (script : ScriptData) (client : ℕ) → client < length script.clients → is_orderly script client ≡ false → ((earlier : ℕ) → earlier < client → IsTrue (is_orderly script earlier))
+    → first_bad script ≡ Some client
+first_is script client inside bad before =
+    let exact = first_bad_is_exact script in
+    elim (first_bad script) as (λ o. first_bad script ≡ o → o ≡ Some client) [
+      | None ↦ λ none. absurd (false≢true (sym bad ∙ exact.0.0 none client inside))
+      | Some k ↦ λ told.
+          let first = exact.1 k told in
+          elim (cases_order k client) [
+            | inl same ↦ ap Some same
+            | inr (inl less) ↦ absurd (false≢true (sym first.1 ∙ before k less))
+            | inr (inr more) ↦ absurd (false≢true (sym bad ∙ first.2 client more))
+          ]
+    ] refl
 
 -- nothing is found exactly where the answer is none
 pub none_is : {X : Type 0} (o : Option X) (t : Bool) → is_some o ≡ not t → t ≡ true → o ≡ None

@@ -2,6 +2,7 @@
 //! releases all that it may hold.
 #![tactic(auto)]
 
+mod lock;
 mod locks;
 mod order;
 
