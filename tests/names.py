@@ -21,7 +21,7 @@ FIRST_WORDS = '''
     version nodes set client journal lock try unlock change drop move grant wait not_held busy copy freeze token held
     waiting owner end cut ok act take run sim check make soak lockrun: rt rustc unfolding waits cycle no ends a
     order ordered not needs too
-    T begin commit abort not_open children t u locknest: lockwaits: locklive:'''.split()
+    C T begin commit abort not_open children t u locknest: lockwaits: locklive:'''.split()
 # Words that are names of nothing in the repository: of languages, of the toolchain and its libraries, of what a build
 # or a check makes, and of places in an example.
 OTHERS = '''

@@ -1,20 +1,20 @@
-//! Tests of the checker and of the top call, of sessions and stations with the call on them, of the wait-for report
-//! and of nested transactions: a crate apart, so that none is proved again for its tests.
+//! Tests of the checker, and of the calls that run a script on threads, by the word `run` or on live sessions: a crate
+//! apart, so that none is proved again for its tests.
 #![tactic(auto)]
 
 #[cfg(test)]
 mod checker;
 #[cfg(test)]
-mod live;
+mod faults;
 #[cfg(test)]
-mod live_serve;
+mod gates;
 #[cfg(test)]
-mod nest;
+mod meeting;
 #[cfg(test)]
-mod pool;
+mod order;
 #[cfg(test)]
-mod serve;
+mod running;
 #[cfg(test)]
 mod telling;
 #[cfg(test)]
-mod waits;
+mod threads;

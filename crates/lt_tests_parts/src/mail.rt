@@ -4,7 +4,6 @@ use lt_mail::{Mail, beside, open};
 use lt_modes::{Link, ModeSet, Stamp};
 use std::alloc::{AllocError, Global};
 use std::marker::Model;
-use std::test::Fail;
 
 // The mail of node 0, which sends, and that of node 1, which takes. Their ring has a place for one letter.
 #[derive(Drop)]
@@ -21,7 +20,8 @@ impl Model for Two {
 
     ghost view = { λ two. 0 };
 
-    ghost invariant = { λ two. AreLinked two.sender two.taker × (outs_count two.sender ≡ 2) × (ins_count two.taker ≡ 2) };
+    ghost invariant = { λ two. AreLinked two.sender two.taker
+        × (outs_count two.sender ≡ 2) × (ins_count two.taker ≡ 2) };
 }
 
 #[tactic(auto, using(lt_mail::proofs::LookLemmas::links_last, lt_mail::proofs::LookLemmas::ends_same))]
@@ -82,15 +82,13 @@ impl Two {
 
 // The ring holds one letter at a time, and the outbox the others.
 #[test]
-fn three_letters_in_a_ring_for_one(rt: HostRuntime) -> Result<(), Fail> {
-    let mut two = Two::new(rt.alloc())?;
-    same(&rt, (two.sender.node(), two.taker.node()), (0, 1));
-    two.send(5)?;
-    two.send(6)?;
-    two.send(7)?;
+fn three_letters_in_a_ring_for_one(rt: HostRuntime) {
+    let mut two = Two::new(rt.alloc()).expect(&rt, "memory");
+    same(&rt, two.send(5), Ok(()));
+    same(&rt, two.send(6), Ok(()));
+    same(&rt, two.send(7), Ok(()));
     same(&rt, two.take(), None);
     two.flush();
-    two.sender.reserve(200)?;
     same(&rt, two.take_known(), None);
     same(&rt, two.take(), Some(5));
     same(&rt, two.take(), None);
@@ -103,5 +101,4 @@ fn three_letters_in_a_ring_for_one(rt: HostRuntime) -> Result<(), Fail> {
     two.meet();
     same(&rt, two.take_known(), None);
     same(&rt, two.take(), None);
-    Ok(())
 }
