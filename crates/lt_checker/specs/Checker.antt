@@ -89,6 +89,12 @@ IsAnswer told (Ok run) = told ≡ Ok run.entries
 IsAnswer told (Err Memory) = Unit {0}
 IsAnswer told (Err (Bad line)) = told ≡ Err line
 
+-- the same, or none
+abbrev pub IsAnswerOrNone : Result (List Logged) ℕ → Result (Option RunData) ReplayError → Type 0
+IsAnswerOrNone told (Ok None) = Unit {0}
+IsAnswerOrNone told (Ok (Some run)) = IsAnswer told (Ok run)
+IsAnswerOrNone told (Err error) = IsAnswer told (Err error)
+
 -- the answer is that memory was refused
 abbrev pub IsMemory : {T : Type 0} → Result T ReplayError → Type 0
 IsMemory (Ok told) = ⊥

@@ -1,4 +1,4 @@
-ghost use Rattle.std.specs.Prelude.{◌≡◌, ◌≢◌, [], ◌∷◌, ◌++◌, ◌≤◌, ℕ, List, length, take, Some, None, Err, IsNone, IsErr, IfOk, IfSome, OnOk, OnErr};
+ghost use Rattle.std.specs.Prelude.{◌≡◌, ◌≢◌, [], ◌∷◌, ◌++◌, ◌≤◌, ℕ, List, length, take, ◌↔◌, Some, None, Ok, Err, is_some, IsTrue, IsNone, IsErr, IfOk, IfSome, OnOk, OnErr};
 ghost use Rattle.lt_text.specs.Text.{lines, without_return, is_line_end, HasNone};
 ghost use Rattle.lt_modes.specs.Script.{ScriptData};
 ghost use Rattle.lt_spec.specs.Script.{IsShort};
@@ -8,6 +8,7 @@ ghost use Rattle.lt_checker.specs.First.{FeedsLine};
 
 use crate::error::ReplayError;
 use crate::reader::Reader;
+use crate::short::is_short;
 use arrayvec::ArrayVec;
 use lt_merge::Run;
 use lt_script::Script;
@@ -40,18 +41,24 @@ impl Model for Checker {
 }
 
 impl Checker {
-    /// A checker that has no bytes yet. A script with more commands than a text may have is refused as memory is.
-    pub fn new(alloc: Global, script: &Script) -> Result<Checker, AllocError>
-        ensures checker { IfOk result (λ checker. checker ≡ record { script = script.now; feed = Some (new_feed script.now) }) }
-        ensures stands { IfOk result (λ checker. StandsFor checker []) }
+    /// A checker that has no bytes yet; none where the script has more sets or commands than a text may have.
+    pub fn new(alloc: Global, script: &Script) -> Result<Option<Checker>, AllocError>
+        ensures some { IfOk result (λ made. IsTrue (is_some made) ↔ IsShort script.now) }
+        ensures none { ¬ IsShort script.now → result ≡ Ok None }
+        ensures checker { IfOk result (λ made. IfSome made
+            (λ checker. checker ≡ record { script = script.now; feed = Some (new_feed script.now) })) }
+        ensures stands { IfOk result (λ made. IfSome made (λ checker. StandsFor checker [])) }
     {
+        if !is_short(script) {
+            return Ok(None);
+        }
         let reader = Reader::new(alloc, script)?;
         let script = script.copy(alloc)?;
-        Ok(Checker {
+        Ok(Some(Checker {
             script,
             reader: Some(reader),
             rest: ArrayVec::new(),
-        })
+        }))
     }
 
     /// Takes the next bytes. Once memory was refused, each later call fails too.

@@ -87,6 +87,7 @@ fn checked_journal<S: Source>(
     first: &[u8],
     room: Option<usize>,
 ) -> Result<Result<World, ReplayError>, ReadFailure>
+    requires { IsShort script.now }
     ensures told { IfOk result (λ told. (rest : List ℕ)
         × IsJournalAnswer script.now (lines (first.now ++ rest)) told
         × IsRest room rest (S.state source.old) (S.state source.new)) }
@@ -99,10 +100,13 @@ fn checked_journal<S: Source>(
 
 // A checker of a journal that begins with these bytes.
 fn begun(alloc: Global, script: &Script, first: &[u8]) -> Result<Checker, AllocError>
+    requires { IsShort script.now }
     ensures script { IfOk result (λ checker. checker.script ≡ script.now) }
     ensures stands { IfOk result (λ checker. StandsFor checker first.now) }
 {
-    let mut checker = Checker::new(alloc, script)?;
+    let Some(mut checker) = Checker::new(alloc, script)? else {
+        unreachable!();
+    };
     checker.feed(first)?;
     Ok(checker)
 }

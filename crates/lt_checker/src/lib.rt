@@ -13,6 +13,7 @@ mod moves;
 mod reader;
 mod replaying;
 mod rest;
+mod short;
 
 pub use checker::Checker;
 pub use error::{InputError, ReplayError};

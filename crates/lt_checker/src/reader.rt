@@ -11,7 +11,7 @@ use crate::following::follow;
 use lt_journal::{Text, Wording};
 use lt_merge::Run;
 use lt_script::Script;
-use lt_spec::{MAX_COMMANDS, MAX_MOVES};
+use lt_spec::MAX_MOVES;
 use lt_world::World;
 use std::alloc::{AllocError, Global};
 use std::collections::VecDeque;
@@ -52,13 +52,11 @@ impl Model for Reader {
 }
 
 impl Reader {
-    /// Before the first line. A script with more commands than a text may have is refused as memory is.
+    /// Before the first line.
     pub(crate) fn new(alloc: Global, script: &Script) -> Result<Reader, AllocError>
+        requires { IsShort script.now }
         ensures { IfOk result (λ reader. reader ≡ record { script = script.now; reader = first_reader script.now }) }
     {
-        if script.commands() > u64::from(MAX_COMMANDS) {
-            return Err(AllocError);
-        }
         let world = World::new(alloc, script, MAX_MOVES)?;
         let mut later = VecDeque::new(alloc);
         push_first(&mut later, script)?;

@@ -1,8 +1,7 @@
 -- How a run ended, and what is known of a run that was made.
 use Rattle.std.specs.Prelude.{◌≡◌, ◌≢◌, ◌<◌, ◌≤◌, ℕ, List, Option, Some, None, length, take}
 use Rattle.lt_modes.specs.Script.{ScriptData}
-use Rattle.lt_spec.specs.Script.{IsScript, IsOrdered}
-use Rattle.lt_spec.specs.declared.limits.TheConstants.{MAX_COMMANDS}
+use Rattle.lt_spec.specs.Script.{IsScript, IsShort, IsOrdered}
 use Rattle.lt_spec.specs.World.{Logged, IsRun, EndsBy, full_node}
 use Rattle.lt_spec.specs.Promised.{Promised}
 use Rattle.lt_spec.specs.declared.ending.Ending.{Ending}
@@ -38,7 +37,7 @@ status_of_end (ending.Cut node) = Cut node
 -- promised
 pub record RanTo (moves : ℕ) (ending : Status) (script : ScriptData) (run : List Logged) : Type 0 where
   pub is_script : IsScript script
-  pub is_short : length script.commands ≤ MAX_COMMANDS
+  pub is_short : IsShort script
   pub is_run : IsRun script run
   pub within : StaysWithin moves script run
   pub ends : EndsAs moves ending script run

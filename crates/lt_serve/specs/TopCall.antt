@@ -12,8 +12,7 @@ use Rattle.lt_law_journals.specs.Checking.{IsFinished}
 use Rattle.lt_spec.specs.Promised.{Promised}
 use Rattle.lt_checker.specs.Input.{DenotesBefore, IsJournalOf}
 use Rattle.lt_gen.specs.Generator.{script_of, seeded}
-use Rattle.lt_spec.specs.Script.{first_bad, IsScript}
-use Rattle.lt_spec.specs.declared.limits.TheConstants.{MAX_COMMANDS}
+use Rattle.lt_spec.specs.Script.{first_bad, IsScript, IsShort}
 use Rattle.lt_tally.specs.Summary.{summary_of, summary_text}
 use Rattle.lt_script.specs.Printing.{print_of}
 use Rattle.lt_words.specs.declared.command.Command.{Command}
@@ -71,7 +70,7 @@ pub record Checks (ending : Status) (left : Option (List ℕ)) (run : List Logge
   pub done : ending ≡ Done
   pub script : ScriptData
   pub is_script : IsScript script
-  pub is_short : length script.commands ≤ MAX_COMMANDS
+  pub is_short : IsShort script
   pub denoted : DenotesBefore left script
   pub accepted : IsJournalOf left script run
   pub finished : IsFinished script run

@@ -41,7 +41,7 @@ pub(crate) fn order_told<S: Source>(alloc: Global, source: &mut S) -> Result<Mad
 fn order_answer(alloc: Global, script: &Script) -> Result<Vec<u8>, AllocError>
     ensures { IfOk result (λ text. text.items ≡ order_answer script.now (first_bad script.now)) }
 {
-    let Some(client) = first_bad(script) else {
+    let Some(client) = first_bad(alloc, script)? else {
         return Vec::from_slice(alloc, b"ordered\n");
     };
     let mut text = Vec::from_slice(alloc, b"not ordered ")?;

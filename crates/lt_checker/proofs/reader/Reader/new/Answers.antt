@@ -14,7 +14,7 @@ pub invariant_of-result : goal.invariant_of-result
 invariant_of-result c =
     let script = c.args.script.now in
     let world = c.in_ok-world.world in
-    let short : IsShort script = omega (arith, c.if-commands-from.false, c.from.ensures, c.commands.ensures) in
+    let short : IsShort script = c.requires in
     let later = c.push_closing.new.due.items in
     let due = due_lines script world.run 0 later in
     let world_is : world ≡ record { script = script; limit = MAX_MOVES; run = [] } = c.in_ok-world.ensures in

@@ -4,7 +4,7 @@ use Rattle.lt_spec.specs.Script.{IsScript, IsShort}
 use Rattle.lt_law_journals.specs.Checking.{checked_said}
 use Rattle.lt_law_journals.proofs.Feeds.{said}
 use Rattle.lt_checker.specs.Checker.{IsAnswer}
-use Rattle.lt_checker.proofs.replaying.replay.Goals as goal
+use Rattle.lt_checker.proofs.replaying.replayed.Goals as goal
 
 pub returns-clause-read : goal.returns-clause-read
 returns-clause-read c = λ all read.
