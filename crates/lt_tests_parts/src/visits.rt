@@ -13,16 +13,15 @@ client a at 1\n";
 #[test]
 fn workers_visit_stations(rt: HostRuntime) {
     let script = script_of(&rt, rt.alloc(), TWO_NODES);
-    let (stations, mut sessions) = open(rt.alloc(), &script, 10, 1, most_share(&script)).expect(
-        &rt, "memory",
-    );
+    let opened = open(rt.alloc(), &script, 10, 1, most_share(&script));
+    let (stations, mut sessions) = opened.expect(&rt, "memory");
     holds(&rt, stations.len() == 2);
     holds(&rt, sessions.len() == 1);
     let mut session = sessions.remove(0);
     same(&rt, submit(&rt, &mut session, LOCK), Ok(()));
     let (pool, mut first) = Pool::new(rt.alloc(), stations).expect(&rt, "memory");
     let mut other = pool.split(&mut first);
-    let held = pool.claim(&mut other, 1).ok().expect(&rt, "the station");
+    let held = pool.claim(&mut other, 1).expect(&rt, "the station");
     same(&rt, visit(&pool, &mut first, 1, &Open), None);
     pool.give(&mut other, 1, held);
     pool.join(&mut first, other);
