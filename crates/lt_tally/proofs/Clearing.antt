@@ -1,5 +1,5 @@
 -- What the table counts as the cells of a client's locks in a family are cleared, one after the other.
-use Rattle.std.proofs.Common.{◌≡◌, subst, ℕ, ◌+◌, ◌-◌, cond, Bool, true, false, List, length, refl, sym, ap, ◌∙◌, arith, filter, ◌<◌, ◌≢◌, ◌*◌, ◌/◌, ◌%◌, ◌≤◌, inl, inr, get_or, set, length-set, get_or-set_same, get_or-set_other, ◌==◌, not, eqb-true, ne_eqb}
+use Rattle.std.proofs.Common.{◌≡◌, subst, ℕ, ◌+◌, cond, Bool, true, false, List, length, refl, sym, ap, ◌∙◌, arith, filter, ◌<◌, ◌≢◌, ◌*◌, ◌/◌, ◌%◌, ◌≤◌, inl, inr, get_or, set, length-set, get_or-set_same, get_or-set_other, ◌==◌, not, eqb-true, ne_eqb}
 use Rattle.std.proofs.lemmas.Bool.{eqb-false, cases_lt}
 use Rattle.std.proofs.lemmas.Bool.Decides.{eqb_tells}
 use Rattle.std.proofs.lemmas.List.{get_or_past}

@@ -1,5 +1,5 @@
 -- How many of the locks are like one, after one of them is given up, and after those of a client in a family are dropped.
-use Rattle.std.proofs.Common.{◌≡◌, subst, ℕ, suc, ◌+◌, ◌-◌, cond, Bool, true, false, List, [], ◌∷◌, ◌++◌, length, Some, None, refl, sym, ap, ◌∙◌, arith, filter, count_by, nat_lt, ◌<◌, set, position, ◌&&◌, ◌==◌, not, eqb-true}
+use Rattle.std.proofs.Common.{◌≡◌, subst, ℕ, suc, ◌+◌, ◌-◌, cond, Bool, true, false, List, [], ◌∷◌, ◌++◌, length, Some, None, refl, sym, ap, ◌∙◌, arith, filter, count_by, nat_lt, ◌<◌, position, ◌&&◌, ◌==◌, not, eqb-true}
 use Rattle.std.specs.List.{position_or_len}
 use Rattle.std.proofs.lemmas.Bool.{and_parts}
 use Rattle.std.proofs.lemmas.Bool.Decides.{nat_tests}
