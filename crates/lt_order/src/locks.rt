@@ -8,8 +8,8 @@ use lt_modes::{Command, Mode};
 use lt_script::Script;
 use std::alloc::AllocError;
 
-/// Whether the client's command keeps the order. If so, the command is made: the locks are those that the client may hold
-/// after it.
+/// Whether the client's command keeps the order. If so, the command is made: the locks are those that the client may
+/// hold after it.
 pub(crate) fn make(
     locks: &mut Vec<Lock>,
     script: &Script,

@@ -5,8 +5,8 @@ use crate::locks::make;
 use lt_script::Script;
 use std::alloc::{AllocError, Global};
 
-/// Whether the script is ordered: each of its clients asks for sets in rising order, changes no mode, drops only its own
-/// locks, and releases all that it may hold.
+/// Whether the script is ordered: each of its clients asks for sets in rising order, changes no mode, drops only its
+/// own locks, and releases all that it may hold.
 pub fn ordered(alloc: Global, script: &Script) -> Result<bool, AllocError>
     ensures { IfOk result (λ told. IsTrue told ↔ IsOrdered script.now) }
 {
