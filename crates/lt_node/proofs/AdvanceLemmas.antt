@@ -10,7 +10,7 @@ use Rattle.std.proofs.Math.Seq.{map-set_same}
 use Rattle.lt_modes.specs.declared.command.Command.{Command}
 use Rattle.lt_modes.specs.Script.{ScriptData}
 use Rattle.lt_lists.specs.Below.{put}
-use Rattle.lt_lists.proofs.Members.{filter_map-which, some_equal}
+use Rattle.lt_lists.proofs.Members.{few_filtered, filter_map-which, some_equal}
 use Rattle.lt_spec.specs.Script.{IsScript, IsRequest, HasTargets, HasModesOf}
 use Rattle.lt_spec.specs.NodeMove.{commands_of, command_if, home, NodeState, next_command, has_command, one_made, at_clock}
 use Rattle.lt_spec.specs.declared.limits.TheConstants.{MAX_COMMANDS_OF_SERVICE}
@@ -18,14 +18,6 @@ use Rattle.lt_script.proofs.ScriptLemmas.{command_added}
 use Rattle.lt_node.specs.NodeData.{NodeData, IsNode, state_of, core_at}
 use Rattle.lt_node.specs.Clients.{Progress, KnowsClients, progress_of, no_progress, progress_made, next_of, one_command_more, no_command, with_command, with_request}
 use Rattle.lt_node.proofs.NodeLemmas.{put_read}
-
-few_left : {X Y : Type 0} (f : X → Option Y) (xs : List X) → length (filter_map f xs) ≤ length xs
-few_left f [] = omega arith
-few_left {Y = Y} f (x ∷ rest) = by_first (f x) (few_left f rest)
-  where
-    by_first : (o : Option Y) → length (filter_map f rest) ≤ length rest → length (cons_option o (filter_map f rest)) ≤ length (x ∷ rest)
-    by_first None h = omega (arith, h)
-    by_first (Some y) h = omega (arith, h)
 
 -- a client's command is one of the script's
 targets_by : (script : ScriptData) (client : ℕ) (command : Command) (request : ℕ × Command) (mine : Bool) → (request.0 == client) ≡ mine
@@ -62,7 +54,7 @@ has_next n homes clients client progress node made knows inside own left at =
       commands = commands;
       made = count;
       left = omega (arith, some, count, ap (λ (l : List Command). length l) commands);
-      few = omega (arith, some, count, few_left (command_if client) n.script.commands, node.is_script.few_commands);
+      few = omega (arith, some, count, few_filtered (command_if client) n.script.commands, node.is_script.few_commands);
     }
 
 pub next_is : (n : NodeData) (client : ℕ) (progress : Progress) → HasNext n client progress → next_command n.script (state_of n) client ≡ Some (next_of progress)

@@ -1,18 +1,23 @@
 -- A drop: its line, and then what the sets make.
-use Rattle.std.proofs.Common.{◌≡◌, ◌<◌, ◌++◌, ◌∷◌, [], length, slice_index_or, Bool, true, false, ℕ, List, Option, Some, None, refl, sym, ap, subst, ◌∙◌, append_assoc}
+use Rattle.std.proofs.Common.{◌≡◌, ◌<◌, ◌≤◌, ◌+◌, ◌++◌, ◌∷◌, [], length, Bool, true, false, ℕ, List, Option, Some, None, arith, refl, sum_by, sym, ap, subst, ◌∙◌, append_assoc}
+use Rattle.std.proofs.lemmas.List.{length_push}
 use Rattle.lt_modes.specs.declared.stamp.Stamp.{Stamp}
 use Rattle.lt_modes.specs.declared.event.Event.{Event}
 use Rattle.lt_modes.specs.declared.event.Event.TheVariants.{Busy, DropAll as Dropped}
 use Rattle.lt_modes.specs.declared.command.Command.{Command}
 use Rattle.lt_modes.specs.declared.command.Command.TheVariants as commands
+use Rattle.lt_modes.specs.Modes.{locks_of}
 use Rattle.lt_modes.specs.Script.{ScriptData}
-use Rattle.lt_desk.specs.DeskData.{OutData}
-use Rattle.lt_core.specs.CoreData.{CoreData}
-use Rattle.lt_spec.specs.NodeMove.{related, NodeState, NodeMade, drop_all, each_touched, answered_first, locks_in_sets, one_made, at_clock}
 use Rattle.lt_modes.specs.State.{SetState, Made}
-use Rattle.lt_node.specs.NodeData.{NodeData, NodeDoes, IsNode, IsCoreOf, state_of, first_core, with_sent, SetsDo, ending, with_sets, TellsWaiting}
+use Rattle.lt_spec.specs.NodeMove.{related, NodeState, NodeMade, drop_all, each_touched, answered_first, locks_in_sets, one_made, at_clock}
+use Rattle.lt_desk.specs.DeskData.{OutData}
+use Rattle.lt_core.specs.Bound.{RoomToSend}
+use Rattle.lt_core.specs.CoreData.{CoreData}
 use Rattle.lt_node.specs.Clients.{answer_to}
 use Rattle.lt_node.specs.Forgetting.{without_first}
+use Rattle.lt_node.specs.NodeData.{AreReady, NodeData, NodeDoes, SetsDo, core_at, ending, most_sent, state_of, with_sent}
+use Rattle.lt_node.specs.Sets.{AreSetsOf, SetsData, core_in, locks_by}
+use Rattle.lt_node.proofs.NodeSets.{core_held}
 
 ends_here : (n : NodeData) (rule : NodeState → NodeMade) (q : ℕ) (event : Event) (had mid out : OutData) (cores : List CoreData) → q ≡ n.me → mid ≡ record had { events = had.events ++ event ∷ [] }
     → SetsDo n.script q rule n.cores mid cores out (state_of n) → NodeDoes (answered_first event (rule (state_of n))) n had (record n { cores = cores }) out
@@ -36,29 +41,33 @@ module _ (script kept : ScriptData) (k : ℕ) (same : kept ≡ without_first k s
       let here = subst (λ (s : ScriptData). SetsDo s q (each_touched end (related s set)) old had new out n) same (does n) in
       record { node = here.node; sent = here.sent }
 
-  pub locks_by_sets : (client set count : ℕ) (cores : List CoreData)
-      → ((n : NodeState) (q : ℕ) → count ≡ locks_in_sets (with_sets kept q cores n) client (related kept set))
-      → (n : NodeState) (q : ℕ) → count ≡ locks_in_sets (with_sets script q cores n) client (related script set)
-  locks_by_sets client set count cores are n q =
-      subst (λ (s : ScriptData). count ≡ locks_in_sets (with_sets s q cores n) client (related s set)) same (are n q)
+-- they are those of the script as well as of what is kept of it
+pub sets_whole : (script kept : ScriptData) (q me k : ℕ) (sets : SetsData) → kept ≡ without_first k script → q ≡ me → AreSetsOf kept q sets → AreSetsOf script me sets
+sets_whole script kept q me k sets same here of =
+    let whole = subst (λ (p : ℕ). AreSetsOf (without_first k script) p sets) here (subst (λ (s : ScriptData). AreSetsOf s q sets) same of) in
+    record { nodes = whole.nodes; node = whole.node; count = whole.count; places = whole.places }
 
-  pub waiting_by_sets : (q me : ℕ) (cores : List CoreData) (masks : List ℕ) → q ≡ me → TellsWaiting kept q cores masks → TellsWaiting script me cores masks
-  waiting_by_sets q me cores masks here tells =
-      let told = subst (λ (s : ScriptData). TellsWaiting s me cores masks) same (subst (λ (q : ℕ). TellsWaiting kept q cores masks) here tells) in
-      record { count = told.count; bits = told.bits }
+-- what a drop asks of the sets of a family
+module _ (m n : NodeData) (kept : ScriptData) (k : ℕ) (sets : SetsData) (same : m ≡ n) (left : kept ≡ without_first k m.script) (of : AreSetsOf m.script m.me sets) (cores : m.cores ≡ sets.cores) where
+  related_same : (set : ℕ) → related n.script set ≡ related kept set
+  related_same set = ap (λ (n : NodeData). related n.script set) (sym same) ∙ ap (λ (s : ScriptData). related s set) (sym left)
 
--- so the node is one still
-pub node_ended : (m : NodeData) (kept : ScriptData) (k q : ℕ) (cores : List CoreData) → IsNode m → kept ≡ without_first k m.script → q ≡ m.me → length cores ≡ length m.cores
-    → ((s : ℕ) → s < length cores → IsCoreOf q s (slice_index_or cores s (first_core kept q s))) → IsNode (record m { cores = cores })
-node_ended m kept k q cores node same here count places = record {
-  is_script = node.is_script;
-  within = node.within;
-  clients = node.clients;
-  sets = count ∙ node.sets;
-  places = λ s inside.
-      subst (λ (kept : ScriptData). IsCoreOf m.me s (slice_index_or cores s (first_core kept m.me s))) same
-      (subst (λ (q : ℕ). IsCoreOf q s (slice_index_or cores s (first_core kept q s))) here (places s inside));
-}
+  pub ready_here : (set clock : ℕ) (out : OutData) → AreReady (related n.script set) clock (core_at n) out → AreReady (related kept set) clock (core_in sets) out
+  ready_here set clock out ready =
+      subst (λ (f : ℕ → CoreData). AreReady (related kept set) clock f out) (core_held m n sets same cores of)
+      (subst (λ (l : List ℕ). AreReady l clock (core_at n) out) (related_same set) ready)
+
+  pub locks_here : (set other : ℕ) → locks_by sets other (related kept set) ≡ locks_in_sets (state_of n) other (related n.script set)
+  locks_here set other =
+      ap (λ (f : ℕ → CoreData). sum_by (λ s. locks_of (f s).state.held other) (related kept set)) (sym (core_held m n sets same cores of))
+      ∙ ap (λ (l : List ℕ). locks_in_sets (state_of n) other l) (sym (related_same set))
+
+-- with its own line there is still room for what the sets send
+pub room_left : (sets : List ℕ) (clock : ℕ) (core : ℕ → CoreData) (event : Event) (had mid : OutData) → AreReady sets clock core had → mid ≡ record had { events = had.events ++ event ∷ [] }
+    → RoomToSend (sum_by (λ s. most_sent (core s)) sets) mid
+room_left sets clock core event had mid ready put =
+    subst (λ (o : OutData). RoomToSend (sum_by (λ s. most_sent (core s)) sets) o) (sym put)
+    (record { posts = omega (arith, ready.send.posts); events = omega (arith, ready.send.events, length_push had.events event) })
 
 -- the line stands first, and then the sets of the family end the move
 pub drop_done : (m n : NodeData) (stamp : Stamp) (client other set : ℕ) (waits : Bool) (dropped : Option ℕ) (event : Event) (had mid out : OutData) (cores : List CoreData) → m ≡ n → stamp.node ≡ n.me
@@ -89,10 +98,3 @@ answer_after script q client clock maker n (commands.Try s mode) = refl
 answer_after script q client clock maker n (commands.Unlock s mode) = refl
 answer_after script q client clock maker n (commands.Change s gives_up mode) = refl
 answer_after script q client clock maker n (commands.DropAll other s) = refl
-
--- the count of the code is the node's
-pub locks_are : (m n : NodeData) (cores : List CoreData) (client set count : ℕ) → m ≡ n → cores ≡ m.cores
-    → ((s : NodeState) (q : ℕ) → count ≡ locks_in_sets (with_sets m.script q cores s) client (related m.script set)) → count ≡ locks_in_sets (state_of n) client (related n.script set)
-locks_are m n cores client set count same here h =
-    let own = subst (λ (cores : List CoreData). count ≡ locks_in_sets (with_sets m.script m.me cores (state_of m)) client (related m.script set)) here (h (state_of m) m.me) in
-    subst (λ (n : NodeData). count ≡ locks_in_sets (state_of n) client (related n.script set)) same own

@@ -1,25 +1,25 @@
 -- What a command asks of a set.
-use Rattle.std.proofs.Common.{◌≡◌, ◌<◌, ◌≤◌, ℕ, List, length, slice_index_or, sum_by, arith, sym, subst, ◌+◌, ◌==◌, ◌++◌, [], ◌∷◌, Option, Some, None, drop, slice_set, refl, ap, ◌∙◌, append_assoc, if◌then◌else◌, Bool, true, false, filter, ◌*◌, All, drop-set-lt, length-set, append-nil}
+use Rattle.std.proofs.Common.{◌≡◌, ◌<◌, ◌≤◌, ℕ, List, length, slice_index_or, sum_by, arith, sym, subst, ◌+◌, ◌==◌, ◌++◌, [], ◌∷◌, Option, Some, None, drop, slice_set, refl, ap, ◌∙◌, append_assoc, if◌then◌else◌, Bool, true, false, All, append-nil}
+use Rattle.std.proofs.lemmas.List.Elements.{All-head, All-rest}
 use Rattle.std.proofs.lemmas.List.Sums.{sum_by-cons}
 use Rattle.std.proofs.lemmas.Option.{slice_get-get_or}
 use Rattle.std.proofs.lemmas.List.{drop_more, drop_all, get_or_default}
-use Rattle.std.proofs.lemmas.Grind.{drop_more_same}
 use Rattle.lt_modes.specs.declared.stamp.Stamp.{Stamp}
 use Rattle.lt_modes.specs.Freezing.{places_from}
 use Rattle.lt_modes.specs.Script.{ScriptData, SetData, family_at, family_of_set}
 use Rattle.lt_modes.specs.State.{SetState, Made}
-use Rattle.lt_modes.specs.declared.parts.Row.{Row}
-use Rattle.lt_modes.specs.Modes.{locks_of, is_of}
+use Rattle.lt_modes.specs.Modes.{locks_of}
 use Rattle.lt_lists.specs.Below.{put}
-use Rattle.lt_spec.specs.NodeMove.{family, related, NodeState, each_touched, touched, locks_in_sets}
-use Rattle.lt_held.specs.HeldData.{most_locks}
+use Rattle.lt_spec.specs.NodeMove.{family, related, NodeState, each_touched, touched}
 use Rattle.lt_desk.specs.DeskData.{OutData, FitsOut}
-use Rattle.lt_core.specs.CoreData.{CoreData, Does}
+use Rattle.lt_core.specs.CoreData.{CoreData, Does, HasRoom}
 use Rattle.lt_core.proofs.BoundLemmas.{commands_fit, ends_fit}
 use Rattle.lt_core.specs.declared.set_command.SetCommand.TheVariants as set_commands
 use Rattle.lt_core.specs.Bound.{RoomToSend}
-use Rattle.lt_node.specs.NodeData.{most_sent, IsCoreOf, first_core, with_sent, ending, with_sets, sets_in, SetsDo, HasFewLocks}
-use Rattle.lt_node.proofs.NodeLemmas.{put_read, places_set}
+use Rattle.lt_node.specs.NodeData.{most_sent, first_core, untouched, with_sent, ending, with_sets, sets_in, SetsDo}
+use Rattle.lt_node.specs.Sets.{AreSetsOf, SetDoes, SetsData, core_in, locks_by}
+use Rattle.lt_node.proofs.NodeLemmas.{put_read}
+use Rattle.lt_node.proofs.NodeSets.{other_core, sets_moved}
 
 -- The sets of a family one after the other.
 
@@ -98,119 +98,105 @@ end_leaves dropped stamp core new had out more does room =
     subst (λ (o : OutData). RoomToSend more o) (sym does.sent) (record { posts = omega (arith, fit.posts, room.posts); events = omega (arith, fit.events, room.events) })
 
 -- before place k the sets of the family are done
-pub record IsAt (script : ScriptData) (stamp : Stamp) (dropped : Option ℕ) (set : ℕ) (old : List CoreData) (had : OutData) (k : ℕ) (cores : List CoreData) (out : OutData) : Type 0 where
-  pub count : length cores ≡ length script.sets
-  pub places : (s : ℕ) → s < length cores → IsCoreOf stamp.node s (slice_index_or cores s (first_core script stamp.node s))
-  pub rest : drop k cores ≡ drop k old
-  pub send : RoomToSend (sum_by most_sent (drop k cores)) out
-  pub left : (n : NodeState) → IsLeft script stamp.node (ending dropped stamp) (related_from script set k) cores out (related_from script set 0) old had n
+pub record IsAt (script : ScriptData) (stamp : Stamp) (dropped : Option ℕ) (set : ℕ) (old : SetsData) (had : OutData) (k : ℕ) (now : SetsData) (out : OutData) : Type 0 where
+  pub of : AreSetsOf script stamp.node now
+  pub rest : (s : ℕ) → k ≤ s → core_in now s ≡ core_in old s
+  pub rooms : All (λ s. HasRoom 2 stamp.clock (core_in old s)) (related_from script set k)
+  pub send : RoomToSend (sum_by (λ s. most_sent (core_in old s)) (related_from script set k)) out
+  pub left : (n : NodeState) → IsLeft script stamp.node (ending dropped stamp) (related_from script set k) now.cores out (related_from script set 0) old.cores had n
 
-pub sum_at : (cores : List CoreData) (k : ℕ) (core : CoreData) → k < length cores → sum_by most_sent (drop k cores) ≡ most_sent (slice_index_or cores k core) + sum_by most_sent (drop (k + 1) cores)
-sum_at cores k core inside =
-    ap (λ (l : List CoreData). sum_by most_sent l) (drop_more cores k core inside) ∙ sum_by-cons most_sent (slice_index_or cores k core) (drop (k + 1) cores)
+pub at_start : (script : ScriptData) (stamp : Stamp) (dropped : Option ℕ) (set : ℕ) (sets : SetsData) (out : OutData) → AreSetsOf script stamp.node sets
+    → All (λ s. HasRoom 2 stamp.clock (core_in sets s)) (related script set) → RoomToSend (sum_by (λ s. most_sent (core_in sets s)) (related script set)) out
+    → IsAt script stamp dropped set sets out 0 sets out
+at_start script stamp dropped set sets out of rooms send = record { of = of; rest = λ s above. refl; rooms = rooms; send = send; left = λ n. record { node = refl; sent = refl } }
 
-pub at_start : (script : ScriptData) (stamp : Stamp) (dropped : Option ℕ) (set : ℕ) (cores : List CoreData) (out : OutData) → length cores ≡ length script.sets
-    → ((s : ℕ) → s < length cores → IsCoreOf stamp.node s (slice_index_or cores s (first_core script stamp.node s))) → RoomToSend (sum_by most_sent cores) out
-    → IsAt script stamp dropped set cores out 0 cores out
-at_start script stamp dropped set cores out count places send = record { count = count; places = places; rest = refl; send = send; left = λ n. record { node = refl; sent = refl } }
-
-pub at_skipped : (script : ScriptData) (stamp : Stamp) (dropped : Option ℕ) (set : ℕ) (old : List CoreData) (had : OutData) (k : ℕ) (cores : List CoreData) (out : OutData)
-    → IsAt script stamp dropped set old had k cores out → k < length script.sets → (family_at script.sets k == family script set) ≡ false
-    → IsAt script stamp dropped set old had (k + 1) cores out
-at_skipped script stamp dropped set old had k cores out at inside other =
-    let sum = sum_at cores k (first_core script stamp.node k) (omega (arith, inside, at.count)) in
-    record {
-      count = at.count;
-      places = at.places;
-      rest = drop_more_same cores old k at.rest;
-      send = record { posts = omega (arith, at.send.posts, sum); events = omega (arith, at.send.events, sum) };
-      left = λ n. subst (λ (left : List ℕ). IsLeft script stamp.node (ending dropped stamp) left cores out (related_from script set 0) old had n) (related_out script set k inside other) (at.left n);
+pub at_skipped : (script : ScriptData) (stamp : Stamp) (dropped : Option ℕ) (set : ℕ) (old : SetsData) (had : OutData) (k : ℕ) (now : SetsData) (out : OutData)
+    → IsAt script stamp dropped set old had k now out → k < length script.sets → (family_at script.sets k == family script set) ≡ false
+    → IsAt script stamp dropped set old had (k + 1) now out
+at_skipped script stamp dropped set old had k now out at inside other =
+    let out_of = related_out script set k inside other in record {
+      of = at.of;
+      rest = λ s above. at.rest s (omega (arith, above));
+      rooms = subst (λ (l : List ℕ). All (λ s. HasRoom 2 stamp.clock (core_in old s)) l) out_of at.rooms;
+      send = subst (λ (l : List ℕ). RoomToSend (sum_by (λ s. most_sent (core_in old s)) l) out) out_of at.send;
+      left = λ n. subst (λ (l : List ℕ). IsLeft script stamp.node (ending dropped stamp) l now.cores out (related_from script set 0) old.cores had n) out_of (at.left n);
     }
 
-pub at_ended : (script : ScriptData) (stamp : Stamp) (dropped : Option ℕ) (set : ℕ) (old : List CoreData) (had : OutData) (k j : ℕ) (cores : List CoreData) (core new : CoreData) (out after : OutData)
-    → IsAt script stamp dropped set old had k cores out → k < length script.sets → (family_at script.sets k == family script set) ≡ true → j ≡ k → core ≡ slice_index_or cores j core
-    → Does (ending dropped stamp core.set core.state) core out new after → ((more : ℕ) → RoomToSend (most_sent core + more) out → RoomToSend more after)
-    → IsAt script stamp dropped set old had (k + 1) (slice_set cores j new) after
-at_ended script stamp dropped set old had k j cores core new out after at inside mine place is does leaves =
-    let within : k < length cores = omega (arith, inside, at.count) in
-    let here : core ≡ slice_index_or cores k (first_core script stamp.node k) =
-    is ∙ ap (λ (i : ℕ). slice_index_or cores i core) place ∙ get_or_default cores k core (first_core script stamp.node k) within in
-    let own : IsCoreOf stamp.node k core = subst (λ (c : CoreData). IsCoreOf stamp.node k c) (sym here) (at.places k within) in
-    let sum : sum_by most_sent (drop k cores) ≡ most_sent core + sum_by most_sent (drop (k + 1) cores) =
-    sum_at cores k (first_core script stamp.node k) within ∙ ap (λ (c : CoreData). most_sent c + sum_by most_sent (drop (k + 1) cores)) (sym here) in
-    let tail : drop (k + 1) (slice_set cores k new) ≡ drop (k + 1) cores = drop-set-lt (k + 1) cores k new (omega arith) in
-    subst (λ (i : ℕ). IsAt script stamp dropped set old had (k + 1) (slice_set cores i new) after) (sym place)
-    (record {
-      count = length-set cores k new ∙ at.count;
-      places = places_set stamp.node k cores (first_core script stamp.node) new (record { node = does.node ∙ own.node; set = does.set ∙ own.set }) at.places;
-      rest = tail ∙ drop_more_same cores old k at.rest;
-      send = leaves (sum_by most_sent (drop (k + 1) (slice_set cores k new)))
-          (let same = ap (λ (l : List CoreData). sum_by most_sent l) tail in record { posts = omega (arith, at.send.posts, sum, same); events = omega (arith, at.send.events, sum, same) });
-      left = λ n. left_then script stamp.node (ending dropped stamp) (related_from script set (k + 1)) (k ∷ related_from script set (k + 1)) (related_from script set 0)
-          (slice_set cores k new) cores old after out had n
-          (one_done script stamp.node k (ending dropped stamp) (related_from script set (k + 1)) cores core new out after n within here
-          (subst (λ (s : ℕ). Does (ending dropped stamp s core.state) core out new after) own.set does))
-          (subst (λ (left : List ℕ). IsLeft script stamp.node (ending dropped stamp) left cores out (related_from script set 0) old had n) (related_in script set k inside mine) (at.left n));
-    })
+-- the next set of the family is ready
+pub record IsNext (stamp : Stamp) (now : SetsData) (k more : ℕ) (out : OutData) : Type 0 where
+  pub room : HasRoom 2 stamp.clock (core_in now k)
+  pub send : RoomToSend (most_sent (core_in now k) + more) out
 
--- the sets that are left are as they were
-pub still_there : (cores old : List CoreData) (k j : ℕ) (core : CoreData) → drop k cores ≡ drop k old → length cores ≡ length old → k < length cores → j ≡ k → core ≡ slice_index_or cores j core → core ≡ slice_index_or old k core
-still_there cores old k j core rest count inside place is =
-    is ∙ ap (λ (i : ℕ). slice_index_or cores i core) place
-    ∙ ap (λ (l : List CoreData). slice_index_or l 0 core) (sym (drop_more cores k core inside) ∙ rest ∙ drop_more old k core (omega (arith, inside, count)))
+pub at_next : (script : ScriptData) (stamp : Stamp) (dropped : Option ℕ) (set : ℕ) (old : SetsData) (had : OutData) (k : ℕ) (now : SetsData) (out : OutData)
+    → IsAt script stamp dropped set old had k now out → k < length script.sets → (family_at script.sets k == family script set) ≡ true
+    → IsNext stamp now k (sum_by (λ s. most_sent (core_in old s)) (related_from script set (k + 1))) out
+at_next script stamp dropped set old had k now out at inside mine =
+    let in_it = related_in script set k inside mine in
+    let rest = related_from script set (k + 1) in
+    let rooms = subst (λ (l : List ℕ). All (λ s. HasRoom 2 stamp.clock (core_in old s)) l) in_it at.rooms in
+    let sum = ap (λ (l : List ℕ). sum_by (λ s. most_sent (core_in old s)) l) in_it ∙ sum_by-cons (λ (s : ℕ). most_sent (core_in old s)) k rest in
+    let same = at.rest k (omega arith) in
+    let most = ap most_sent same in
+    record {
+      room = subst (λ (c : CoreData). HasRoom 2 stamp.clock c) (sym same) (All-head (λ (s : ℕ). HasRoom 2 stamp.clock (core_in old s)) k rest rooms);
+      send = record { posts = omega (arith, at.send.posts, sum, most); events = omega (arith, at.send.events, sum, most) };
+    }
 
-pub at_end : (script : ScriptData) (stamp : Stamp) (dropped : Option ℕ) (set : ℕ) (old : List CoreData) (had : OutData) (k : ℕ) (cores : List CoreData) (out : OutData)
-    → IsAt script stamp dropped set old had k cores out → length script.sets ≤ k → (n : NodeState) → SetsDo script stamp.node (each_touched (ending dropped stamp) (related script set)) old had cores out n
-at_end script stamp dropped set old had k cores out at all n =
-    all_done script stamp.node (ending dropped stamp) (related script set) old cores had out n
-    (subst (λ (l : List SetData). IsLeft script stamp.node (ending dropped stamp) (places_from (λ j (x : SetData). x.family == family script set) k l) cores out (related_from script set 0) old had n)
+pub at_ended : (script : ScriptData) (stamp : Stamp) (dropped : Option ℕ) (set : ℕ) (old : SetsData) (had : OutData) (k : ℕ) (now new : SetsData) (out after : OutData)
+    → IsAt script stamp dropped set old had k now out → k < length script.sets → (family_at script.sets k == family script set) ≡ true
+    → SetDoes k (ending dropped stamp k (core_in now k).state) now out new after → ((more : ℕ) → RoomToSend (most_sent (core_in now k) + more) out → RoomToSend more after)
+    → IsAt script stamp dropped set old had (k + 1) new after
+at_ended script stamp dropped set old had k now new out after at inside mine does leaves =
+    let in_it = related_in script set k inside mine in
+    let rest = related_from script set (k + 1) in
+    let next = at_next script stamp dropped set old had k now out at inside mine in
+    let within : k < length now.cores = omega (arith, inside, at.of.count) in
+    let first : core_in now k ≡ slice_index_or now.cores k (first_core script stamp.node k) = get_or_default now.cores k (untouched now.nodes now.me k) (first_core script stamp.node k) within in
+    record {
+      of = sets_moved script stamp.node k _ now new out after at.of does within;
+      rest = λ s above. other_core k _ now new out after does s (λ e. omega (arith, above, e)) ∙ at.rest s (omega (arith, above));
+      rooms = All-rest (λ (s : ℕ). HasRoom 2 stamp.clock (core_in old s)) k rest (related_from script set k) in_it at.rooms;
+      send = leaves (sum_by (λ s. most_sent (core_in old s)) rest) next.send;
+      left = λ n. left_then script stamp.node (ending dropped stamp) rest (k ∷ rest) (related_from script set 0) new.cores now.cores old.cores after out had n
+          (subst (λ (l : List CoreData). IsLeft script stamp.node (ending dropped stamp) rest l after (k ∷ rest) now.cores out n) (sym (ap (λ (d : SetsData). d.cores) does.others))
+          (one_done script stamp.node k (ending dropped stamp) rest now.cores (core_in now k) (core_in new k) out after n within first does.does))
+          (subst (λ (l : List ℕ). IsLeft script stamp.node (ending dropped stamp) l now.cores out (related_from script set 0) old.cores had n) in_it (at.left n));
+    }
+
+pub at_end : (script : ScriptData) (stamp : Stamp) (dropped : Option ℕ) (set : ℕ) (old : SetsData) (had : OutData) (k : ℕ) (now : SetsData) (out : OutData)
+    → IsAt script stamp dropped set old had k now out → length script.sets ≤ k → (n : NodeState)
+    → SetsDo script stamp.node (each_touched (ending dropped stamp) (related script set)) old.cores had now.cores out n
+at_end script stamp dropped set old had k now out at all n =
+    all_done script stamp.node (ending dropped stamp) (related script set) old.cores now.cores had out n
+    (subst (λ (l : List SetData). IsLeft script stamp.node (ending dropped stamp) (places_from (λ j (x : SetData). x.family == family script set) k l) now.cores out (related_from script set 0) old.cores had n)
     (drop_all k script.sets all) (at.left n))
 
 -- How many locks a client has in a family.
 
-sum_filtered : (test : Row → Bool) (rows : List Row) → sum_by (λ (row : Row). row.count) (filter test rows) ≤ sum_by (λ (row : Row). row.count) rows
-sum_filtered test [] = omega arith
-sum_filtered test (row ∷ rest) = by_test (test row) (sum_filtered test rest)
-  where
-    by_test : (passes : Bool) → sum_by (λ (row : Row). row.count) (filter test rest) ≤ sum_by (λ (row : Row). row.count) rest
-        → sum_by (λ (row : Row). row.count) (if passes then row ∷ filter test rest else filter test rest) ≤ sum_by (λ (row : Row). row.count) (row ∷ rest)
-    by_test true h = omega (arith, h, sum_by-cons (λ (row : Row). row.count) row (filter test rest), sum_by-cons (λ (row : Row). row.count) row rest)
-    by_test false h = omega (arith, h, sum_by-cons (λ (row : Row). row.count) row rest)
-
--- a set in hand has few of them
-pub few_of : (cores : List CoreData) (j k client : ℕ) (core : CoreData) → All HasFewLocks cores → k < length cores → j ≡ k → core ≡ slice_index_or cores j core → locks_of core.state.held client ≤ most_locks
-few_of cores j k client core few inside place at =
-    let most : HasFewLocks core = subst HasFewLocks (sym (at ∙ ap (λ (i : ℕ). slice_index_or cores i core) place)) (few k core inside) in
-    omega (arith, most, sum_filtered (is_of client) core.state.held)
-
 -- the locks counted so far, with those that are left, are all
-pub record IsCounted (script : ScriptData) (set client : ℕ) (cores : List CoreData) (k locks : ℕ) : Type 0 where
-  pub few : locks ≤ k * most_locks
-  pub left : (n : NodeState) (q : ℕ) → locks + locks_in_sets (with_sets script q cores n) client (related_from script set k) ≡ locks_in_sets (with_sets script q cores n) client (related script set)
+pub record IsCounted (script : ScriptData) (set client : ℕ) (sets : SetsData) (k locks : ℕ) : Type 0 where
+  pub left : locks + locks_by sets client (related_from script set k) ≡ locks_by sets client (related script set)
 
-pub counted_in : (script : ScriptData) (set client : ℕ) (cores : List CoreData) (k j locks : ℕ) (core : CoreData) → IsCounted script set client cores k locks → All HasFewLocks cores
-    → k < length cores → k < length script.sets → (family_at script.sets k == family script set) ≡ true → j ≡ k → core ≡ slice_index_or cores j core
-    → IsCounted script set client cores (k + 1) (locks + locks_of core.state.held client)
-counted_in script set client cores k j locks core counted few inside within mine place at = record {
-  few = omega (arith, counted.few, few_of cores j k client core few inside place at);
-  left = λ n q.
-      let s = with_sets script q cores n in
-      let here : core ≡ slice_index_or cores k (first_core script q k) = at ∙ ap (λ (i : ℕ). slice_index_or cores i core) place ∙ get_or_default cores k core (first_core script q k) inside in
-      let own = ap (λ (c : CoreData). locks_of c.state.held client) here in
-      let all = ap (λ (l : List ℕ). locks_in_sets s client l) (related_in script set k within mine) in
-      omega (arith, counted.left n q, own, all, sum_by-cons (λ (i : ℕ). locks_of (s.set i).held client) k (related_from script set (k + 1)));
-}
+-- those of the next set are among them
+pub counted_next : (script : ScriptData) (set client : ℕ) (sets : SetsData) (k locks : ℕ) → IsCounted script set client sets k locks → k < length script.sets
+    → (family_at script.sets k == family script set) ≡ true
+    → locks + locks_of (core_in sets k).state.held client + locks_by sets client (related_from script set (k + 1)) ≡ locks_by sets client (related script set)
+counted_next script set client sets k locks counted inside mine =
+    let all = ap (λ (l : List ℕ). locks_by sets client l) (related_in script set k inside mine) in
+    omega (arith, counted.left, all, sum_by-cons (λ (s : ℕ). locks_of (core_in sets s).state.held client) k (related_from script set (k + 1)))
 
-pub counted_out : (script : ScriptData) (set client : ℕ) (cores : List CoreData) (k locks : ℕ) → IsCounted script set client cores k locks
-    → k < length script.sets → (family_at script.sets k == family script set) ≡ false → IsCounted script set client cores (k + 1) locks
-counted_out script set client cores k locks counted within other = record {
-  few = omega (arith, counted.few);
-  left = λ n q. subst (λ (l : List ℕ). locks + locks_in_sets (with_sets script q cores n) client l ≡ locks_in_sets (with_sets script q cores n) client (related script set))
-      (related_out script set k within other) (counted.left n q);
-}
+pub counted_in : (script : ScriptData) (set client : ℕ) (sets : SetsData) (k locks held : ℕ) → IsCounted script set client sets k locks → k < length script.sets
+    → (family_at script.sets k == family script set) ≡ true → held ≡ locks_of (core_in sets k).state.held client → IsCounted script set client sets (k + 1) (locks + held)
+counted_in script set client sets k locks held counted inside mine is =
+    record { left = omega (arith, is, counted_next script set client sets k locks counted inside mine) }
 
-pub counted_all : (script : ScriptData) (set client : ℕ) (cores : List CoreData) (k locks : ℕ) → IsCounted script set client cores k locks → length script.sets ≤ k
-    → (n : NodeState) (q : ℕ) → locks ≡ locks_in_sets (with_sets script q cores n) client (related script set)
-counted_all script set client cores k locks counted past n q =
-    let rest = ap (λ (l : List SetData). locks_in_sets (with_sets script q cores n) client (places_from (λ j (x : SetData). x.family == family script set) k l)) (drop_all k script.sets past) in
-    omega (arith, counted.left n q, rest)
+pub counted_out : (script : ScriptData) (set client : ℕ) (sets : SetsData) (k locks : ℕ) → IsCounted script set client sets k locks → k < length script.sets
+    → (family_at script.sets k == family script set) ≡ false → IsCounted script set client sets (k + 1) locks
+counted_out script set client sets k locks counted inside other =
+    record { left = ap (λ (l : List ℕ). locks + locks_by sets client l) (sym (related_out script set k inside other)) ∙ counted.left }
+
+pub counted_all : (script : ScriptData) (set client : ℕ) (sets : SetsData) (k locks : ℕ) → IsCounted script set client sets k locks → length script.sets ≤ k
+    → locks ≡ locks_by sets client (related script set)
+counted_all script set client sets k locks counted past =
+    let rest = ap (λ (l : List SetData). locks_by sets client (places_from (λ j (x : SetData). x.family == family script set) k l)) (drop_all k script.sets past) in
+    omega (arith, counted.left, rest)

@@ -5,9 +5,13 @@ pub mod AdvanceLemmas
 pub mod RequestLemmas
 pub mod CommandLemmas
 pub mod DropLemmas
-pub mod MarkLemmas
+pub mod AskLemmas
 pub mod OwnLemmas
 pub mod TouchLemmas
 pub mod AddedLemmas
 pub mod TouchedLemmas
 pub mod RoomLemmas
+pub mod CountLemmas
+pub mod SetsLemmas
+pub mod StoredLemmas
+pub mod NodeSets

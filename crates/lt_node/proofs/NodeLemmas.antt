@@ -1,8 +1,8 @@
 -- One set or one client of a node changes.
-use Rattle.std.proofs.Common.{◌≡◌, ◌<◌, Bool, true, ℕ, List, length, inl, inr, refl, sym, ap, subst, arith, ◌∙◌, slice_index_or, slice_set, ◌≤◌, Option, Some, None, nat_le, IsTrue, length-append, ◌+◌, [], ◌∷◌, map, All, sum_by, eq-eqb, ne_eqb, leb-true, ltb-true, get_or-set_other, length-set, not}
+use Rattle.std.proofs.Common.{◌≡◌, ◌<◌, true, ℕ, List, length, inl, inr, refl, sym, ap, subst, arith, ◌∙◌, slice_index_or, slice_set, ◌≤◌, Option, Some, None, nat_le, length-append, ◌+◌, [], ◌∷◌, map, All, sum_by, eq-eqb, ne_eqb, leb-true, get_or-set_other, length-set}
 use Rattle.std.proofs.Math.Path.{fun_ext}
-use Rattle.std.proofs.lemmas.Bool.{cases_eq, and_parts, not-true, not-false}
-use Rattle.std.proofs.lemmas.List.{get_or_default, length-map}
+use Rattle.std.proofs.lemmas.Bool.{cases_eq, and_parts}
+use Rattle.std.proofs.lemmas.List.{length-map}
 use Rattle.std.proofs.lemmas.Grind.{get_or-set_at}
 use Rattle.std.proofs.Math.ListN.{get_or-map as map_read}
 use Rattle.std.proofs.Math.Seq.{map-set_same}
@@ -11,14 +11,13 @@ use Rattle.lt_modes.specs.State.{SetState, Made, Desk}
 use Rattle.lt_modes.specs.Modes.{locks_in}
 use Rattle.lt_modes.specs.Serving.{queue_of}
 use Rattle.lt_modes.specs.Fits.{parked_asks, asks_here}
-use Rattle.lt_lists.specs.Below.{put, any_below}
-use Rattle.lt_lists.proofs.Searches.{any_below_at, any_below_none}
-use Rattle.lt_spec.specs.NodeMove.{NodeState, touched, desk_within, set_within, leaves_ask, node_within, leaves_asks}
+use Rattle.lt_lists.specs.Below.{put}
+use Rattle.lt_spec.specs.NodeMove.{NodeState, touched, desk_within, set_within}
 use Rattle.lt_spec.specs.declared.limits.TheConstants.{MAX_COMMANDS_OF_SERVICE}
 use Rattle.lt_desk.specs.DeskData.{OutData}
 use Rattle.lt_core.specs.CoreData.{CoreData, Does, HasRoom, HasMemory, waiting_here, epoch_of, freeze_number_of}
 use Rattle.lt_core.specs.Bound.{most}
-use Rattle.lt_node.specs.NodeData.{NodeData, NodeDoes, IsNode, IsCoreOf, state_of, core_at, first_core, LeavesAsk, RoomToAct, IsReady, SameNode, KeptData, HasFewAsks, kept_of, most_sent}
+use Rattle.lt_node.specs.NodeData.{NodeData, NodeDoes, IsNode, IsCoreOf, state_of, core_at, first_core, SameNode, KeptData, HasFewAsks, kept_of, most_sent}
 
 -- a list written at one place is a function changed at one number
 pub put_read : {X Y : Type 0} (f : X → Y) (xs : List X) (d : ℕ → X) (i : ℕ) (x : X) → i < length xs
@@ -63,46 +62,8 @@ node_kept old clock s core node place = record {
   places = places_set old.me s old.cores (first_core old.script old.me) core place node.places;
 }
 
--- what a node's code finds in a set, the node has in some set
-pub found_in : (n m : NodeData) (test : NodeData → SetState → Bool) (s : ℕ) (core : CoreData) → m ≡ n → IsNode m → s < length m.cores → core ≡ slice_index_or m.cores s core
-    → test m core.state ≡ true → any_below (length n.script.sets) (λ k. test n ((state_of n).set k)) ≡ true
-found_in n m test s core same node inside at found =
-    let here : core ≡ core_at m s = at ∙ get_or_default m.cores s core (first_core m.script m.me s) inside in
-    subst (λ (n : NodeData). any_below (length n.script.sets) (λ k. test n ((state_of n).set k)) ≡ true) same
-    (any_below_at (length m.script.sets) s (λ k. test m ((state_of m).set k)) (omega (arith, inside, node.sets)) (ap (λ (c : CoreData). test m c.state) (sym here) ∙ found))
-
--- what a node's code has in hand is what the node keeps for the set
-pub core_is : (m n : NodeData) (k s : ℕ) (core : CoreData) → m ≡ n → IsNode m → k ≡ s → s < length n.script.sets → core ≡ slice_index_or m.cores k core → core ≡ core_at n s
-core_is m n k s core same node place inside at =
-    subst (λ (n : NodeData). s < length n.script.sets → core ≡ core_at n s) same
-    (λ within. at ∙ ap (λ (i : ℕ). slice_index_or m.cores i core) place ∙ get_or_default m.cores s core (first_core m.script m.me s) (omega (arith, within, node.sets)))
-    inside
-
 pub node_is : (m n : NodeData) → m ≡ n → IsNode m → IsNode n
 node_is m n same node = subst IsNode same node
-
--- one set of a node, which a command touches
-pub record IsTouched (n : NodeData) (s : ℕ) (core : CoreData) : Type 0 where
-  pub core_is : core ≡ core_at n s
-  pub inside : s < length n.cores
-  pub place : IsCoreOf n.me s core
-
-pub touched_by : (m n : NodeData) (k s : ℕ) (core : CoreData) → m ≡ n → IsNode m → k ≡ s → s < length n.script.sets → core ≡ slice_index_or m.cores k core → IsTouched n s core
-touched_by m n k s core same kept place inside at =
-    let node = node_is m n same kept in
-    let here = core_is m n k s core same kept place inside at in
-    let within : s < length n.cores = omega (arith, inside, node.sets) in
-    record { core_is = here; inside = within; place = subst (λ (c : CoreData). IsCoreOf n.me s c) (sym here) (node.places s within) }
-
-pub touch_done : (m n : NodeData) (k s : ℕ) (rule : ℕ → SetState → Made) (core new : CoreData) (had out : OutData) → m ≡ n → k ≡ s → IsTouched n s core
-    → Does (rule core.set core.state) core had new out
-    → NodeDoes (touched (state_of n) s (rule s (core_at n s).state)) n had (record m { cores = slice_set m.cores k new }) out
-touch_done m n k s rule core new had out same place touch does =
-    let here = subst (λ (set : ℕ). Does (rule set core.state) core had new out) touch.place.set does in
-    let now = subst (λ (c : CoreData). Does (rule s c.state) c had new out) touch.core_is here in
-    subst (λ (m : NodeData). NodeDoes (touched (state_of n) s (rule s (core_at n s).state)) n had (record m { cores = slice_set m.cores k new }) out) (sym same)
-    (subst (λ (k : ℕ). NodeDoes (touched (state_of n) s (rule s (core_at n s).state)) n had (record n { cores = slice_set n.cores k new }) out) (sym place)
-    (touch_does n had out s (rule s (core_at n s).state) new touch.inside now))
 
 -- What the limits of a node give of the premises of its moves.
 
@@ -131,21 +92,6 @@ set_numbers clock s h =
       number = desk.1;
     }
 
--- each set of a node within its limits is within them
-pub each_within : (n : NodeData) → IsNode n → IsTrue (node_within n.script (state_of n)) → (s : ℕ) → s < length n.cores → IsWithin n.clock (core_at n s).state
-each_within n node h s inside =
-    set_numbers n.clock (core_at n s).state
-    (not-false (set_within n.clock (core_at n s).state)
-    (any_below_none (length n.script.sets) (λ k. not (set_within n.clock ((state_of n).set k)))
-    (not-true _ h) s (omega (arith, inside, node.sets))))
-
-pub each_leaves_ask : (n : NodeData) → IsNode n → IsTrue (leaves_asks n.script (state_of n)) → (s : ℕ) → s < length n.cores → LeavesAsk (core_at n s)
-each_leaves_ask n node h s inside =
-    ltb-true (length (core_at n s).state.pending) 16
-    (not-false (leaves_ask (core_at n s).state)
-    (any_below_none (length n.script.sets) (λ k. not (leaves_ask ((state_of n).set k)))
-    (not-true _ h) s (omega (arith, inside, node.sets))))
-
 -- with memory there is room for a later move
 pub room_later : (clock now more : ℕ) (core : CoreData) → IsWithin clock core.state → clock < now → HasMemory more core → HasRoom 2 now core
 room_later clock now more core within later memory = record {
@@ -155,17 +101,6 @@ room_later clock now more core within later memory = record {
   epoch = omega (arith, within.epoch, later);
   number = omega (arith, within.number, later);
   tells = memory.tells;
-}
-
--- so a node with room for a command is ready for it
-pub ready_to_act : (n : NodeData) (out : OutData) (now : ℕ) → IsNode n → IsTrue (node_within n.script (state_of n)) → IsTrue (leaves_asks n.script (state_of n))
-    → RoomToAct n out → n.clock < now → IsReady now n.cores out
-ready_to_act n out now node within asks room later = record {
-  rooms = λ s d inside. subst (λ (core : CoreData). HasRoom 2 now core) (get_or_default n.cores s (first_core n.script n.me s) d inside)
-      (room_later n.clock now 0 (core_at n s) (each_within n node within s inside) later
-      (room.cores s (first_core n.script n.me s) inside));
-  asks = λ s d inside. subst LeavesAsk (get_or_default n.cores s (first_core n.script n.me s) d inside) (each_leaves_ask n node asks s inside);
-  send = room.send;
 }
 
 -- Where memory is taken, all else stays.
@@ -232,9 +167,3 @@ same_node m n cores same kept =
       state = ap (λ (f : ℕ → SetState). let s : NodeState = record { clock = m.clock; made = λ c. slice_index_or m.made c 0; set = f } in s)
           (fun_ext (λ s. ap (λ (x : KeptData). x.state) (kept_at cores m.cores s (first_core m.script m.me s) kept)));
     })
-
-pub few_asks : (m n : NodeData) → m ≡ n → IsNode m → IsTrue (node_within n.script (state_of n)) → All HasFewAsks m.cores
-few_asks m n same node within =
-    subst (λ (m : NodeData). All HasFewAsks m.cores) (sym same)
-    (λ k d inside. subst (λ (c : CoreData). HasFewAsks c) (get_or_default n.cores k (first_core n.script n.me k) d inside)
-    (each_within n (node_is m n same node) within k inside).asks)

@@ -3,7 +3,7 @@ use Rattle.std.proofs.Common.{◌≡◌, ◌+◌, ◌<◌, ◌==◌, ◌++◌, �
 use Rattle.std.proofs.Math.Path.{fun_ext}
 use Rattle.std.proofs.lemmas.Bool.{cases_eq, cases_lt, cases_Bool}
 use Rattle.std.proofs.lemmas.Option.{slice_get-get_or}
-use Rattle.std.proofs.lemmas.List.{take_more, map-append, length_push, length-map, get_or_append_left, get_or_push, get_or_past}
+use Rattle.std.proofs.lemmas.List.{take_more, map-append, length-map, get_or_default, get_or_past}
 use Rattle.std.proofs.Math.ListN.{get_or-map as map_read}
 use Rattle.std.specs.List.{cons_option}
 use Rattle.std.proofs.lemmas.List.Elements.{filter_map-append}
@@ -14,7 +14,8 @@ use Rattle.lt_spec.specs.Script.{IsScript}
 use Rattle.lt_spec.specs.NodeMove.{commands_of, home, command_if}
 use Rattle.lt_spec.specs.World.{start}
 use Rattle.lt_core.specs.CoreData.{CoreData}
-use Rattle.lt_node.specs.NodeData.{IsNode, IsCoreOf, state_of, first_core}
+use Rattle.lt_node.specs.NodeData.{IsNode, IsCoreOf, state_of, first_core, untouched}
+use Rattle.lt_node.specs.Sets.{AreSetsOf, SetsData, core_in}
 use Rattle.lt_node.specs.Clients.{Progress, KnowsClients, homes_in, no_progress, progress_made, HaveFirst, progress_of, no_command, with_command, with_own_request, first_commands}
 
 abbrev no_client : ClientData
@@ -38,31 +39,6 @@ home_is script homes client same inside =
 
 pub homes_count : (script : ScriptData) (homes : List ℕ) → homes ≡ homes_in script → length homes ≡ length script.clients
 homes_count script homes same = ap (λ (l : List ℕ). length l) same ∙ length-map script.clients (λ (client : ClientData). client.node)
-
--- what is read of a list with one item more
-pushed_at : {X : Type 0} (P : X → Type 0) (xs : List X) (y : X) (s : ℕ) (d : X) → (s < length xs → P (slice_index_or xs s d)) → (s ≡ length xs → P y) → (length xs < s → P d) → P (slice_index_or (xs ++ y ∷ []) s d)
-pushed_at P xs y s d before here past = elim (cases_lt s (length xs)) [
-  | inl below ↦ subst P (sym (get_or_append_left xs (y ∷ []) d s below)) (before below)
-  | inr above ↦ elim (cases_eq s (length xs)) [
-    | inl same ↦ subst P (sym (get_or_push xs y d s (sym same))) (here same)
-    | inr other ↦ subst P (sym (get_or_past (xs ++ y ∷ []) s d (omega (arith, above, other, length_push xs y)))) (past (omega (arith, above, other)))
-  ]
-]
-
--- one set more
-pub record AreFirst (script : ScriptData) (q k : ℕ) (cores : List CoreData) : Type 0 where
-  pub count : length cores ≡ k
-  pub states : (s : ℕ) → (slice_index_or cores s (first_core script q s)).state ≡ (first_core script q s).state
-  pub places : (s : ℕ) → s < length cores → IsCoreOf q s (slice_index_or cores s (first_core script q s))
-
-pub core_more : (script : ScriptData) (q k : ℕ) (cores : List CoreData) (core : CoreData) → AreFirst script q k cores → core.state ≡ first_state script.nodes q → (core.node ≡ q) × (core.set ≡ k)
-    → AreFirst script q (k + 1) (cores ++ core ∷ [])
-core_more script q k cores core first state place = record {
-  count = omega (arith, first.count, length_push cores core);
-  states = λ s. pushed_at (λ (c : CoreData). c.state ≡ first_state script.nodes q) cores core s (first_core script q s) (λ below. first.states s) (λ same. state) (λ past. refl);
-  places = λ s inside. pushed_at (λ (c : CoreData). IsCoreOf q s c) cores core s (first_core script q s) (λ below. first.places s below)
-      (λ same. record { node = place.0; set = place.1 ∙ sym first.count ∙ sym same }) (λ past. record { node = refl; set = refl });
-}
 
 -- the clients at the start
 abbrev pub AreNew : ScriptData → ℕ → List Progress → Type 0
@@ -90,11 +66,23 @@ clients_known script q homes clients same new = record {
   own = λ client inside own. ap (λ (p : Progress). p.commands) (new client inside) ∙ rw (eq-eqb (home script client) q own) refl;
 }
 
-pub node_at_start : (script : ScriptData) (q : ℕ) (clients : List Progress) (cores : List CoreData) → IsScript script → q < script.nodes → length clients ≡ length script.clients
-    → length cores ≡ length script.sets → ((s : ℕ) → s < length cores → IsCoreOf q s (slice_index_or cores s (first_core script q s)))
-    → IsNode (record { script = script; gone = 0; me = q; clock = 0; made = map progress_made clients; cores = cores })
-node_at_start script q clients cores known within count sets places =
-    record { is_script = known; within = within; clients = length-map clients progress_made ∙ count; sets = sets; places = places }
+pub node_at_start : (script : ScriptData) (q : ℕ) (clients : List Progress) (sets : SetsData) → IsScript script → q < script.nodes → length clients ≡ length script.clients → AreSetsOf script q sets
+    → IsNode (record { script = script; gone = 0; me = q; clock = 0; made = map progress_made clients; cores = sets.cores })
+node_at_start script q clients sets known within count of = record {
+  is_script = known;
+  within = within;
+  clients = length-map clients progress_made ∙ count;
+  sets = of.count;
+  places = λ s inside.
+      subst (λ (c : CoreData). IsCoreOf q s c) (get_or_default sets.cores s (untouched sets.nodes sets.me s) (first_core script q s) inside) (of.places s);
+}
+
+-- each set is in its first state
+pub sets_at_start : (script : ScriptData) (q : ℕ) (sets : SetsData) → AreSetsOf script q sets → ((s : ℕ) → core_in sets s ≡ first_core script q s)
+    → (s : ℕ) → (slice_index_or sets.cores s (first_core script q s)).state ≡ (first_core script q s).state
+sets_at_start script q sets of first s =
+    let same : slice_index_or sets.cores s (first_core script q s) ≡ core_in sets s = λ i. slice_index_or sets.cores s (untouched (sym of.nodes i) (sym of.node i) s) in
+    ap (λ (c : CoreData). c.state) (same ∙ first s)
 
 -- The clients get their commands one after the other.
 

@@ -1,21 +1,24 @@
--- A command that touches one set of a node.
-use Rattle.std.proofs.Common.{◌≡◌, ◌<◌, ◌≤◌, ◌∙◌, ℕ, Option, Some, None, Result, Ok, Err, OnOk, IfSome, IsTrue, length, slice_index_or, sum_by, arith, ap, subst, sym}
-use Rattle.std.proofs.lemmas.List.{get_or_default}
-use Rattle.std.proofs.lemmas.List.Sums.{get_or-le-sum_by}
-use Rattle.lt_modes.specs.declared.stamp.Stamp.{Stamp}
+-- What a command asks of the sets that it touches.
+use Rattle.std.proofs.Common.{◌≡◌, ◌<◌, ◌≤◌, ◌&&◌, ◌∙◌, Bool, true, ℕ, List, [], ◌∷◌, Option, Some, None, All, IsTrue, length, nat_le, slice_index_or, sum_by, arith, refl, sym, ap, subst, leb-true, ltb-true}
+use Rattle.std.specs.List.{list_all}
+use Rattle.std.proofs.lemmas.Bool.{and_parts}
+use Rattle.std.proofs.lemmas.List.Elements.{All-head}
+use Rattle.std.proofs.lemmas.List.Sums.{AllPass-from_list_all, sum_by-cons}
 use Rattle.lt_modes.specs.declared.command.Command.{Command}
 use Rattle.lt_modes.specs.declared.command.Command.TheVariants as commands
+use Rattle.lt_modes.specs.declared.stamp.Stamp.{Stamp}
 use Rattle.lt_modes.specs.Script.{ScriptData}
-use Rattle.lt_spec.specs.Script.{HasTargets}
-use Rattle.lt_spec.specs.NodeMove.{NodeState, node_within, leaves_asks, next_command}
+use Rattle.lt_spec.specs.NodeMove.{NodeState, at_clock, leaves_ask, locks_in_sets, next_command, one_made, related, set_within}
+use Rattle.lt_spec.specs.declared.limits.TheConstants.{MAX_COMMANDS_OF_SERVICE}
 use Rattle.lt_desk.specs.DeskData.{OutData, FitsOut}
 use Rattle.lt_core.specs.declared.set_command.SetCommand.{SetCommand}
 use Rattle.lt_core.specs.declared.set_command.SetCommand.TheVariants.{Lock, Try, Unlock, Change, DropAll}
-use Rattle.lt_core.specs.CoreData.{CoreData, RoomToAsk, RoomForCommand, move_of}
+use Rattle.lt_core.specs.CoreData.{CoreData, HasRoom, RoomToAsk, RoomForCommand, move_of}
 use Rattle.lt_core.proofs.NoticeLemmas.{room_less}
 use Rattle.lt_core.proofs.BoundLemmas.{commands_fit}
-use Rattle.lt_node.specs.NodeData.{NodeData, SameNode, IsNode, IsReadyAt, IsReadyToTouch, IsSetReady, RoomForNext, RoomToAct, RoomInSet, RoomToTouch, core_at, first_core, most_sent, next_set, state_of, touched_if, touched_set}
-use Rattle.lt_node.proofs.NodeLemmas.{each_leaves_ask, each_within, ready_to_act, room_later}
+use Rattle.lt_node.specs.NodeData.{AreReady, IsSetReady, LeavesAsk, NodeData, core_at, first_core, most_sent, state_of}
+use Rattle.lt_node.specs.Touched.{RoomToAct, drops_few, leaves_room_to_act, sets_leave_asks, sets_within, touched_by, touched_sets}
+use Rattle.lt_node.proofs.NodeLemmas.{room_later, set_numbers}
 
 -- there is room for each command
 room_for : (clock : ℕ) (core : CoreData) (command : SetCommand) → RoomToAsk clock core → RoomForCommand clock core command
@@ -33,86 +36,69 @@ pub fits_at : (clock : ℕ) (core : CoreData) (out : OutData) (stamp : Stamp) (c
 fits_at clock core out stamp client command ready =
     commands_fit stamp client command core.set core.state out (record { posts = ready.send.posts; events = ready.send.events })
 
--- the set in hand is ready
-pub set_ready : (m n : NodeData) (k s clock : ℕ) (core : CoreData) (out : OutData) → m ≡ n → k ≡ s → core ≡ slice_index_or m.cores k core → IsReadyAt s clock n.cores out
-    → IsSetReady clock core out
-set_ready m n k s clock core out same place at ready =
-    ready.set_is core (at ∙ ap (λ (i : ℕ). slice_index_or m.cores i core) place ∙ ap (λ (x : NodeData). slice_index_or x.cores s core) same)
-
--- where there is room for any command, there is room for one at this set
-pub room_by_all : (n : NodeData) (out : OutData) (set : Option ℕ) → RoomToAct n out → RoomToTouch set n out
-room_by_all n out None room = room
-room_by_all n out (Some s) room = λ inside.
-    let within : most_sent (core_at n s) ≤ sum_by most_sent n.cores = get_or-le-sum_by most_sent n.cores s (first_core n.script n.me s) inside in
+-- one set that is ready
+pub one_ready : (s clock : ℕ) (core : ℕ → CoreData) (out : OutData) → AreReady (s ∷ []) clock core out → IsSetReady clock (core s) out
+one_ready s clock core out ready =
+    let sum = sum_by-cons (λ (k : ℕ). most_sent (core k)) s [] in
     record {
-      memory = room.cores s (first_core n.script n.me s) inside;
-      send = record { posts = omega (arith, within, room.send.posts); events = omega (arith, within, room.send.events) };
+      room = All-head (λ (k : ℕ). HasRoom 2 clock (core k)) s [] ready.rooms;
+      ask = All-head (λ (k : ℕ). LeavesAsk (core k)) s [] ready.asks;
+      send = record { posts = omega (arith, ready.send.posts, sum); events = omega (arith, ready.send.events, sum) };
     }
 
--- with room in a set, it is ready for a command
-ready_in : (n : NodeData) (out : OutData) (now s : ℕ) → IsNode n → IsTrue (node_within n.script (state_of n)) → IsTrue (leaves_asks n.script (state_of n)) → s < length n.script.sets
-    → (s < length n.cores → RoomInSet (core_at n s) out) → n.clock < now → IsReadyAt s now n.cores out
-ready_in n out now s node within asks inside room later =
-    let below : s < length n.cores = omega (arith, inside, node.sets) in
-    record {
-      set_is = λ core at.
-          let here : core ≡ core_at n s = at ∙ get_or_default n.cores s core (first_core n.script n.me s) below in
-          subst (λ (c : CoreData). IsSetReady now c out) (sym here) (record {
-            room = room_later n.clock now 0 (core_at n s) (each_within n node within s below) later (room below).memory;
-            ask = each_leaves_ask n node asks s below;
-            send = (room below).send;
-          });
-    }
+-- what the node keeps for the sets of the next command leaves room for it
+record MayObey (n : NodeData) (sets : List ℕ) (command : Option Command) : Type 0 where
+  within : sets_within (state_of n) sets ≡ true
+  asks : sets_leave_asks (state_of n) sets ≡ true
+  few : drops_few n.script (state_of n) command ≡ true
 
-ready_by : (n : NodeData) (out : OutData) (now client : ℕ) (command : Command) → IsNode n → IsTrue (node_within n.script (state_of n)) → IsTrue (leaves_asks n.script (state_of n))
-    → HasTargets n.script.sets n.script.clients client command → n.clock < now → RoomToTouch (touched_set command) n out → IsReadyToTouch (touched_set command) now n.cores out
-ready_by n out now client (commands.Lock s mode) node within asks inside later room = ready_in n out now s node within asks inside room later
-ready_by n out now client (commands.Try s mode) node within asks inside later room = ready_in n out now s node within asks inside room later
-ready_by n out now client (commands.Unlock s mode) node within asks inside later room = ready_in n out now s node within asks inside room later
-ready_by n out now client (commands.Change s gives_up mode) node within asks inside later room = ready_in n out now s node within asks inside room later
-ready_by n out now client (commands.DropAll other s) node within asks targets later room = ready_to_act n out now node within asks room later
+may_obey : (n : NodeData) (client : ℕ) → leaves_room_to_act n.script (state_of n) client ≡ true
+    → MayObey n (touched_by n.script (next_command n.script (state_of n) client)) (next_command n.script (state_of n) client)
+may_obey n client h =
+    let next = next_command n.script (state_of n) client in
+    let sets = touched_by n.script next in
+    let first = and_parts (sets_within (state_of n) sets) (sets_leave_asks (state_of n) sets && drops_few n.script (state_of n) next) h in
+    let second = and_parts (sets_leave_asks (state_of n) sets) (drops_few n.script (state_of n) next) first.1 in
+    record { within = first.0; asks = second.0; few = second.1 }
 
--- with room for the client's next command, the node is ready for it
-pub ready_for_next : (n : NodeData) (out : OutData) (now client : ℕ) (command : Command) → IsNode n → IsTrue (node_within n.script (state_of n)) → IsTrue (leaves_asks n.script (state_of n))
-    → HasTargets n.script.sets n.script.clients client command → next_command n.script (state_of n) client ≡ Some command → n.clock < now → RoomForNext client n out
-    → IsReadyToTouch (touched_set command) now n.cores out
-ready_for_next n out now client command node within asks targets next later room =
-    ready_by n out now client command node within asks targets later
-    (subst (λ (o : Option Command). RoomToTouch (touched_if o) n out) next room)
+-- so these sets are ready for it
+pub ready_to_act : (n : NodeData) (out : OutData) (now client : ℕ) (command : Command) → leaves_room_to_act n.script (state_of n) client ≡ true
+    → next_command n.script (state_of n) client ≡ Some command → n.clock < now → RoomToAct client n out → AreReady (touched_sets n.script command) now (core_at n) out
+ready_to_act n out now client command h is later room =
+    let sets = touched_by n.script (next_command n.script (state_of n) client) in
+    let may = may_obey n client h in
+    let within = AllPass-from_list_all (λ (s : ℕ). set_within n.clock ((state_of n).set s)) sets may.within in
+    let asks = AllPass-from_list_all (λ (s : ℕ). leaves_ask ((state_of n).set s)) sets may.asks in
+    subst (λ (o : Option Command). AreReady (touched_by n.script o) now (core_at n) out) is
+    (record {
+      rooms = λ k d inside.
+          let s = slice_index_or sets k d in
+          room_later n.clock now 0 (core_at n s) (set_numbers n.clock (core_at n s).state (within k d inside)) later (room.cores k d inside);
+      asks = λ k d inside. ltb-true (length (core_at n (slice_index_or sets k d)).state.pending) 16 (asks k d inside);
+      send = room.send;
+    })
 
--- the set that a command names is one of the script
-pub set_inside : (n : NodeData) (client : ℕ) (command : Command) → IsNode n → HasTargets n.script.sets n.script.clients client command → IfSome (touched_set command) (λ s. (s < length n.script.sets) × (s < length n.cores))
-set_inside n client (commands.Lock s mode) node inside = (inside, omega (arith, inside, node.sets))
-set_inside n client (commands.Try s mode) node inside = (inside, omega (arith, inside, node.sets))
-set_inside n client (commands.Unlock s mode) node inside = (inside, omega (arith, inside, node.sets))
-set_inside n client (commands.Change s gives_up mode) node inside = (inside, omega (arith, inside, node.sets))
-set_inside n client (commands.DropAll other s) node targets = record {}
+-- also once the client has made it
+pub ready_after : (n mid : NodeData) (out : OutData) (now : ℕ) (command : Command) → mid.script ≡ n.script → mid.me ≡ n.me → mid.cores ≡ n.cores
+    → AreReady (touched_sets n.script command) now (core_at n) out → AreReady (touched_sets mid.script command) now (core_at mid) out
+ready_after n mid out now command script me cores ready =
+    let same : core_at n ≡ core_at mid = λ i s. slice_index_or (sym cores i) s (first_core (sym script i) (sym me i) s) in
+    subst (λ (f : ℕ → CoreData). AreReady (touched_sets mid.script command) now f out) same
+    (subst (λ (s : ScriptData). AreReady (touched_sets s command) now (core_at n) out) (sym script) ready)
 
--- other memory changes no command
-pub same_set : (old new : NodeData) (client : ℕ) → SameNode old new → next_set new.script (state_of new) client ≡ next_set old.script (state_of old) client
-same_set old new client same =
-    ap (λ (script : ScriptData). next_set script (state_of new) client) same.script ∙ ap (λ (s : NodeState). next_set old.script s client) same.state
+-- and a drop is of few locks
+pub few_to_act : (n : NodeData) (client : ℕ) (command : Command) → leaves_room_to_act n.script (state_of n) client ≡ true → next_command n.script (state_of n) client ≡ Some command
+    → drops_few n.script (state_of n) (Some command) ≡ true
+few_to_act n client command h is = subst (λ (o : Option Command). drops_few n.script (state_of n) o ≡ true) is (may_obey n client h).few
 
-ok_after : {T E : Type 0} (r : Result T E) (inside room : Type 0) → OnOk r room → OnOk r (inside → room)
-ok_after (Ok x) inside room h = λ here. h
-ok_after (Err e) inside room h = h
+-- which is of the sets alone
+pub few_after : (script : ScriptData) (clock maker : ℕ) (n : NodeState) (command : Command) → drops_few script (one_made maker (at_clock clock n)) (Some command) ≡ drops_few script n (Some command)
+few_after script clock maker n (commands.Lock s mode) = refl
+few_after script clock maker n (commands.Try s mode) = refl
+few_after script clock maker n (commands.Unlock s mode) = refl
+few_after script clock maker n (commands.Change s gives_up mode) = refl
+few_after script clock maker n (commands.DropAll other s) = refl
 
--- what was made for the set of the next command, or for all
-pub made_in : {T E : Type 0} (r : Result T E) (old new : NodeData) (out : OutData) (client s : ℕ) (set : Option ℕ) → SameNode old new
-    → set ≡ next_set old.script (state_of old) client → set ≡ Some s → OnOk r (RoomInSet (core_at new s) out) → OnOk r (RoomForNext client new out)
-made_in r old new out client s set same is at room =
-    subst (λ (o : Option ℕ). OnOk r (RoomToTouch o new out)) (sym at ∙ is ∙ sym (same_set old new client same))
-    (ok_after r (s < length new.cores) (RoomInSet (core_at new s) out) room)
-
-pub made_all : {T E : Type 0} (r : Result T E) (old new : NodeData) (out : OutData) (client : ℕ) (set : Option ℕ) → SameNode old new
-    → set ≡ next_set old.script (state_of old) client → set ≡ None → OnOk r (RoomToAct new out) → OnOk r (RoomForNext client new out)
-made_all r old new out client set same is at room =
-    subst (λ (o : Option ℕ). OnOk r (RoomToTouch o new out)) (sym at ∙ is ∙ sym (same_set old new client same)) room
-
--- and what was there before
-pub had_in : (n : NodeData) (out : OutData) (client s : ℕ) (set : Option ℕ) → set ≡ next_set n.script (state_of n) client → set ≡ Some s → s < length n.cores
-    → RoomForNext client n out → RoomInSet (core_at n s) out
-had_in n out client s set is at inside room = (subst (λ (o : Option ℕ). RoomToTouch o n out) (sym is ∙ at) room) inside
-
-pub had_all : (n : NodeData) (out : OutData) (client : ℕ) (set : Option ℕ) → set ≡ next_set n.script (state_of n) client → set ≡ None → RoomForNext client n out → RoomToAct n out
-had_all n out client set is at room = subst (λ (o : Option ℕ). RoomToTouch o n out) (sym is ∙ at) room
+pub few_dropped : (script : ScriptData) (n : NodeState) (other s : ℕ) → drops_few script n (Some (commands.DropAll other s)) ≡ true
+    → locks_in_sets n other (related script s) ≤ MAX_COMMANDS_OF_SERVICE
+few_dropped script n other s h = leb-true (locks_in_sets n other (related script s)) MAX_COMMANDS_OF_SERVICE h

@@ -56,14 +56,19 @@ impl Sets {
         ensures sets { IfOk result (AreSetsOf script.now node) }
         ensures first { IfOk result (λ sets. (s : ℕ) → core_in sets s ≡ first_core script.now node s) }
     {
+        let nodes = script.nodes();
+        let clients = script.clients();
+        let first = Core::new(alloc, nodes, clients, node, 0)?;
+        let places = zeros(alloc, script.sets() as usize)?;
+        let waiting = zeros(alloc, usize::from(clients))?;
         Ok(Sets {
-            nodes: script.nodes(),
-            clients: script.clients(),
+            nodes,
+            clients,
             me: node,
-            first: Core::new(alloc, script.nodes(), script.clients(), node, 0)?,
-            places: zeros(alloc, script.sets() as usize)?,
+            first,
+            places,
             cores: Vec::new(alloc),
-            waiting: zeros(alloc, usize::from(script.clients()))?,
+            waiting,
         })
     }
 
@@ -118,8 +123,8 @@ impl Sets {
         ensures same { SameSets self.old self.new }
         ensures others { (other : ℕ) → other ≢ set → core_in self.new other ≡ core_in self.old other }
         ensures touched { OnOk result (IsTouched self.new set) }
-        ensures full { IsTouched self.old set → IsOk result }
-        ensures had { IsTouched self.old set → self.new ≡ self.old }
+        ensures full { HasMemory 0 (core_in self.old set) → IsOk result }
+        ensures had { HasMemory 0 (core_in self.old set) → self.new ≡ self.old }
     {
         let place = set as usize;
         if self.places[place] != 0 {
@@ -143,7 +148,7 @@ impl Sets {
         ensures full { HasMemory 0 (core_in self.old set) → IsOk result }
     {
         self.touch(set)?;
-        let place = self.place(set);
+        let place = place_of(&self.places, set);
         self.cores[place].reserve()
     }
 
@@ -163,7 +168,7 @@ impl Sets {
             → IsOk result }
     {
         self.touch(set)?;
-        let place = self.place(set);
+        let place = place_of(&self.places, set);
         self.cores[place].reserve_for(letter)
     }
 
@@ -184,7 +189,7 @@ impl Sets {
         ensures does { SetDoes set (move_of stamp client command set (core_in self.old set).state)
             self.old out.old self.new out.new }
     {
-        let place = self.place(set);
+        let place = place_of(&self.places, set);
         let core = &mut self.cores[place];
         wait_less(&mut self.waiting, core.asks());
         let answer = core.act(client, command, stamp, out);
@@ -203,7 +208,7 @@ impl Sets {
         ensures does { SetDoes letter.set (take stamp (letter_seen letter) (core_in self.old letter.set).state)
             self.old out.old self.new out.new }
     {
-        let place = self.place(letter.set);
+        let place = place_of(&self.places, letter.set);
         let core = &mut self.cores[place];
         wait_less(&mut self.waiting, core.asks());
         core.take(letter, stamp, out);
@@ -220,19 +225,19 @@ impl Sets {
             self.old out.old self.new out.new }
         ensures send { (more : ℕ) → RoomToSend (most_sent (core_in self.old set) + more) out.old → RoomToSend more out.new }
     {
-        let place = self.place(set);
+        let place = place_of(&self.places, set);
         let core = &mut self.cores[place];
         wait_less(&mut self.waiting, core.asks());
         end(core, dropped, stamp, out);
         wait_more(&mut self.waiting, core.asks());
     }
+}
 
-    // The place of the set's core.
-    fn place(&self, set: u32) -> usize
-        requires set { set < length self.now.cores }
-        requires touched { IsTouched self.now set }
-        ensures place { result + 1 ≡ slice_index_or self.now.places set 0 }
-    {
-        self.places[set as usize] as usize - 1
-    }
+// The place of the set's core.
+fn place_of(places: &Vec<u32>, set: u32) -> usize
+    requires inside { set < length places.now.items }
+    requires touched { 0 < slice_index_or places.now.items set 0 }
+    ensures { result + 1 ≡ slice_index_or places.now.items set 0 }
+{
+    places[set as usize] as usize - 1
 }

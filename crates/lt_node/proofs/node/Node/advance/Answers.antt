@@ -6,7 +6,6 @@ use Rattle.lt_node.specs.NodeData.{NodeData}
 use Rattle.lt_node.specs.Clients.{progress_made}
 use Rattle.lt_node.proofs.NodeLemmas.{node_is}
 use Rattle.lt_node.proofs.AdvanceLemmas.{HasNext, next_at, next_is, next_targets, advanced_at, node_advanced, clients_advanced}
-use Rattle.lt_node.proofs.MarkLemmas.{known_later}
 use Rattle.lt_node.proofs.node.Node.advance.Goals as goal
 
 pub next-requires-clause-few : goal.next-requires-clause-few
@@ -29,8 +28,6 @@ invariant_of-self c =
           (omega (arith, c.from.ensures, c.requires.client, count, c.self.invariant.0.clients, length-map clients progress_made)) c.index_mut.ensures.value c.next.ensures.made,
       c.self.invariant.2,
       c.self.invariant.3,
-      c.self.invariant.4,
-      known_later c.self.inside.clock (c.self.inside.clock + 1) c.self.inside.cores.items c.self.inside.sent.items (omega arith) c.self.invariant.5,
     )
 
 pub returns-clause-command : goal.returns-clause-command

@@ -1,6 +1,5 @@
 use Rattle.std.proofs.Common.{refl}
 use Rattle.lt_node.specs.Clients.{with_request}
-use Rattle.lt_node.proofs.MarkLemmas.{waiting_appended}
 use Rattle.lt_node.proofs.AdvanceLemmas.{appended_at}
 use Rattle.lt_node.proofs.node.Node.append.Goals as goal
 
@@ -14,10 +13,8 @@ invariant_of-self-2 c =
     rw c.in_ok-append_to.ensures.script (
       appended.holds.node,
       appended.holds.knows,
-      waiting_appended c.self.inside.script.whole c.self.inside.me c.args.client c.args.command c.self.inside.cores.items c.self.inside.waiting.items c.self.invariant.2,
+      record { nodes = c.self.invariant.2.nodes; node = c.self.invariant.2.node; count = c.self.invariant.2.count; places = c.self.invariant.2.places },
       c.self.invariant.3,
-      c.self.invariant.4,
-      c.self.invariant.5,
     )
 
 pub returns-clause-appended : goal.returns-clause-appended

@@ -1,6 +1,6 @@
 use Rattle.std.proofs.Common.{length, ◌∙◌, ap, is_some}
 use Rattle.lt_node.specs.NodeData.{state_of}
-use Rattle.lt_node.proofs.MarkLemmas.{ask_found}
+use Rattle.lt_node.proofs.AskLemmas.{ask_found}
 use Rattle.lt_node.proofs.node.Node.ask_of.Goals as goal
 
 pub returns-clause-some : goal.returns-clause-some

@@ -4,7 +4,7 @@ use Rattle.lt_modes.specs.declared.ask.Ask.{Ask}
 use Rattle.lt_modes.specs.Script.{ScriptData}
 use Rattle.lt_modes.specs.Waiting.{pending_ask}
 use Rattle.lt_node.specs.NodeData.{NodeData, state_of, ask_below}
-use Rattle.lt_node.proofs.MarkLemmas.{ask_stays}
+use Rattle.lt_node.proofs.AskLemmas.{ask_stays}
 use Rattle.lt_node.proofs.node.Node.search_ask.Goals as goal
 
 pub returns-in-Some : goal.returns-in-Some

@@ -1,50 +1,38 @@
-use Rattle.std.proofs.Common.{◌∙◌, sym, ap, arith, length}
-use Rattle.lt_core.specs.CoreData.{move_of}
-use Rattle.lt_node.specs.NodeData.{NodeData, IsCoreOf}
-use Rattle.lt_node.proofs.NodeLemmas.{touched_by, touch_done, node_kept}
-use Rattle.lt_node.proofs.MarkLemmas.{remarked, waiting_noted, within_forgotten}
-use Rattle.lt_node.proofs.ReadyLemmas.{known_forgotten}
-use Rattle.lt_node.proofs.TouchLemmas.{set_ready, room_at, fits_at}
+use Rattle.std.proofs.Common.{◌∙◌, [], ◌∷◌, ℕ, ap, refl, subst, sym}
+use Rattle.lt_core.specs.CoreData.{CoreData, answer_of, move_of}
+use Rattle.lt_node.specs.NodeData.{AreReady, NodeData}
+use Rattle.lt_node.proofs.NodeSets.{core_held, node_of_sets, set_done, set_inside, sets_moved}
+use Rattle.lt_node.proofs.TouchLemmas.{one_ready}
+use Rattle.lt_node.specs.Sets.{core_in}
 use Rattle.lt_node.proofs.node.Node.touch.Goals as goal
 
-pub act-answer-requires-clause-node : goal.act-answer-requires-clause-node
-act-answer-requires-clause-node c =
-    let touch = touched_by _ c.args.self.now c.from.result c.args.set c.index_mut-core.result.now c.self.view_is c.self.invariant.0 c.from.ensures c.requires.set c.index_mut-core.ensures.value in
-    c.requires.node ∙ sym touch.place.node
+pub act-requires-clause-set : goal.act-requires-clause-set
+act-requires-clause-set c = set_inside _ c.args.self.now c.self.inside.sets c.args.set c.self.view_is c.self.invariant.2 c.requires.set
 
-pub act-answer-requires-clause-fits : goal.act-answer-requires-clause-fits
-act-answer-requires-clause-fits c =
-    let ready = set_ready _ c.args.self.now c.from.result c.args.set c.args.stamp.clock c.index_mut-core.result.now c.args.out.now c.self.view_is c.from.ensures c.index_mut-core.ensures.value c.requires.ready in
-    fits_at c.args.stamp.clock c.index_mut-core.result.now c.args.out.now c.args.stamp c.args.client c.args.command ready
+pub act-requires-clause-node : goal.act-requires-clause-node
+act-requires-clause-node c = c.requires.node ∙ sym (ap (λ (n : NodeData). n.me) c.self.view_is) ∙ sym c.self.invariant.2.node
 
-pub act-answer-requires-clause-room : goal.act-answer-requires-clause-room
-act-answer-requires-clause-room c =
-    let ready = set_ready _ c.args.self.now c.from.result c.args.set c.args.stamp.clock c.index_mut-core.result.now c.args.out.now c.self.view_is c.from.ensures c.index_mut-core.ensures.value c.requires.ready in
-    room_at c.args.stamp.clock c.index_mut-core.result.now c.args.out.now c.args.command ready
+pub act-requires-clause-ready : goal.act-requires-clause-ready
+act-requires-clause-ready c =
+    one_ready c.args.set c.args.stamp.clock (core_in c.self.inside.sets) c.args.out.now
+    (subst (λ (f : ℕ → CoreData). AreReady (c.args.set ∷ []) c.args.stamp.clock f c.args.out.now) (core_held _ c.args.self.now c.self.inside.sets c.self.view_is refl c.self.invariant.2) c.requires.ready)
+
+pub returns-clause-answer : goal.returns-clause-answer
+returns-clause-answer c =
+    c.act.ensures.answer ∙ ap (λ (q : ℕ). answer_of q c.args.client c.args.command (core_in c.self.inside.sets c.args.set).state) c.requires.node
+    ∙ sym (ap (λ (f : ℕ → CoreData). answer_of c.args.self.now.me c.args.client c.args.command (f c.args.set).state) (core_held _ c.args.self.now c.self.inside.sets c.self.view_is refl c.self.invariant.2))
 
 pub returns-clause-does : goal.returns-clause-does
 returns-clause-does c =
-    let touch = touched_by _ c.args.self.now c.from.result c.args.set c.index_mut-core.result.now c.self.view_is c.self.invariant.0 c.from.ensures c.requires.set c.index_mut-core.ensures.value in
-    touch_done _ c.args.self.now c.from.result c.args.set (λ set state. move_of c.args.stamp c.args.client c.args.command set state) c.index_mut-core.result.now c.act-answer.new.self c.args.out.now c.act-answer.new.out
-    c.self.view_is c.from.ensures touch c.act-answer.ensures.does
+    set_done _ c.args.self.now c.self.inside.sets c.act.new.self c.args.set (λ set state. move_of c.args.stamp c.args.client c.args.command set state) c.args.out.now c.act.new.out
+    c.self.view_is refl c.self.invariant.2 (set_inside _ c.args.self.now c.self.inside.sets c.args.set c.self.view_is c.self.invariant.2 c.requires.set) c.act.ensures.does
 
 pub invariant_of-self : goal.invariant_of-self
 invariant_of-self c =
-    let touch = touched_by _ c.args.self.now c.from.result c.args.set c.index_mut-core.result.now c.self.view_is c.self.invariant.0 c.from.ensures c.requires.set c.index_mut-core.ensures.value in
-    let inside = ap (λ (n : NodeData). length n.cores) c.self.view_is in
-    let place : IsCoreOf c.self.inside.me c.from.result c.act-answer.new.self = record {
-      node = c.act-answer.ensures.does.node ∙ touch.place.node ∙ sym (ap (λ (n : NodeData). n.me) c.self.view_is);
-      set = c.act-answer.ensures.does.set ∙ touch.place.set ∙ sym c.from.ensures;
-    } in (
-      node_kept _ c.self.inside.clock c.from.result c.act-answer.new.self c.self.invariant.0 place,
+    let inside = set_inside _ c.args.self.now c.self.inside.sets c.args.set c.self.view_is c.self.invariant.2 c.requires.set in
+    let moved = sets_moved c.self.inside.script.whole c.self.inside.me c.args.set _ c.self.inside.sets c.act.new.self c.args.out.now c.act.new.out c.self.invariant.2 c.act.ensures.does inside in (
+      node_of_sets _ c.self.inside.clock c.act.new.self c.self.invariant.0 moved,
       c.self.invariant.1,
-      waiting_noted c.self.inside.script.whole c.self.inside.me c.args.set c.from.result c.self.inside.cores.items c.index_mut-core.result.now c.act-answer.new.self
-          c.self.inside.waiting.items c.mark-2.new.masks.items c.self.invariant.2 (omega (arith, touch.inside, inside)) c.from.ensures c.index_mut-core.ensures.value
-          (remarked c.args.set c.index_mut-core.result.now.state c.act-answer.new.self.state c.asks.result.now c.asks-2.result.now c.self.inside.waiting.items
-          c.mark.new.masks.items c.mark-2.new.masks.items c.asks.ensures c.asks-2.ensures c.mark.ensures c.mark-2.ensures),
+      moved,
       c.self.invariant.3,
-      known_forgotten c.self.inside.cores.items c.self.inside.sent.items c.forget.new.sent.items c.args.set c.from.result c.act-answer.new.self
-          (omega (arith, touch.inside, inside)) c.from.ensures c.self.invariant.4 c.forget.ensures,
-      within_forgotten c.self.inside.clock c.self.inside.cores.items c.self.inside.sent.items c.forget.new.sent.items c.args.set c.from.result c.act-answer.new.self
-          (omega (arith, touch.inside, inside)) c.from.ensures c.self.invariant.4.count c.forget.ensures c.self.invariant.5,
     )

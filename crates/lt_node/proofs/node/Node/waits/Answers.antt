@@ -1,18 +1,14 @@
-use Rattle.std.proofs.Common.{◌≡◌, ◌∙◌, ◌==◌, ◌<◌, ℕ, ap, arith, length, slice_index_or, not}
-use Rattle.std.proofs.lemmas.List.{get_or_default}
-use Rattle.lt_spec.specs.NodeMove.{node_waits}
-use Rattle.lt_node.specs.NodeData.{NodeData, state_of}
-use Rattle.lt_node.proofs.MarkLemmas.{mask_tells}
+use Rattle.std.proofs.Common.{◌∙◌, ℕ, ap, length, refl, sym}
+use Rattle.lt_lists.specs.Below.{any_below}
+use Rattle.lt_modes.specs.Serving.{waits}
+use Rattle.lt_core.specs.CoreData.{CoreData}
+use Rattle.lt_node.specs.NodeData.{NodeData, core_at}
+use Rattle.lt_node.proofs.NodeSets.{core_held}
 use Rattle.lt_node.proofs.node.Node.waits.Goals as goal
 
-pub returns-then-place-len : goal.returns-then-place-len
-returns-then-place-len c =
-    let n = c.self.inside in
-    let masks = n.waiting.items in
-    let inside : c.args.client < length masks = omega (arith, c.if-place-len.true, c.len.ensures, c.from-place.ensures) in
-    let mask : c.index.result.now ≡ slice_index_or masks c.args.client 0 =
-    c.index.ensures ∙ ap (λ (k : ℕ). slice_index_or masks k c.index.result.now) c.from-place.ensures
-    ∙ get_or_default masks c.args.client c.index.result.now 0 inside in
-    ap (λ (k : ℕ). not (k == 0)) mask
-    ∙ (mask_tells n.script.whole n.me n.cores.items masks c.args.client c.self.invariant.2 c.self.invariant.0.sets inside
-    ∙ ap (λ (m : NodeData). node_waits m.script (state_of m) c.args.client) c.self.view_is)
+pub returns : goal.returns
+returns c =
+    c.waits.ensures
+    ∙ ap (λ (f : ℕ → CoreData). any_below (length c.self.inside.sets.cores) (λ s. waits (f s).state c.args.client))
+    (sym (core_held _ c.args.self.now c.self.inside.sets c.self.view_is refl c.self.invariant.2))
+    ∙ ap (λ (k : ℕ). any_below k (λ s. waits (core_at c.args.self.now s).state c.args.client)) (c.self.invariant.2.count ∙ ap (λ (n : NodeData). length n.script.sets) c.self.view_is)

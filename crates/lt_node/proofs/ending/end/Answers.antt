@@ -1,6 +1,6 @@
 use Rattle.std.proofs.Common.{Some, None}
 use Rattle.lt_node.proofs.FamilyLemmas.{end_fits, end_leaves}
-use Rattle.lt_node.proofs.family.end.Goals as goal
+use Rattle.lt_node.proofs.ending.end.Goals as goal
 
 pub finish-requires-clause-fits : goal.finish-requires-clause-fits
 finish-requires-clause-fits c = end_fits None c.args.stamp c.args.core.now c.args.out.now c.requires.send

@@ -1,0 +1,124 @@
+-- In how many sets a client waits.
+use Rattle.std.proofs.Common.{◌≡◌, ◌≢◌, ◌+◌, ◌<◌, ◌≤◌, ◌==◌, ◌||◌, ◌∙◌, Bool, true, false, ℕ, zero, suc, List, length, take, refl, sym, ap, arith, inl, inr, not, slice_index_or, if◌then◌else◌, eq-eqb, ne_eqb}
+use Rattle.std.proofs.Math.Bool.{or-false, or-true}
+use Rattle.std.proofs.lemmas.Bool.{cases_eq, cases_lt, cases_Bool}
+use Rattle.std.proofs.lemmas.List.{get_or_default, get_or_past, get_or-take, length-take-le}
+use Rattle.lt_modes.specs.declared.ask.Ask.{Ask}
+use Rattle.lt_modes.specs.Fits.{has_client}
+use Rattle.lt_modes.specs.State.{SetState, no_ask}
+use Rattle.lt_lists.specs.Below.{any_below, count_below}
+use Rattle.lt_lists.proofs.Members.{list_any-at}
+use Rattle.lt_lists.proofs.Searches.{same_count}
+use Rattle.lt_spec.specs.declared.limits.TheConstants.{MAX_SETS_OF_SERVICE}
+use Rattle.lt_core.specs.CoreData.{CoreData}
+use Rattle.lt_modes.specs.Serving.{waits}
+use Rattle.lt_node.specs.Sets.{WaitLess, WaitMore, TellWaiting, asks_of}
+
+abbrev one_here : Bool → ℕ
+one_here b = if b then 1 else 0
+
+-- Counts of the numbers below a bound.
+
+pub count_most : (n : ℕ) (test : ℕ → Bool) → count_below n test ≤ n
+count_most zero test = omega arith
+count_most (suc n) test = elim (test n) as (λ t. count_below n test + (if t then 1 else 0) ≤ suc n) [
+  | true ↦ omega (arith, count_most n test)
+  | false ↦ omega (arith, count_most n test)
+]
+
+pub count_none : (n : ℕ) (test : ℕ → Bool) → ((k : ℕ) → test k ≡ false) → count_below n test ≡ 0
+count_none zero test none = refl
+count_none (suc n) test none =
+    ap (λ (t : Bool). count_below n test + (if t then 1 else 0)) (none n) ∙ omega (arith, count_none n test none)
+
+-- one that passes is counted
+pub count_at : (n k : ℕ) (test : ℕ → Bool) → k < n → test k ≡ true → 1 ≤ count_below n test
+count_at zero k test inside passes = absurd (omega (arith, inside))
+count_at (suc n) k test inside passes = elim (cases_eq k n) [
+  | inl same ↦
+      let here = ap one_here (ap test (sym same) ∙ passes) in
+      omega (arith, here)
+  | inr apart ↦
+      let before = count_at n k test (omega (arith, inside, apart)) passes in
+      omega (arith, before)
+]
+
+-- some pass where their count isn't 0
+pub some_counted : (n : ℕ) (test : ℕ → Bool) → not (count_below n test == 0) ≡ any_below n test
+some_counted zero test = refl
+some_counted (suc n) test = elim (test n) as (λ t. not (count_below n test + (if t then 1 else 0) == 0) ≡ (any_below n test || t)) [
+  | true ↦ ap not (ne_eqb (count_below n test + 1) 0 (λ e. omega (arith, e))) ∙ sym (or-true (any_below n test))
+  | false ↦
+      let same : count_below n test + 0 ≡ count_below n test = omega arith in
+      ap (λ (k : ℕ). not (k == 0)) same ∙ some_counted n test ∙ sym (or-false (any_below n test))
+]
+
+-- where one number changes, the counts differ by it
+pub count_changed : (n s : ℕ) (test other : ℕ → Bool) → s < n → ((k : ℕ) → k ≢ s → other k ≡ test k)
+    → count_below n other + (if test s then 1 else 0) ≡ count_below n test + (if other s then 1 else 0)
+count_changed zero s test other inside same = absurd (omega (arith, inside))
+count_changed (suc n) s test other inside same = elim (cases_eq n s) [
+  | inl here ↦
+      let rest = same_count n other test (λ k below. same k (λ e. omega (arith, below, here, e))) in
+      let old = ap (λ (k : ℕ). one_here (test k)) here in
+      let new = ap (λ (k : ℕ). one_here (other k)) here in
+      omega (arith, rest, old, new)
+  | inr apart ↦
+      let rest = count_changed n s test other (omega (arith, inside, apart)) same in
+      let last = ap one_here (same n apart) in
+      omega (arith, rest, last)
+]
+
+-- an ask that stands before another one of its client
+pub found_before : (asks : List Ask) (j k : ℕ) → j < k → k < length asks → (slice_index_or asks j no_ask).client ≡ (slice_index_or asks k no_ask).client
+    → has_client (slice_index_or asks k no_ask).client (take k asks) ≡ true
+found_before asks j k before inside same =
+    let ask = slice_index_or asks j no_ask in
+    let client = (slice_index_or asks k no_ask).client in
+    let within : j < length (take k asks) = omega (arith, before, length-take-le k asks (omega (arith, inside))) in
+    let here = get_or-take k asks j ask before ∙ get_or_default asks j ask no_ask (omega (arith, before, inside)) in
+    list_any-at (λ (a : Ask). a.client == client) (take k asks) ask (j, within, here) (eq-eqb ask.client client same)
+
+-- The counts of a node's sets.
+
+-- those who wait in a set may wait in one less
+pub may_less : (sets s : ℕ) (core : ℕ → CoreData) (asks : List Ask) (counts : List ℕ) → TellWaiting sets core counts → s < sets → asks ≡ (core s).state.pending
+    → (client : ℕ) → client < length counts → asks_of asks client ≤ slice_index_or counts client 0
+may_less sets s core asks counts tells inside are client within = elim (cases_Bool (has_client client asks)) [
+  | inl waiting ↦
+      let one = ap one_here waiting in
+      let some = count_at sets s (λ k. waits (core k).state client) inside (sym (ap (has_client client) are) ∙ waiting) in
+      omega (arith, one, some, tells client within)
+  | inr none ↦
+      let zero_here = ap one_here none in
+      omega (arith, zero_here)
+]
+
+-- and then all wait in few
+pub few_left : (sets : ℕ) (core : ℕ → CoreData) (asks : List Ask) (old mid : List ℕ) → TellWaiting sets core old → sets ≤ MAX_SETS_OF_SERVICE → WaitLess asks old mid
+    → (client : ℕ) → slice_index_or mid client 0 ≤ MAX_SETS_OF_SERVICE
+few_left sets core asks old mid tells few less client = elim (cases_lt client (length old)) [
+  | inl inside ↦
+      let most = count_most sets (λ s. waits (core s).state client) in
+      omega (arith, most, few, tells client inside, less.each client inside)
+  | inr past ↦ omega (arith, get_or_past mid client 0 (omega (arith, past, less.count)))
+]
+
+-- one set changed
+pub waiting_changed : (sets s : ℕ) (core new : ℕ → CoreData) (asks later : List Ask) (old mid counts : List ℕ) → TellWaiting sets core old → s < sets
+    → asks ≡ (core s).state.pending → later ≡ (new s).state.pending → ((k : ℕ) → k ≢ s → new k ≡ core k) → WaitLess asks old mid → WaitMore later mid counts
+    → TellWaiting sets new counts
+waiting_changed sets s core new asks later old mid counts tells inside are become others less more = λ client within.
+    let in_mid : client < length mid = omega (arith, within, more.count) in
+    let in_old : client < length old = omega (arith, in_mid, less.count) in
+    let changed = count_changed sets s (λ k. waits (core k).state client) (λ k. waits (new k).state client) inside
+    (λ k apart. ap (λ (c : CoreData). waits c.state client) (others k apart)) in
+    let was = ap (λ (l : List Ask). asks_of l client) are in
+    let is = ap (λ (l : List Ask). asks_of l client) become in
+    omega (arith, tells client in_old, less.each client in_old, more.each client in_mid, changed, was, is)
+
+-- where memory is taken, all wait as before
+pub waiting_kept : (sets : ℕ) (core new : ℕ → CoreData) (counts : List ℕ) → TellWaiting sets core counts → ((s : ℕ) → (new s).state ≡ (core s).state) → TellWaiting sets new counts
+waiting_kept sets core new counts tells same = λ client within.
+    tells client within
+    ∙ same_count sets (λ s. waits (core s).state client) (λ s. waits (new s).state client) (λ s below. ap (λ (t : SetState). waits t client) (sym (same s)))

@@ -1,8 +1,0 @@
-use Rattle.std.proofs.Common.{◌≡◌, false}
-use Rattle.lt_modes.specs.Serving.{waits}
-use Rattle.lt_lists.specs.Below.{any_below}
-use Rattle.lt_node.specs.NodeData.{state_of}
-use Rattle.lt_node.proofs.node.Node.waits_in_some.Given as goal
-
-abbrev pub invariant-loop-set : goal.invariant-loop-set
-invariant-loop-set l = any_below l.set (λ s. waits ((state_of l.self).set s) l.client) ≡ false

@@ -1,0 +1,59 @@
+use Rattle.std.proofs.Common.{◌≡◌, ◌+◌, ◌∙◌, ap, arith, length, subst, sym}
+use Rattle.lt_desk.specs.DeskData.{OutData, FitsOut}
+use Rattle.lt_desk.specs.LetterSeen.{letter_seen}
+use Rattle.lt_modes.specs.SetMove.{take}
+use Rattle.lt_core.specs.Bound.{RoomToSend}
+use Rattle.lt_core.specs.CoreData.{CoreData, HasRoom, RoomForBody, move_of}
+use Rattle.lt_node.specs.NodeData.{IsSetReady, ending, most_sent}
+use Rattle.lt_node.specs.Sets.{SetsData}
+use Rattle.lt_node.proofs.CountLemmas.{few_left}
+use Rattle.lt_node.proofs.StoredLemmas.{InHand, has_place, in_hand, in_places, may_leave, set_moved, stored_moved}
+use Rattle.lt_node.proofs.TouchLemmas.{room_at, fits_at}
+use Rattle.lt_node.specs.Sets.{core_of}
+use Rattle.lt_node.proofs.sets.Sets.end.Goals as goal
+
+pub place_of-place-requires-clause-inside : goal.place_of-place-requires-clause-inside
+place_of-place-requires-clause-inside c = in_places c.self.inside.nodes c.self.inside.me c.self.inside.places.items c.self.inside.cores.items c.args.self.now c.self.view_is c.args.set c.requires.set
+
+pub place_of-place-requires-clause-touched : goal.place_of-place-requires-clause-touched
+place_of-place-requires-clause-touched c = has_place c.self.inside.nodes c.self.inside.me c.self.inside.places.items c.self.inside.cores.items c.args.self.now c.self.view_is c.args.set c.requires.room.tells
+
+pub wait_less-requires : goal.wait_less-requires
+wait_less-requires c =
+    let hand = in_hand c.self.inside.nodes c.self.inside.me c.self.inside.first c.self.inside.places.items c.self.inside.cores.items c.self.inside.waiting.items c.args.self.now c.args.set c.place_of-place.result c.index_mut-core.result.now c.self.invariant c.self.view_is c.requires.set c.place_of-place.ensures c.index_mut-core.ensures.value in
+    may_leave c.self.inside.nodes c.self.inside.me c.self.inside.first c.self.inside.places.items c.self.inside.cores.items c.self.inside.waiting.items c.self.invariant c.args.self.now c.self.view_is c.args.set c.place_of-place.result c.index_mut-core.result.now c.index_mut-core.result.now hand c.asks.result.now c.asks.ensures
+
+pub wait_more-requires : goal.wait_more-requires
+wait_more-requires c =
+    few_left (length c.self.inside.places.items) (core_of c.self.inside.nodes c.self.inside.me c.self.inside.places.items c.self.inside.cores.items) c.asks.result.now c.self.inside.waiting.items c.wait_less.new.counts.items c.self.invariant.waiting c.self.invariant.few_sets c.wait_less.ensures
+
+pub invariant_of-self : goal.invariant_of-self
+invariant_of-self c =
+    let hand = in_hand c.self.inside.nodes c.self.inside.me c.self.inside.first c.self.inside.places.items c.self.inside.cores.items c.self.inside.waiting.items c.args.self.now c.args.set c.place_of-place.result c.index_mut-core.result.now c.self.invariant c.self.view_is c.requires.set c.place_of-place.ensures c.index_mut-core.ensures.value in
+    stored_moved c.self.inside.nodes c.self.inside.me c.self.inside.first c.self.inside.places.items c.self.inside.cores.items c.self.inside.waiting.items c.self.invariant c.args.self.now c.self.view_is c.args.set c.place_of-place.result c.index_mut-core.result.now c.end.new.core hand _ c.args.out.now c.end.new.out c.asks.result.now c.asks-2.result.now c.wait_less.new.counts.items c.wait_more.new.counts.items
+    c.end.ensures.does c.asks.ensures c.asks-2.ensures c.wait_less.ensures c.wait_more.ensures
+
+pub returns-clause-does : goal.returns-clause-does
+returns-clause-does c =
+    let hand = in_hand c.self.inside.nodes c.self.inside.me c.self.inside.first c.self.inside.places.items c.self.inside.cores.items c.self.inside.waiting.items c.args.self.now c.args.set c.place_of-place.result c.index_mut-core.result.now c.self.invariant c.self.view_is c.requires.set c.place_of-place.ensures c.index_mut-core.ensures.value in
+    set_moved c.self.inside.nodes c.self.inside.me c.self.inside.first c.self.inside.places.items c.self.inside.cores.items c.self.inside.waiting.items c.self.invariant c.args.self.now c.self.view_is c.args.set c.place_of-place.result c.index_mut-core.result.now c.end.new.core hand (λ set state. ending c.args.dropped c.args.stamp set state) c.args.out.now c.end.new.out c.end.ensures.does
+
+pub returns-clause-send : goal.returns-clause-send
+returns-clause-send c = λ more room.
+    let hand = in_hand c.self.inside.nodes c.self.inside.me c.self.inside.first c.self.inside.places.items c.self.inside.cores.items c.self.inside.waiting.items c.args.self.now c.args.set c.place_of-place.result c.index_mut-core.result.now c.self.invariant c.self.view_is c.requires.set c.place_of-place.ensures c.index_mut-core.ensures.value in
+    c.end.ensures.send more (subst (λ (x : CoreData). RoomToSend (most_sent x + more) c.args.out.now) (sym hand.core_is) room)
+
+pub end-requires-clause-node : goal.end-requires-clause-node
+end-requires-clause-node c =
+    let hand = in_hand c.self.inside.nodes c.self.inside.me c.self.inside.first c.self.inside.places.items c.self.inside.cores.items c.self.inside.waiting.items c.args.self.now c.args.set c.place_of-place.result c.index_mut-core.result.now c.self.invariant c.self.view_is c.requires.set c.place_of-place.ensures c.index_mut-core.ensures.value in
+    c.requires.node ∙ sym (ap (λ (d : SetsData). d.me) c.self.view_is) ∙ sym hand.own.node
+
+pub end-requires-clause-room : goal.end-requires-clause-room
+end-requires-clause-room c =
+    let hand = in_hand c.self.inside.nodes c.self.inside.me c.self.inside.first c.self.inside.places.items c.self.inside.cores.items c.self.inside.waiting.items c.args.self.now c.args.set c.place_of-place.result c.index_mut-core.result.now c.self.invariant c.self.view_is c.requires.set c.place_of-place.ensures c.index_mut-core.ensures.value in
+    subst (λ (x : CoreData). HasRoom 2 c.args.stamp.clock x) (sym hand.core_is) c.requires.room
+
+pub end-requires-clause-send : goal.end-requires-clause-send
+end-requires-clause-send c =
+    let hand = in_hand c.self.inside.nodes c.self.inside.me c.self.inside.first c.self.inside.places.items c.self.inside.cores.items c.self.inside.waiting.items c.args.self.now c.args.set c.place_of-place.result c.index_mut-core.result.now c.self.invariant c.self.view_is c.requires.set c.place_of-place.ensures c.index_mut-core.ensures.value in
+    subst (λ (x : CoreData). RoomToSend (most_sent x) c.args.out.now) (sym hand.core_is) c.requires.send

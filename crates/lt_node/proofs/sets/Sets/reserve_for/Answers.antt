@@ -1,0 +1,69 @@
+use Rattle.std.proofs.Common.{◌≡◌, ◌+◌, ◌∙◌, IsOk, OnOk, ap, arith, subst, sym}
+use Rattle.std.proofs.lemmas.Bool.{false≢true}
+use Rattle.lt_modes.specs.State.{SetState}
+use Rattle.lt_desk.specs.LetterSeen.{asks_in, RoomIn}
+use Rattle.lt_core.specs.CoreData.{CoreData, HasMemory, waiting_here}
+use Rattle.lt_node.specs.NodeData.{KeptData, kept_of}
+use Rattle.lt_node.specs.Sets.{SetsData, core_in}
+use Rattle.lt_node.proofs.NodeLemmas.{kept_one}
+use Rattle.lt_node.proofs.StoredLemmas.{in_hand, in_places, memory_less, now_here, now_other, same_core, same_count, same_then, sets_kept, stored_kept, touched_seen}
+use Rattle.lt_node.proofs.sets.Sets.reserve_for.Goals as goal
+
+pub returns-in_err-touch-clause-full : goal.returns-in_err-touch-clause-full
+returns-in_err-touch-clause-full c = λ memory room.
+    absurd (false≢true (subst (λ r. IsOk r) c.in_err-touch.was (c.touch.ensures.full (memory_less (asks_in c.args.letter.now.body) (core_in c.args.self.now c.args.set) memory))))
+
+pub place_of-place-requires-clause-inside : goal.place_of-place-requires-clause-inside
+place_of-place-requires-clause-inside c =
+    in_places c.self.inside.nodes c.self.inside.me c.self.inside.places.items c.self.inside.cores.items c.touch.new.self c.self.view_is c.args.set (omega (arith, c.requires.set, same_count c.args.self.now c.touch.new.self c.touch.ensures.same))
+
+pub place_of-place-requires-clause-touched : goal.place_of-place-requires-clause-touched
+place_of-place-requires-clause-touched c = touched_seen c.self.inside.nodes c.self.inside.me c.self.inside.places.items c.self.inside.cores.items c.touch.new.self c.self.view_is c.args.set c.in_ok-touch.ensures.touched
+
+pub reserve_for-requires : goal.reserve_for-requires
+reserve_for-requires c =
+    let hand = (in_hand c.self.inside.nodes c.self.inside.me c.self.inside.first c.self.inside.places.items c.self.inside.cores.items c.self.inside.waiting.items c.touch.new.self c.args.set c.place_of-place.result c.index_mut.result.now c.self.invariant c.self.view_is
+    (omega (arith, c.requires.set, same_count c.args.self.now c.touch.new.self c.touch.ensures.same)) c.place_of-place.ensures c.index_mut.ensures.value) in
+    let states = ap (λ (k : KeptData). k.state) (ap kept_of hand.core_is ∙ same_core c.args.self.now c.touch.new.self c.args.set c.touch.ensures.same) in
+    omega (arith, c.requires.few, c.requires.asks, ap (λ (s : SetState). waiting_here s) states)
+
+pub invariant_of-self : goal.invariant_of-self
+invariant_of-self c =
+    let hand = (in_hand c.self.inside.nodes c.self.inside.me c.self.inside.first c.self.inside.places.items c.self.inside.cores.items c.self.inside.waiting.items c.touch.new.self c.args.set c.place_of-place.result c.index_mut.result.now c.self.invariant c.self.view_is
+    (omega (arith, c.requires.set, same_count c.args.self.now c.touch.new.self c.touch.ensures.same)) c.place_of-place.ensures c.index_mut.ensures.value) in
+    stored_kept c.self.inside.nodes c.self.inside.me c.self.inside.first c.self.inside.places.items c.self.inside.cores.items c.self.inside.waiting.items c.self.invariant c.touch.new.self c.self.view_is c.args.set c.place_of-place.result c.index_mut.result.now c.reserve_for.new.self hand (kept_one c.index_mut.result.now c.reserve_for.new.self c.reserve_for.ensures.state c.reserve_for.ensures.place)
+
+pub returns-clause-same : goal.returns-clause-same
+returns-clause-same c =
+    let hand = (in_hand c.self.inside.nodes c.self.inside.me c.self.inside.first c.self.inside.places.items c.self.inside.cores.items c.self.inside.waiting.items c.touch.new.self c.args.set c.place_of-place.result c.index_mut.result.now c.self.invariant c.self.view_is
+    (omega (arith, c.requires.set, same_count c.args.self.now c.touch.new.self c.touch.ensures.same)) c.place_of-place.ensures c.index_mut.ensures.value) in
+    same_then c.args.self.now c.touch.new.self _ c.touch.ensures.same
+    (sets_kept c.self.inside.nodes c.self.inside.me c.self.inside.first c.self.inside.places.items c.self.inside.cores.items c.self.inside.waiting.items c.self.invariant c.touch.new.self c.self.view_is c.args.set c.place_of-place.result c.index_mut.result.now c.reserve_for.new.self hand (kept_one c.index_mut.result.now c.reserve_for.new.self c.reserve_for.ensures.state c.reserve_for.ensures.place))
+
+pub returns-clause-others : goal.returns-clause-others
+returns-clause-others c = λ other differ.
+    let hand = (in_hand c.self.inside.nodes c.self.inside.me c.self.inside.first c.self.inside.places.items c.self.inside.cores.items c.self.inside.waiting.items c.touch.new.self c.args.set c.place_of-place.result c.index_mut.result.now c.self.invariant c.self.view_is
+    (omega (arith, c.requires.set, same_count c.args.self.now c.touch.new.self c.touch.ensures.same)) c.place_of-place.ensures c.index_mut.ensures.value) in
+    now_other c.self.inside.nodes c.self.inside.me c.self.inside.first c.self.inside.places.items c.self.inside.cores.items c.self.inside.waiting.items c.self.invariant c.touch.new.self c.self.view_is c.args.set c.place_of-place.result c.index_mut.result.now c.reserve_for.new.self hand other differ
+    ∙ c.touch.ensures.others other differ
+
+pub returns-clause-room : goal.returns-clause-room
+returns-clause-room c =
+    let hand = (in_hand c.self.inside.nodes c.self.inside.me c.self.inside.first c.self.inside.places.items c.self.inside.cores.items c.self.inside.waiting.items c.touch.new.self c.args.set c.place_of-place.result c.index_mut.result.now c.self.invariant c.self.view_is
+    (omega (arith, c.requires.set, same_count c.args.self.now c.touch.new.self c.touch.ensures.same)) c.place_of-place.ensures c.index_mut.ensures.value) in
+    subst (λ (x : CoreData). OnOk c.reserve_for.result (HasMemory (asks_in c.reserve_for.new.letter.body) x)) (sym (now_here c.self.inside.nodes c.self.inside.me c.self.inside.first c.self.inside.places.items c.self.inside.cores.items c.self.inside.waiting.items c.self.invariant c.touch.new.self c.self.view_is c.args.set c.place_of-place.result c.index_mut.result.now c.reserve_for.new.self hand)) c.reserve_for.ensures.room
+
+pub returns-clause-desk : goal.returns-clause-desk
+returns-clause-desk c =
+    let hand = (in_hand c.self.inside.nodes c.self.inside.me c.self.inside.first c.self.inside.places.items c.self.inside.cores.items c.self.inside.waiting.items c.touch.new.self c.args.set c.place_of-place.result c.index_mut.result.now c.self.invariant c.self.view_is
+    (omega (arith, c.requires.set, same_count c.args.self.now c.touch.new.self c.touch.ensures.same)) c.place_of-place.ensures c.index_mut.ensures.value) in
+    subst (λ (x : CoreData). OnOk c.reserve_for.result (RoomIn (waiting_here x.state + asks_in c.reserve_for.new.letter.body + 2) c.reserve_for.new.letter.body))
+    (sym (now_here c.self.inside.nodes c.self.inside.me c.self.inside.first c.self.inside.places.items c.self.inside.cores.items c.self.inside.waiting.items c.self.invariant c.touch.new.self c.self.view_is c.args.set c.place_of-place.result c.index_mut.result.now c.reserve_for.new.self hand)) c.reserve_for.ensures.desk
+
+pub returns-clause-full : goal.returns-clause-full
+returns-clause-full c = λ memory room.
+    let hand = (in_hand c.self.inside.nodes c.self.inside.me c.self.inside.first c.self.inside.places.items c.self.inside.cores.items c.self.inside.waiting.items c.touch.new.self c.args.set c.place_of-place.result c.index_mut.result.now c.self.invariant c.self.view_is
+    (omega (arith, c.requires.set, same_count c.args.self.now c.touch.new.self c.touch.ensures.same)) c.place_of-place.ensures c.index_mut.ensures.value) in
+    let same = hand.core_is ∙ ap (λ (d : SetsData). core_in d c.args.set) (c.touch.ensures.had (memory_less (asks_in c.args.letter.now.body) (core_in c.args.self.now c.args.set) memory)) in
+    c.reserve_for.ensures.full (subst (λ (x : CoreData). HasMemory (asks_in c.args.letter.now.body) x) (sym same) memory)
+    (subst (λ (x : CoreData). RoomIn (waiting_here x.state + asks_in c.args.letter.now.body + 2) c.args.letter.now.body) (sym same) room)
