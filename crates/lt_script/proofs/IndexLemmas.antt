@@ -1,13 +1,13 @@
 -- Items that are chained by the spots of their names: what is added, and what is found.
-use Rattle.std.proofs.Common.{◌≡◌, ◌∙◌, ℕ, ◌+◌, ◌-◌, ◌^◌, ◌<◌, ◌≤◌, true, false, List, [], ◌∷◌, ◌++◌, length, slice_get, slice_index, slice_set, Option, Some, None, position, refl, sym, ap, subst, inl, inr, arith, bytes_eq}
+use Rattle.std.proofs.Common.{◌≡◌, ◌∙◌, ℕ, ◌+◌, ◌-◌, ◌^◌, ◌<◌, ◌≤◌, true, false, List, [], ◌∷◌, ◌++◌, length, replicate, slice_get, slice_index, slice_set, Option, Some, None, position, refl, sym, ap, subst, inl, inr, arith, bytes_eq}
 use Rattle.std.proofs.lemmas.Bool.{cases_eq, cases_lt, false≢true}
 use Rattle.std.proofs.lemmas.Grind.{get_or-set_at}
-use Rattle.std.proofs.lemmas.List.{length_push, length-set, get_or_append_left, get_or_push, get_or-set_other}
+use Rattle.std.proofs.lemmas.List.{length_push, length-replicate, length-set, get_or_append_left, get_or_past, get_or_push, get_or-replicate, get_or-set_other}
 use Rattle.std.proofs.lemmas.List.Quantifiers.{position-Some}
 use Rattle.std.proofs.lemmas.Option.{slice_get_within, get_or_from_slice_get, same_Some}
 use Rattle.std.proofs.lemmas.Slice.Eq.{bytes_eq-Decides}
 use lib.Bits.{and_le_r}
-use Rattle.lt_script.specs.Index.{hash_of, spot_of, spot_at, name_by, IsLink, AreLinked, AreApart, IsIndex}
+use Rattle.lt_script.specs.Index.{hash_of, spot_of, spot_at, name_by, IsLink, AreLinked, IsIndex}
 use Rattle.lt_script.proofs.NameLemmas.{found_stays, found_last, found_inside, element_at, same_name}
 use Rattle.lt_script.proofs.ScriptLemmas.{get_front, get_last}
 
@@ -31,6 +31,23 @@ links_stay at more count lasts befores same h = record {
       subst (λ (spot : ℕ). IsLink more spot place (slice_index befores place)) (sym (same place before))
       (link_stays at more (at place) place (slice_index befores place) (λ k below. same k (omega (arith, below, before))) (h.of_places place before));
 }
+
+-- no place is linked
+pub none_linked : (at : ℕ → ℕ) (spots : ℕ) (befores : List ℕ) → AreLinked at 0 (replicate spots 0) befores
+none_linked at spots befores = record {
+  of_spots = λ spot inside. record {
+    within = omega (arith, zero_there spot);
+    there = λ k e. absurd (omega (arith, e, zero_there spot));
+    behind = λ k before e. absurd (omega (arith, before));
+  };
+  of_places = λ place before. absurd (omega (arith, before));
+}
+  where
+    zero_there : (spot : ℕ) → slice_index (replicate spots 0) spot ≡ 0
+    zero_there spot = elim (cases_lt spot spots) [
+      | inl inside ↦ get_or-replicate spots spot 0 0 inside
+      | inr past ↦ get_or_past (replicate spots 0) spot 0 (omega (arith, length-replicate {A = ℕ} spots 0, past))
+    ]
 
 -- a further place is linked to the last one of its spot, and the spot to it
 pub linked_more : (at : ℕ → ℕ) (place : ℕ) (lasts befores more : List ℕ) → at place < length lasts → ((k : ℕ) → k < place → slice_index more k ≡ slice_index befores k)
@@ -80,7 +97,9 @@ module _ {T : Type 0} (name_of : T → List ℕ) where
   spot_here items x spots k at = ap (λ (o : Option T). spot_of spots (name_by name_of o)) at
 
   -- the names stay apart with one that is found nowhere
-  apart_more : (items : List T) (x : T) → AreApart name_of items → position (λ z. bytes_eq (name_of z) (name_of x)) items ≡ None → AreApart name_of (items ++ x ∷ [])
+  apart_more : (items : List T) (x : T) → ((place : ℕ) (y : T) → slice_get items place ≡ Some y → position (λ z. bytes_eq (name_of z) (name_of y)) items ≡ Some place)
+      → position (λ z. bytes_eq (name_of z) (name_of x)) items ≡ None
+      → (place : ℕ) (y : T) → slice_get (items ++ x ∷ []) place ≡ Some y → position (λ z. bytes_eq (name_of z) (name_of y)) (items ++ x ∷ []) ≡ Some place
   apart_more items x apart new place y at = elim (cases_lt place (length items)) [
     | inl front ↦
         found_stays (λ (z : T). bytes_eq (name_of z) (name_of y)) items (x ∷ []) place (apart place y (sym (get_front items x place front) ∙ at))
@@ -90,6 +109,27 @@ module _ {T : Type 0} (name_of : T → List ℕ) where
         subst (λ (z : T). position (λ w. bytes_eq (name_of w) (name_of z)) (items ++ x ∷ []) ≡ Some place) same
         (found_last (λ (z : T). bytes_eq (name_of z) (name_of x)) items x new (same_name (name_of x)) ∙ ap Some (sym here))
   ]
+
+  -- no items are an index
+  pub index_empty : (spots : ℕ) → 0 < spots → IsIndex name_of [] (replicate spots 0) []
+  index_empty spots some = record {
+    some = omega (arith, some, length-replicate {A = ℕ} spots 0);
+    count = refl;
+    few = omega arith;
+    linked = none_linked (spot_at name_of [] (length (replicate spots 0))) spots [];
+    apart = λ place x at. absurd (cc);
+  }
+
+  -- the items are one with other links too
+  pub index_linked : (items : List T) (lasts befores more_lasts more_befores : List ℕ) → IsIndex name_of items lasts befores → 0 < length more_lasts → length more_befores ≡ length befores
+      → AreLinked (spot_at name_of items (length more_lasts)) (length items) more_lasts more_befores → IsIndex name_of items more_lasts more_befores
+  index_linked items lasts befores more_lasts more_befores h some same linked = record {
+    some = some;
+    count = same ∙ h.count;
+    few = h.few;
+    linked = linked;
+    apart = h.apart;
+  }
 
   -- a last item is linked to the last one before it that has its spot
   pub index_pushed : (items : List T) (x : T) (lasts befores : List ℕ) → IsIndex name_of items lasts befores → position (λ y. bytes_eq (name_of y) (name_of x)) items ≡ None

@@ -31,15 +31,10 @@ pub record AreLinked (spot_at : ℕ → ℕ) (count : ℕ) (lasts befores : List
   pub of_spots : (spot : ℕ) → spot < length lasts → IsLink spot_at spot count (slice_index lasts spot)
   pub of_places : (place : ℕ) → place < count → IsLink spot_at (spot_at place) place (slice_index befores place)
 
--- the names are apart: each item is the first one that has its name
-abbrev pub AreApart : {T : Type 0} → (T → List ℕ) → List T → Type 0
-AreApart {T} name_of items = (place : ℕ) (x : T) → slice_get items place ≡ Some x
-    → position (λ y. bytes_eq (name_of y) (name_of x)) items ≡ Some place
-
 -- the items are chained by their spots, and their names are apart
 pub record IsIndex {T : Type 0} (name_of : T → List ℕ) (items : List T) (lasts befores : List ℕ) : Type 0 where
   pub some : 0 < length lasts
   pub count : length befores ≡ length items
   pub few : length items ≤ 2 ^ 31
   pub linked : AreLinked (spot_at name_of items (length lasts)) (length items) lasts befores
-  pub apart : AreApart name_of items
+  pub apart : (place : ℕ) (x : T) → slice_get items place ≡ Some x → position (λ y. bytes_eq (name_of y) (name_of x)) items ≡ Some place

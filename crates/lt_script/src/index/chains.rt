@@ -57,8 +57,7 @@ pub(super) fn linked<T: Named>(items: &[T], lasts: &mut [u32], befores: &mut [u3
     requires none { lasts.old ≡ replicate (length lasts.old) 0 }
     requires same { length befores.old ≡ length items.now }
     requires few { length items.now < 2 ^ 31 }
-    ensures linked { AreLinked (spot_at T.name_of items.now (length lasts.new)) (length items.now)
-        lasts.new befores.new }
+    ensures linked { AreLinked (spot_at T.name_of items.now (length lasts.new)) (length items.now) lasts.new befores.new }
     ensures spots { length lasts.new ≡ length lasts.old }
     ensures count { length befores.new ≡ length befores.old }
 {
