@@ -1,5 +1,5 @@
 -- Memory in the sets that a move touches.
-use Rattle.std.proofs.Common.{◌≡◌, ◌<◌, ◌≤◌, ◌+◌, ◌∙◌, ◌==◌, ◌≢◌, ◌*◌, Result, Ok, Err, OnOk, ℕ, zero, suc, inl, inr, All, Bool, true, false, List, [], ◌∷◌, Some, IsTrue, length, arith, refl, sym, ap, subst, slice_index_or, sum_by}
+use Rattle.std.proofs.Common.{◌≡◌, ◌<◌, ◌≤◌, ◌+◌, ◌∙◌, ◌==◌, ◌≢◌, ◌*◌, Result, Ok, Err, OnOk, ℕ, zero, suc, inl, inr, All, Bool, true, false, List, [], ◌∷◌, Some, IsTrue, length, arith, refl, sym, ap, subst, sum_by}
 use Rattle.std.specs.List.{AllByRecursion}
 use Rattle.std.proofs.Math.Path.{fun_ext}
 use Rattle.std.proofs.lemmas.Bool.{cases_eq, and_parts}
@@ -21,40 +21,30 @@ use Rattle.lt_desk.specs.declared.letter.Body.TheVariants as bodies
 use Rattle.lt_desk.specs.LetterSeen.{letter_seen, body_seen, asks_in}
 use Rattle.lt_core.specs.CoreData.{CoreData, HasMemory, waiting_here}
 use Rattle.lt_core.specs.Bound.{most, brought}
-use Rattle.lt_node.specs.NodeData.{NodeData, KeptData, IsNode, SameNode, HasFewAsks, core_at, first_core, kept_of, most_sent, state_of, untouched}
+use Rattle.lt_node.specs.NodeData.{NodeData, KeptData, IsNode, SameNode, HasFewAsks, core_at, most_sent, state_of}
 use Rattle.lt_node.specs.Sets.{SetsData, AreSetsOf, SameSets, core_in}
 use Rattle.lt_node.specs.Clients.{Progress, next_of}
 use Rattle.lt_node.specs.Forgetting.{without_first}
 use Rattle.lt_node.specs.Touched.{touched_sets, touched_by, named_set, sets_within, leaves_room_to_act, leaves_room_to_take, RoomToAct, HaveFewAsks, HaveMemory, sent_by, touches}
 use Rattle.lt_node.proofs.AdvanceLemmas.{HasNext, next_is, next_targets}
-use Rattle.lt_node.proofs.NodeLemmas.{kept_at, kept_length, node_is, set_numbers}
+use Rattle.lt_node.proofs.NodeLemmas.{node_is, set_numbers}
 use Rattle.lt_node.proofs.TokenLemmas.{few_brought, fitting}
 use Rattle.lt_node.proofs.FamilyLemmas.{related_from, related_in, related_out}
+use Rattle.lt_node.proofs.StoredLemmas.{same_core, same_then}
+use Rattle.lt_node.proofs.NodeSets.{core_held}
 use Rattle.lt_node.proofs.TouchedLemmas.{all_true_each, named_inside, related_none}
 
--- where all sets stand in the same states, each does
-pub core_kept : (old new : SetsData) → SameSets old new → (s : ℕ) → kept_of (core_in new s) ≡ kept_of (core_in old s)
-core_kept old new same s =
-    ap (λ (n : ℕ). kept_of (slice_index_or new.cores s (untouched n new.me s))) same.nodes
-    ∙ ap (λ (q : ℕ). kept_of (slice_index_or new.cores s (untouched old.nodes q s))) same.me
-    ∙ kept_at new.cores old.cores s (untouched old.nodes old.me s) same.kept
+-- Sets that stand in the same states.
 
 pub few_still : (old new : SetsData) (s : ℕ) → SameSets old new → HasFewAsks (core_in old s) → HasFewAsks (core_in new s)
 few_still old new s same few =
-    subst (λ (x : SetState). waiting_here x ≤ 256) (sym (ap (λ (k : KeptData). k.state) (core_kept old new same s))) few
+    subst (λ (x : SetState). waiting_here x ≤ 256) (sym (ap (λ (k : KeptData). k.state) (same_core old new s same))) few
 
 pub sent_still : (old new : SetsData) (s : ℕ) → SameSets old new → most_sent (core_in new s) ≡ most_sent (core_in old s)
-sent_still old new s same = ap (λ (k : KeptData). most k.state + 2) (core_kept old new same s)
+sent_still old new s same = ap (λ (k : KeptData). most k.state + 2) (same_core old new s same)
 
 same_sent : (old new : SetsData) (numbers : List ℕ) → SameSets old new → sent_by new numbers ≡ sent_by old numbers
 same_sent old new numbers same = ap (λ (f : ℕ → ℕ). sum_by f numbers) (fun_ext (λ s. sent_still old new s same))
-
-same_then : (a b c : SetsData) → SameSets a b → SameSets b c → SameSets a c
-same_then a b c first second = record {
-  nodes = second.nodes ∙ first.nodes;
-  me = second.me ∙ first.me;
-  kept = second.kept ∙ first.kept;
-}
 
 -- the sets of the family before place k have memory, and may send so much
 pub record IsReservedTo (script : ScriptData) (set k sent : ℕ) (old now : SetsData) : Type 0 where
@@ -145,29 +135,6 @@ one_of P s h = (recursion_from_All P (s ∷ []) h).0
 
 -- A node, and the storage of its sets.
 
--- in the storage of a script's node, a set is what the node keeps for it
-core_of_node : (script : ScriptData) (me : ℕ) (sets : SetsData) → AreSetsOf script me sets → (s : ℕ) → slice_index_or sets.cores s (first_core script me s) ≡ core_in sets s
-core_of_node script me sets are s =
-    ap (λ (n : ℕ). slice_index_or sets.cores s (untouched n me s)) (sym are.nodes)
-    ∙ ap (λ (q : ℕ). slice_index_or sets.cores s (untouched sets.nodes q s)) (sym are.node)
-
-pub cores_at : (m n : NodeData) (sets : SetsData) → m ≡ n → m.cores ≡ sets.cores → AreSetsOf m.script m.me sets → core_at n ≡ core_in sets
-cores_at m n sets same cores are =
-    subst (λ (n : NodeData). core_at n ≡ core_in sets) same
-    (fun_ext (λ s. ap (λ (l : List CoreData). slice_index_or l s (first_core m.script m.me s)) cores ∙ core_of_node m.script m.me sets are s))
-
--- where memory is taken, they are the sets of the same node
-pub sets_same : (script : ScriptData) (me : ℕ) (old new : SetsData) → AreSetsOf script me old → SameSets old new → AreSetsOf script me new
-sets_same script me old new are same = record {
-  nodes = same.nodes ∙ are.nodes;
-  node = same.me ∙ are.node;
-  count = kept_length new.cores old.cores same.kept ∙ are.count;
-  places = λ s.
-      let place = are.places s in
-      let kept = core_kept old new same s in
-      record { node = ap (λ (k : KeptData). k.node) kept ∙ place.node; set = ap (λ (k : KeptData). k.set) kept ∙ place.set };
-}
-
 -- commands that were forgotten change no set
 touched_same : (script : ScriptData) (gone : ℕ) (command : Command) → touched_sets (without_first gone script) command ≡ touched_sets script command
 touched_same script gone (commands.Lock s mode) = refl
@@ -194,7 +161,7 @@ pub next_here : (m n : NodeData) (client : ℕ) (progress : Progress) (script : 
     → HasNext n client progress → command ≡ next_of progress → script ≡ without_first m.gone m.script → IsTrue (leaves_room_to_act n.script (state_of n) client)
     → IsNextHere n client script command sets
 next_here m n client progress script command sets same node are kept next is read room =
-    let cores = cores_at m n sets same kept are in
+    let cores = core_held m n sets same kept are in
     let asked : next_command n.script (state_of n) client ≡ Some command = next_is n client progress next ∙ ap Some (sym is) in
     let whole : touched_sets script command ≡ touched_sets n.script command =
     ap (λ (s : ScriptData). touched_sets s command) read ∙ touched_same m.script m.gone command ∙ ap (λ (n : NodeData). touched_sets n.script command) same in
@@ -229,7 +196,7 @@ pub room_made : {T E : Type 0} (r : Result T E) (n new : NodeData) (client touch
     → OnOk r (length had.posts + (touched + 1) ≤ out.post_room) → OnOk r (length had.events + (touched + 1) ≤ out.event_room) → OnOk r (RoomToAct client new out)
 room_made (Err e) n new client touched script command sets had out asked same are kept memory is posts events letters lines = record {}
 room_made (Ok x) n new client touched script command sets had out asked same are kept memory is posts events letters lines =
-    let cores = cores_at new new sets refl kept are in
+    let cores = core_held new new sets refl kept are in
     let numbers : touches new.script (state_of new) client ≡ touched_sets script command =
     ap (λ (s : ScriptData). touches s (state_of new) client) same.script ∙ ap (λ (s : NodeState). touches n.script s client) same.state ∙ asked in
     let sent : touched ≡ sum_by (λ s. most_sent (core_at new s)) (touches new.script (state_of new) client) =
@@ -278,7 +245,7 @@ pub letter_here : (m n : NodeData) (letter : AnyLetter) (sets : SetsData) → m 
     → fits (numbers_of n.script) n.me n.clock ((state_of n).set letter.set) (letter_seen letter) ≡ true → leaves_room_to_take (state_of n) (letter_seen letter) ≡ true
     → IsLetterHere n letter sets
 letter_here m n letter sets same node are kept fit room =
-    let cores = cores_at m n sets same kept are in
+    let cores = core_held m n sets same kept are in
     let here = node_is m n same node in
     let fits_here = fitting (numbers_of n.script) n.me n.clock ((state_of n).set letter.set) letter fit in
     record {

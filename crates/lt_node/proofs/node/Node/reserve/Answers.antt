@@ -2,7 +2,8 @@ use Rattle.std.proofs.Common.{IsOk, arith, refl, subst}
 use Rattle.std.proofs.lemmas.Bool.{false≢true}
 use Rattle.lt_node.proofs.NodeLemmas.{node_same, same_node}
 use Rattle.lt_node.proofs.AdvanceLemmas.{next_at}
-use Rattle.lt_node.proofs.RoomLemmas.{IsNextHere, next_here, sets_same, had_memory, had_to_send, room_made}
+use Rattle.lt_node.proofs.NodeSets.{sets_same}
+use Rattle.lt_node.proofs.RoomLemmas.{IsNextHere, next_here, had_memory, had_to_send, room_made}
 use Rattle.lt_node.proofs.node.Node.reserve.Goals as goal
 
 pub upcoming-command-requires : goal.upcoming-command-requires

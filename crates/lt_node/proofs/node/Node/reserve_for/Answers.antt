@@ -1,6 +1,7 @@
 use Rattle.std.proofs.Common.{refl}
 use Rattle.lt_node.proofs.NodeLemmas.{node_same, same_node}
-use Rattle.lt_node.proofs.RoomLemmas.{letter_here, sets_same}
+use Rattle.lt_node.proofs.NodeSets.{sets_same}
+use Rattle.lt_node.proofs.RoomLemmas.{letter_here}
 use Rattle.lt_node.proofs.node.Node.reserve_for.Goals as goal
 
 pub reserve_for-requires-clause-set : goal.reserve_for-requires-clause-set
