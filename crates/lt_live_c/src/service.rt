@@ -38,7 +38,7 @@ impl Service {
         if !fits(text, limit, places) {
             return Err(BAD_ARGUMENT);
         }
-        let script = script_in(alloc, text)?;
+        let script = script_of(alloc, text)?;
         let service = Service::start(alloc, &script, limit, places)?;
         Ok(service)
     }
@@ -60,7 +60,7 @@ impl Service {
         if !fits(text, limit, places) {
             return Err(BAD_ARGUMENT);
         }
-        let script = script_in(alloc, text)?;
+        let script = script_of(alloc, text)?;
         let script = with_sets(script, sets)?;
         let service = Service::start(alloc, &script, limit, places)?;
         Ok(service)
@@ -147,7 +147,7 @@ impl Service {
 }
 
 // The script that the text denotes.
-fn script_in(alloc: Global, text: &[u8]) -> Result<Script, u32>
+fn script_of(alloc: Global, text: &[u8]) -> Result<Script, u32>
     requires { length text.now < 2 ^ 32 - 1 }
     ensures read { IfOk result (λ script. read_of text.now ≡ Ok script) }
     ensures refused { IfErr result (λ code. TextRefused code text.now) }
