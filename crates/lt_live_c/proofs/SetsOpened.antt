@@ -17,7 +17,7 @@ use Rattle.lt_live_c.specs.NewSets.{SetWords, with_sets}
 use Rattle.lt_live_c.specs.Opening.{IsOpenedOf, IsOpenedWith, HandleOpenedWith, OpenSetsRefused}
 use Rattle.lt_live_c.specs.Told.{kind_of}
 use Rattle.lt_live_c.specs.ServicesTold.{OfService, client_text}
-use Rattle.lt_live_c.specs.SetsTold.{two_more, three_sets, AfterName, NamesTold, NeverOpened, OpensSetsTold}
+use Rattle.lt_live_c.specs.SetsTold.{set_with, set_alone, two_more, three_sets, AfterName, NamesTold, NeverOpened, OpensSetsTold}
 use Rattle.lt_live_c.proofs.ServicesOpened.{with_command, client_read, same_script, script_or_fault, fits}
 
 -- The number of a name.
@@ -102,12 +102,12 @@ no_fault bytes sets limit places script read h =
 pub opens_sets_told : OpensSetsTold
 opens_sets_told = record {
   opened = opened;
-  name_of_set = never _ refl;
-  name_of_client = never _ refl;
-  no_name = never _ refl;
-  same_name = never _ refl;
-  no_parent = never _ refl;
-  later_parent = never _ refl;
+  name_of_set = never (set_alone (codes "s") ∷ []) refl;
+  name_of_client = never (set_alone (codes "a") ∷ []) refl;
+  no_name = never (set_alone (codes "7") ∷ []) refl;
+  same_name = never (set_alone (codes "t") ∷ set_alone (codes "t") ∷ []) refl;
+  no_parent = never (set_with (codes "t") (codes "a") ∷ []) refl;
+  later_parent = never (set_with (codes "t") (codes "u") ∷ set_alone (codes "u") ∷ []) refl;
   sets_in_range = λ bytes sets limit places few some_moves few_moves some_places few_places h.
       false≢true (sym (h.bad_argument refl) ∙ fits bytes limit places few some_moves few_moves some_places few_places);
   sets_no_fault = no_fault;
