@@ -6,6 +6,7 @@
  * third number is named, a new service is opened after so many pairs, and none forgets. */
 #define _POSIX_C_SOURCE 200809L
 #include "lockrun_easy.h"
+#include "measure.h"
 #include <stdio.h>
 #include <string.h>
 
@@ -37,7 +38,7 @@ static void close_nodes(void) {
 
 static void make_pair(long number) {
     lockrun_caller *caller = &nodes.caller[(size_t)number % nodes.callers];
-    uint8_t set = (uint8_t)(number / (long)nodes.callers % SETS);
+    uint32_t set = (uint32_t)(number / (long)nodes.callers % SETS);
     want(lockrun_lock(caller, set, LOCKRUN_WRITE, LOCKRUN_FOREVER), LOCKRUN_GRANTED);
     want(lockrun_unlock(caller, set, LOCKRUN_WRITE, LOCKRUN_FOREVER), LOCKRUN_UNLOCKED);
     told += 2;
@@ -49,35 +50,6 @@ static void compare(void) {
     if (submitted == told && polled == told) return;
     fprintf(stderr, "live: %zu commands, %zu replies, and it was told %zu\n", submitted, polled, told);
     exit(1);
-}
-
-static double nanoseconds(void) {
-    struct timespec time;
-    clock_gettime(CLOCK_PROCESS_CPUTIME_ID, &time);
-    return (double)time.tv_sec * 1e9 + (double)time.tv_nsec;
-}
-
-/* Reads each page of the program and its libraries, so that what becomes resident later is the service's. */
-static void read_program(void) {
-    char line[512], may_read, file[2];
-    unsigned long from, to;
-    FILE *maps = fopen("/proc/self/maps", "r");
-    if (!maps) return;
-    while (fgets(line, sizeof line, maps))
-        if (sscanf(line, "%lx-%lx %c%*s %*s %*s %*s %1[/]", &from, &to, &may_read, file) == 4 && may_read == 'r')
-            for (unsigned long page = from; page < to; page += 4096) (void)*(volatile char *)page;
-    fclose(maps);
-}
-
-/* The memory that is resident, in KiB. */
-static long resident(void) {
-    char line[256];
-    long found = 0;
-    FILE *file = fopen("/proc/self/status", "r");
-    if (!file) return 0;
-    while (fgets(line, sizeof line, file)) sscanf(line, "VmRSS: %ld", &found);
-    fclose(file);
-    return found;
 }
 
 int main(int count, char **words) {

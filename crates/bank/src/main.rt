@@ -2,25 +2,32 @@
 //!
 //! Clerks move money between accounts, and an auditor adds them up, each under locks, while the nodes are at work. The
 //! program prints what is in the accounts, and whether the journal of all this is one of a run.
+//!
+//! With a number it is a bank of 15 branches, whose 300 sets are more than a text may have: visitors make errands that
+//! are drawn from the number, and the program prints the script and the journal.
 #![tactic(auto)]
 
 mod accounts;
 mod auditor;
+mod branches;
 mod caller;
 mod clerk;
+mod visitor;
 
 use accounts::Bank;
 use anyhow::{Result, bail};
+use branches::{CLIENTS, branches};
 use caller::{BankCaller, callers_of};
 use lt_checker::check_input;
-use lt_io::{ReaderSource, Source, read_all};
+use lt_io::{ReaderSource, Source, WriterSink, read_all, write_all};
 use lt_live_callers::{Called, Caller, Served, serve_callers};
 use lt_script::Script;
 use std::alloc::Global;
 use std::io::Print;
-use std::str;
 use std::sync::atomic::Ordering;
 use std::thread::Threads;
+use std::{env, str};
+use visitor::Visitor;
 
 // The most bytes of a script, the most moves of a node, the threads of callers, with as many of stations, and the most
 // rounds.
@@ -73,8 +80,25 @@ fn work<R: Threads + Sync>(rt: &R, alloc: Global, script: &Script, bank: &Bank) 
     text_of(alloc, &served)
 }
 
+// Lets visitors make errands at the branches: the script and the journal of the run.
+fn visit<R: Threads + Sync>(rt: &R, alloc: Global, seed: u64) -> Result<Vec<u8>> {
+    let script = branches(alloc)?;
+    let visitors = (0..CLIENTS)
+        .map(|client| Visitor::new(client, seed))
+        .collect(alloc)?;
+    let served = serve_callers(rt, alloc, &script, visitors, MOST_MOVES, THREADS, ROUNDS)?;
+    if !served.all_done() {
+        bail!("the visitors didn't come to an end");
+    }
+    Ok(served.text(alloc)?)
+}
+
 fn main(rt: HostRuntime) -> Result<()> {
     let alloc = rt.alloc();
+    if let Some(word) = env::args(&rt)?.nth(1) {
+        let text = visit(&rt, alloc, word.as_str().parse()?)?;
+        return Ok(write_all(&mut WriterSink::new(rt.stdout()), &text)?);
+    }
     let script = script_of(alloc, &mut ReaderSource::new(rt.stdin()))?;
     let bank = Bank::new(alloc, &script)?;
     let text = work(&rt, alloc, &script, &bank)?;
