@@ -6,12 +6,12 @@ use Rattle.lt_modes.specs.Freezing.{map_from}
 use Rattle.lt_modes.specs.Modes.{locks_of}
 use Rattle.lt_modes.specs.Script.{ScriptData}
 use Rattle.lt_modes.specs.Serving.{waits}
-use Rattle.lt_modes.specs.State.{Made, first_state}
+use Rattle.lt_modes.specs.State.{SetState, Made, first_state}
 use Rattle.lt_lists.specs.Below.{count_below}
 use Rattle.lt_spec.specs.declared.limits.TheConstants.{MAX_SETS_OF_SERVICE}
 use Rattle.lt_desk.specs.DeskData.{OutData}
 use Rattle.lt_core.specs.CoreData.{CoreData, Does}
-use Rattle.lt_node.specs.NodeData.{IsCoreOf, kept_of, untouched}
+use Rattle.lt_node.specs.NodeData.{IsCoreOf, KeptData, kept_of, untouched}
 
 -- how many nodes there are and which one this is; for each set 0, or one more than the place of its core; and what is
 -- kept for each set

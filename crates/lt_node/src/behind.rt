@@ -1,4 +1,4 @@
-ghost use Rattle.std.specs.Prelude.{◌<◌, ◌≤◌, ◌==◌, ◌&&◌, ◌||◌, length};
+ghost use Rattle.std.specs.Prelude.{◌≡◌, ◌<◌, ◌≤◌, ◌==◌, ◌&&◌, ◌||◌, length};
 ghost use Rattle.lt_modes.specs.Waiting.{stands_before, parked_behind};
 ghost use Rattle.lt_node.specs.NodeData.{state_of};
 ghost use Rattle.lt_node.specs.Marks.{AreAdded};
