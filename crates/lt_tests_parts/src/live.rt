@@ -1,5 +1,4 @@
-ghost use Rattle.std.specs.Prelude.{◌≡◌, ◌<◌, ◌≤◌, [], length, IfOk};
-ghost use Rattle.lt_spec.specs.declared.limits.TheConstants.{MAX_COMMANDS};
+ghost use Rattle.std.specs.Prelude.{◌≡◌, ◌<◌, [], length, IfOk};
 ghost use Rattle.lt_live.specs.Live.{LiveScript, EachStation, StationGoesOn, EachSession};
 ghost use Rattle.lt_live.specs.Words.{SameSession};
 
@@ -8,7 +7,7 @@ use crate::together::read_text;
 use lt_live::{FinishError, Reply, Session, Station, finish, most_share, open, served};
 use lt_modes::{Command, Mode};
 use lt_runner::{Open, Turned};
-use lt_script::{MAX_COMMANDS, MAX_COMMANDS_OF_SERVICE, MAX_SETS_OF_SERVICE, Script, is_name};
+use lt_script::{MAX_COMMANDS, MAX_COMMANDS_OF_SERVICE, Script, SetByName};
 use std::alloc::{AllocError, Global};
 use std::process::Abort;
 
@@ -149,16 +148,14 @@ fn exchange<R: Abort>(
     poll_first(sessions)
 }
 
-// Adds a set of its own family, whose name ends in its number.
-fn add_set<R: Abort>(rt: &R, alloc: Global, script: &mut Script)
-    ensures { script.new.commands ≡ script.old.commands }
-{
+// Adds a set whose name ends in its number.
+fn add_set<R: Abort>(rt: &R, alloc: Global, script: &mut Script) {
     let number = script.sets();
     let name = format!(in alloc; "s{number}").expect(rt, "memory");
-    holds(rt, number < MAX_SETS_OF_SERVICE);
-    holds(rt, is_name(name.as_bytes()));
-    holds(rt, !script.is_declared(name.as_bytes()));
-    script.add_set(name.as_bytes(), number).expect(rt, "memory");
+    let told = script
+        .set_by_name(name.as_bytes(), None)
+        .expect(rt, "memory");
+    same(rt, told, SetByName::Set(number));
 }
 
 // A client, and more sets than the text of a script may have.
@@ -170,6 +167,7 @@ fn many_sets<R: Abort>(rt: &R, alloc: Global) -> Script
     for _ in 0..300 {
         add_set(rt, alloc, &mut script);
     }
+    holds(rt, script.commands() == 0);
     script
 }
 
