@@ -34,7 +34,7 @@ use Rattle.lt_serve.specs.Serves.{IsGood, IsAnswered, GoesWell, IsComplete}
 use Rattle.lt_serve.specs.Causes.{reads, HasStatusCause, limit_of}
 use Rattle.lt_law_pinned.proofs.TwoWritersSay.{same_script, same_run, same_line, same_fault, run_or_line, script_or_fault, one_lock_read, same_bytes, one_lock_says, cut_short_says}
 use Rattle.lt_law_pinned.specs.Examples.{one_lock, one_lock_script, the_move, Says, OnlyJournal, one_lock_journal, two_writers}
-use Rattle.lt_law_pinned.specs.OtherAnswers.{CheckSays, checked_lock, wrong_mode, no_mode, checked_no_mode, untouched, FailuresSay, UnwrittenSays, CompleteSays, IsDone, read_whole, ServesSay}
+use Rattle.lt_law_pinned.specs.OtherAnswers.{CheckSays, checked_lock, wrong_mode, no_mode, checked_no_mode, fresh_source, FailuresSay, UnwrittenSays, CompleteSays, IsDone, read_whole, ServesSay}
 use Rattle.lt_law_pinned.proofs.Refusals.{no_mode_read}
 use Rattle.lt_law_pinned.proofs.MakeAnswers.{one_text}
 
@@ -173,19 +173,19 @@ short_journal h = omega (arith, h)
 no_fault : (fault : ScriptFault) → HasFault (Some one_lock) fault → ⊥
 no_fault fault h = script_or_fault one_lock_script fault (read_of one_lock) one_lock_read h
 
-pub good_first : IsGood SimFirst (untouched (Some one_lock)) (read_whole one_lock)
+pub good_first : IsGood SimFirst (fresh_source (Some one_lock)) (read_whole one_lock)
 good_first = record { no_read_fault = no_rise; not_too_long = short_script; no_fault = no_fault; no_bad_line = λ e. cc }
 
-pub good_drawn : (seed : ℕ) → IsGood (Sim seed) (untouched (Some one_lock)) (read_whole one_lock)
+pub good_drawn : (seed : ℕ) → IsGood (Sim seed) (fresh_source (Some one_lock)) (read_whole one_lock)
 good_drawn seed = record { no_read_fault = no_rise; not_too_long = short_script; no_fault = no_fault; no_bad_line = λ e. cc }
 
-pub good_threads : IsGood Run (untouched (Some one_lock)) (read_whole one_lock)
+pub good_threads : IsGood Run (fresh_source (Some one_lock)) (read_whole one_lock)
 good_threads = record { no_read_fault = no_rise; not_too_long = short_script; no_fault = no_fault; no_bad_line = λ e. cc }
 
-good_order : IsGood Order (untouched (Some one_lock)) (read_whole one_lock)
+good_order : IsGood Order (fresh_source (Some one_lock)) (read_whole one_lock)
 good_order = record { no_read_fault = no_rise; not_too_long = short_script; no_fault = no_fault; no_bad_line = λ e. cc }
 
-good_check : IsGood Check (untouched (Some checked_lock)) (read_whole checked_lock)
+good_check : IsGood Check (fresh_source (Some checked_lock)) (read_whole checked_lock)
 good_check = record { no_read_fault = no_rise; not_too_long = short_journal; no_fault = without_fault; no_bad_line = λ e. never_bad }
 
 -- nothing goes wrong with a good input
@@ -208,7 +208,7 @@ only_done command only WriteFault e run old new t = absurd e
 only_done command only NoMemory e run old new t = absurd e
 only_done command only (BadJournal line) e run old new t = absurd e
 
-is_done : (command : Command) → OnlyJournal command one_lock one_lock_journal → IsGood command (untouched (Some one_lock)) (read_whole one_lock)
+is_done : (command : Command) → OnlyJournal command one_lock one_lock_journal → IsGood command (fresh_source (Some one_lock)) (read_whole one_lock)
     → ((answer : Status) → IsAnswered command answer → IsEnding (outcome_of answer)) → IsDone command
 is_done command only good ends answer run old new complete t there =
     only_done command only answer (ends answer (complete (goes_well command answer _ _ (λ reads. good) there))) run old new t
@@ -232,14 +232,14 @@ told moves command a b left input run held old lastly new same read before after
     subst₂ (λ (x : Status) (y : Option (List ℕ)). Did moves (Some command) x y run old new) same read
     (subst₂ (λ (x y : Option (List ℕ)). Did moves (Some command) a left run x y) before after t)
 
-complete_so : (a : Status) (before after : SourceState) (first last : ℕ) → before ≡ untouched (Some checked_lock) → after ≡ read_whole checked_lock
+complete_so : (a : Status) (before after : SourceState) (first last : ℕ) → before ≡ fresh_source (Some checked_lock) → after ≡ read_whole checked_lock
     → first ≡ 0 → last ≡ 0 → IsComplete (Some Check) a before after first last
-    → IsComplete (Some Check) a (untouched (Some checked_lock)) (read_whole checked_lock) 0 0
+    → IsComplete (Some Check) a (fresh_source (Some checked_lock)) (read_whole checked_lock) 0 0
 complete_so a before after first last at_first lastly none still h =
     subst₂ (λ (x y : SourceState). IsComplete (Some Check) a x y 0 0) at_first lastly
     (subst₂ (λ (x y : ℕ). IsComplete (Some Check) a before after x y) none still h)
 
-not_unread : (x y : SourceState) → x ≡ untouched (Some wrong_mode) → y ≡ read_whole wrong_mode → y ≡ x → ⊥
+not_unread : (x y : SourceState) → x ≡ fresh_source (Some wrong_mode) → y ≡ read_whole wrong_mode → y ≡ x → ⊥
 not_unread x y at_first lastly same =
     omega (arith, ap (λ (s : SourceState). s.ends) at_first, ap (λ (s : SourceState). s.ends) lastly, ap (λ (s : SourceState). s.ends) same)
 
@@ -257,7 +257,7 @@ not_good good =
     let bad = second_bad good.script good.is_script good.denoted in
     omega (arith, bad.1, lines_counted wrong_mode, wrong_count, good.last bad.0 bad.2, five_lines)
 
-not_wanted : WantsMemory (untouched (Some wrong_mode)) (read_whole wrong_mode) → ⊥
+not_wanted : WantsMemory (fresh_source (Some wrong_mode)) (read_whole wrong_mode) → ⊥
 not_wanted wants = elim wants.good [
   | inl same ↦ omega (arith, same)
   | inr may ↦ elim may [

@@ -16,7 +16,7 @@ use Rattle.lt_serve.specs.declared.limits.TheConstants.{MAX_INPUT}
 use Rattle.lt_serve.specs.declared.status.Status.{Status}
 use Rattle.lt_serve.specs.Serves.{IsGood, GoesWell}
 use Rattle.lt_law_pinned.specs.Examples.{one_lock, one_lock_script}
-use Rattle.lt_law_pinned.specs.OtherAnswers.{OrderSays, lock_given_up, given_up_script, untouched, read_whole, EndsSay}
+use Rattle.lt_law_pinned.specs.OtherAnswers.{OrderSays, lock_given_up, given_up_script, fresh_source, read_whole, EndsSay}
 use Rattle.lt_law_pinned.proofs.TwoWritersSay.{same_script, one_lock_read, script_or_fault}
 use Rattle.lt_law_pinned.proofs.CheckAnswers.{no_rise, goes_well, good_first, good_drawn, good_threads}
 
@@ -59,9 +59,9 @@ order_says = record {
 -- What follows where no run is cut.
 
 -- nothing goes wrong with a good input
-well_with : (command : Command) (input : List ℕ) (answer : Status) → IsGood command (untouched (Some input)) (read_whole input) → answer ≢ NoMemory
-    → GoesWell (Some command) answer (untouched (Some input)) (read_whole input) 0 0
-well_with command input answer good there = goes_well command answer (untouched (Some input)) (read_whole input) (λ reads. good) there
+well_with : (command : Command) (input : List ℕ) (answer : Status) → IsGood command (fresh_source (Some input)) (read_whole input) → answer ≢ NoMemory
+    → GoesWell (Some command) answer (fresh_source (Some input)) (read_whole input) 0 0
+well_with command input answer good there = goes_well command answer (fresh_source (Some input)) (read_whole input) (λ reads. good) there
 
 short_given_up : RoseBy (MAX_INPUT + 1) 0 (length lock_given_up) → ⊥
 short_given_up h = omega (arith, h)
@@ -69,13 +69,13 @@ short_given_up h = omega (arith, h)
 given_up_without_fault : (fault : ScriptFault) → HasFault (Some lock_given_up) fault → ⊥
 given_up_without_fault fault h = script_or_fault given_up_script fault (read_of lock_given_up) given_up_read h
 
-given_up_first : IsGood SimFirst (untouched (Some lock_given_up)) (read_whole lock_given_up)
+given_up_first : IsGood SimFirst (fresh_source (Some lock_given_up)) (read_whole lock_given_up)
 given_up_first = record { no_read_fault = no_rise; not_too_long = short_given_up; no_fault = given_up_without_fault; no_bad_line = λ e. cc }
 
-given_up_drawn : (seed : ℕ) → IsGood (Sim seed) (untouched (Some lock_given_up)) (read_whole lock_given_up)
+given_up_drawn : (seed : ℕ) → IsGood (Sim seed) (fresh_source (Some lock_given_up)) (read_whole lock_given_up)
 given_up_drawn seed = record { no_read_fault = no_rise; not_too_long = short_given_up; no_fault = given_up_without_fault; no_bad_line = λ e. cc }
 
-given_up_threads : IsGood Run (untouched (Some lock_given_up)) (read_whole lock_given_up)
+given_up_threads : IsGood Run (fresh_source (Some lock_given_up)) (read_whole lock_given_up)
 given_up_threads = record { no_read_fault = no_rise; not_too_long = short_given_up; no_fault = given_up_without_fault; no_bad_line = λ e. cc }
 
 pub ends_say : EndsSay

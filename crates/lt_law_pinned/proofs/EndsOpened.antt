@@ -12,7 +12,7 @@ use Rattle.lt_live_serve.specs.declared.status.Status.TheVariants as live
 use Rattle.lt_script.specs.Reading.{read_of}
 use Rattle.lt_live_serve.specs.Serves.{IsFirstOver, IsOverShare}
 use Rattle.lt_law_pinned.specs.EndCalls.{OrderEnds, LiveOrderEnds, DenoteOrdered}
-use Rattle.lt_law_pinned.specs.OtherAnswers.{untouched}
+use Rattle.lt_law_pinned.specs.OtherAnswers.{fresh_source}
 use Rattle.lt_law_pinned.proofs.TwoWritersSay.{same_script}
 use Rattle.lt_law_pinned.proofs.CheckAnswers.{goes_well}
 use Rattle.lt_law_pinned.proofs.LiveCallsOpened.{goes_well as live_goes_well, did_read, live_so}
@@ -23,9 +23,9 @@ denotes left bytes script is so = subst DenotesOrdered (sym is) (script, so.read
 
 -- nothing goes wrong with what isn't read
 soak_well : (seed : ℕ) (answer : Status) → answer ≢ NoMemory
-    → GoesWell (Some (Soak seed)) answer (untouched None) (untouched None) 0 0
+    → GoesWell (Some (Soak seed)) answer (fresh_source None) (fresh_source None) 0 0
 soak_well seed answer there =
-    goes_well (Soak seed) answer (untouched None) (untouched None) (λ reads. absurd (false≢true reads)) there
+    goes_well (Soak seed) answer (fresh_source None) (fresh_source None) (λ reads. absurd (false≢true reads)) there
 
 pub order_ends : OrderEnds
 order_ends = record {

@@ -14,7 +14,7 @@ use Rattle.lt_live.specs.declared.reply.Reply.{Reply}
 use Rattle.lt_live_serve.specs.declared.status.Status.TheVariants.{Done, Stuck, WriteFault}
 use Rattle.lt_live.specs.Stations.{equal_share}
 use Rattle.lt_live_serve.specs.Serves.{Journals, all_replies}
-use Rattle.lt_live_serve.specs.Status.{cut_of}
+use Rattle.lt_live_serve.specs.Status.{cut_node}
 use Rattle.lt_law_pinned.specs.Told.{two_writers, two_writers_script, falling, crossed}
 use Rattle.lt_law_pinned.specs.LiveCalls.{one_lock, one_lock_script, LiveRunsTold, LiveSharesTold}
 use Rattle.lt_law_pinned.proofs.LimitsOpened.{same_script, writers_read}
@@ -28,7 +28,7 @@ text_so end run polled text j =
     ∙ ap (text_of j.script run) (uncut end j.never_cut)
     ∙ ap (λ (s : ScriptData). text_of s run None) (same_script j.script two_writers_script (read_of two_writers) j.denoted writers_read)
   where
-    uncut : (e : Ending) → ((node : ℕ) → e ≢ ending.Cut node) → cut_of e ≡ None
+    uncut : (e : Ending) → ((node : ℕ) → e ≢ ending.Cut node) → cut_node e ≡ None
     uncut ending.Done never = refl
     uncut ending.Stuck never = refl
     uncut (ending.Cut node) never = absurd (never node refl)

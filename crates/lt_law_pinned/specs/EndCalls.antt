@@ -14,7 +14,7 @@ use Rattle.lt_serve.specs.TopCall.{greatest_script}
 use Rattle.lt_live_serve.specs.declared.status.Status.TheVariants as live
 use Rattle.lt_live_serve.specs.Serves.{IsFirstOver, NoneIsOver}
 use Rattle.lt_law_pinned.specs.LiveCalls.{LiveCall, ReadsBytes, IsUntroubled}
-use Rattle.lt_law_pinned.specs.OtherAnswers.{untouched}
+use Rattle.lt_law_pinned.specs.OtherAnswers.{fresh_source}
 
 -- the bytes denote an ordered script
 pub record DenoteOrdered (bytes : List ℕ) (script : ScriptData) : Type 0 where
@@ -38,7 +38,7 @@ DoneInOrder command =
 
 -- `soak` answers so, where no write failed
 abbrev pub SoakEnds : ℕ → Status → Type 0
-SoakEnds seed answer = Ends (Some (Soak seed)) answer (untouched None) (untouched None) 0 0
+SoakEnds seed answer = Ends (Some (Soak seed)) answer (fresh_source None) (fresh_source None) 0 0
 
 -- of the commands that make a run
 pub record OrderEnds : Type 0 where

@@ -19,7 +19,7 @@ use Rattle.lt_live_serve.specs.declared.served.Served.{Served}
 use Rattle.lt_live_serve.specs.declared.status.Status.{Status}
 use Rattle.lt_live_serve.specs.declared.status.Status.TheVariants.{Done, Stuck, Usage, Refused, TooLong, ReadFault, WriteFault, NoMemory, Cut, Share}
 use Rattle.lt_live_serve.specs.Serves.{Serves, IsFirstOver}
-use Rattle.lt_live_serve.specs.Status.{outcome_of, status_text}
+use Rattle.lt_live_serve.specs.Status.{outcome_of, line_of_status}
 use Rattle.lt_law_pinned.specs.Told.{two_writers, EndedRun, two_writers_script, both_moves, falling, crossed}
 
 -- the fault of a script of nothing
@@ -40,16 +40,16 @@ pub record LiveCodesAre : Type 0 where
   pub input : MAX_INPUT ≡ 1048576
 
 pub record LiveTextsAre : Type 0 where
-  pub done : status_text Done ≡ []
-  pub stuck : status_text Stuck ≡ []
-  pub usage : status_text Usage ≡ codes "locklive: usage: locklive"
-  pub refused : status_text (Refused no_nodes) ≡ codes "locklive: line 1: S5"
-  pub too_long : status_text TooLong ≡ codes "locklive: input too long"
-  pub read_fault : status_text ReadFault ≡ codes "locklive: read fault"
-  pub write_fault : status_text WriteFault ≡ codes "locklive: write fault"
-  pub no_memory : status_text NoMemory ≡ codes "locklive: no memory"
-  pub cut : status_text (Cut 7) ≡ codes "locklive: cut at node 7"
-  pub share : status_text (Share 3) ≡ codes "locklive: too many commands of client 3"
+  pub done : line_of_status Done ≡ []
+  pub stuck : line_of_status Stuck ≡ []
+  pub usage : line_of_status Usage ≡ codes "locklive: usage: locklive"
+  pub refused : line_of_status (Refused no_nodes) ≡ codes "locklive: line 1: S5"
+  pub too_long : line_of_status TooLong ≡ codes "locklive: input too long"
+  pub read_fault : line_of_status ReadFault ≡ codes "locklive: read fault"
+  pub write_fault : line_of_status WriteFault ≡ codes "locklive: write fault"
+  pub no_memory : line_of_status NoMemory ≡ codes "locklive: no memory"
+  pub cut : line_of_status (Cut 7) ≡ codes "locklive: cut at node 7"
+  pub share : line_of_status (Share 3) ≡ codes "locklive: too many commands of client 3"
 
 -- what a sink tells: the bytes that it holds, if they are known, and its count of failed writes
 pub record SinkState : Type 0 where

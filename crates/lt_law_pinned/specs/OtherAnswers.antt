@@ -77,22 +77,22 @@ pub record SoakSays : Type 0 where
   pub reads_nothing : reads (Some (Soak 7)) ≡ false
 
 -- a source of these bytes, if they are told, whose counts are all 0
-abbrev pub untouched : Option (List ℕ) → SourceState
-untouched left = record { left = left; given = 0; faults = 0; ends = 0 }
+abbrev pub fresh_source : Option (List ℕ) → SourceState
+fresh_source left = record { left = left; given = 0; faults = 0; ends = 0 }
 
 -- at this answer a source that was never at its end has come to it
 abbrev pub ComesToEnd : Command → Status → Type 0
 ComesToEnd command status =
-    (left : Option (List ℕ)) (now : SourceState) → SaysOfSource (limit_of (Some command)) (outcome_of status) (untouched left) now → now.ends ≡ 1
+    (left : Option (List ℕ)) (now : SourceState) → SaysOfSource (limit_of (Some command)) (outcome_of status) (fresh_source left) now → now.ends ≡ 1
 
 pub record CountsSay : Type 0 where
-  pub done : (left : Option (List ℕ)) (now : SourceState) → SaysOfSource (limit_of (Some SimFirst)) (outcome_of Done) (untouched left) now
+  pub done : (left : Option (List ℕ)) (now : SourceState) → SaysOfSource (limit_of (Some SimFirst)) (outcome_of Done) (fresh_source left) now
       → (now.given ≤ 1048576) × (now.faults ≡ 0) × (now.ends ≡ 1)
-  pub checked : (left : Option (List ℕ)) (now : SourceState) → SaysOfSource (limit_of (Some Check)) (outcome_of Done) (untouched left) now → now.given ≤ 67108864
-  pub refused : (fault : ScriptFault) (left : Option (List ℕ)) (now : SourceState) → SaysOfSource MAX_INPUT (outcome_of (Refused fault)) (untouched left) now
+  pub checked : (left : Option (List ℕ)) (now : SourceState) → SaysOfSource (limit_of (Some Check)) (outcome_of Done) (fresh_source left) now → now.given ≤ 67108864
+  pub refused : (fault : ScriptFault) (left : Option (List ℕ)) (now : SourceState) → SaysOfSource MAX_INPUT (outcome_of (Refused fault)) (fresh_source left) now
       → (now.faults ≡ 0) × (now.ends ≡ 1)
-  pub too_long : (left : Option (List ℕ)) (now : SourceState) → SaysOfSource (limit_of (Some Run)) (outcome_of TooLong) (untouched left) now → (now.given ≡ 1048577) × (now.faults ≡ 0)
-  pub read_fault : (left : Option (List ℕ)) (now : SourceState) → SaysOfSource MAX_INPUT (outcome_of ReadFault) (untouched left) now → (now.given ≤ 1048576) × (now.faults ≡ 1)
+  pub too_long : (left : Option (List ℕ)) (now : SourceState) → SaysOfSource (limit_of (Some Run)) (outcome_of TooLong) (fresh_source left) now → (now.given ≡ 1048577) × (now.faults ≡ 0)
+  pub read_fault : (left : Option (List ℕ)) (now : SourceState) → SaysOfSource MAX_INPUT (outcome_of ReadFault) (fresh_source left) now → (now.given ≤ 1048576) × (now.faults ≡ 1)
   pub stuck : ComesToEnd SimFirst Stuck
   pub cut : ComesToEnd (Sim 7) (Cut 0)
   pub unwritten : ComesToEnd Run WriteFault
@@ -123,7 +123,7 @@ read_whole input = record { left = Some []; given = length input; faults = 0; en
 -- a command that runs the script with one lock is done, where the script was read to its end, no write failed and memory was there
 abbrev pub IsDone : Command → Type 0
 IsDone command = (answer : Status) (run : List Logged) (old new : List ℕ)
-    → IsComplete (Some command) answer (untouched (Some one_lock)) (read_whole one_lock) 0 0
+    → IsComplete (Some command) answer (fresh_source (Some one_lock)) (read_whole one_lock) 0 0
     → Says MAX_MOVES command answer one_lock run old new
     → answer ≢ NoMemory
     → answer ≡ Done
@@ -132,11 +132,11 @@ pub record CompleteSays : Type 0 where
   pub first : IsDone SimFirst
   pub drawn : (seed : ℕ) → IsDone (Sim seed)
   pub threads : IsDone Run
-  pub check : (answer : Status) → IsComplete (Some Check) answer (untouched (Some checked_lock)) (read_whole checked_lock) 0 0
+  pub check : (answer : Status) → IsComplete (Some Check) answer (fresh_source (Some checked_lock)) (read_whole checked_lock) 0 0
       → answer ≢ NoMemory → answer ≡ Done
-  pub order : (answer : Status) → IsComplete (Some Order) answer (untouched (Some one_lock)) (read_whole one_lock) 0 0
+  pub order : (answer : Status) → IsComplete (Some Order) answer (fresh_source (Some one_lock)) (read_whole one_lock) 0 0
       → answer ≢ NoMemory → answer ≡ Done
-  pub make : (answer : Status) → IsComplete (Some (Make 1 1 1 7)) answer (untouched None) (untouched None) 0 0 → answer ≢ NoMemory → answer ≡ Done
+  pub make : (answer : Status) → IsComplete (Some (Make 1 1 1 7)) answer (fresh_source None) (fresh_source None) 0 0 → answer ≢ NoMemory → answer ≡ Done
 
 -- What is said of a script with one lock that is kept, and of one whose lock is given up again, in literals.
 
@@ -169,7 +169,7 @@ pub record OrderSays : Type 0 where
 
 -- an answer to this command with this input, where it was read to its end and no write failed
 abbrev pub SaysSo : Command → List ℕ → Status → Type 0
-SaysSo command input answer = Ends (Some command) answer (untouched (Some input)) (read_whole input) 0 0
+SaysSo command input answer = Ends (Some command) answer (fresh_source (Some input)) (read_whole input) 0 0
 
 -- where memory was there, the run of the script with one lock ends with nobody waiting or with somebody
 abbrev pub AtRest : Command → Type 0
@@ -221,13 +221,13 @@ pub record ServesSay {S K : Type 0} (state : S → SourceState) (held : K → Op
       (line : ℕ) → answer.status ≡ BadJournal line → (state s).left ≡ Some wrong_mode → line ≡ 7)
   -- where memory was wanting nothing was read, or bytes came
   pub memory : OfAnswers state held faults MAX_MOVES (Some SimFirst) (λ answer s t k l.
-      answer.status ≡ NoMemory → state s ≡ untouched (Some one_lock) → (t ≡ s) ⊎ (0 < (state t).given))
+      answer.status ≡ NoMemory → state s ≡ fresh_source (Some one_lock) → (t ≡ s) ⊎ (0 < (state t).given))
   -- where all was read, a bad line before the last is no want of memory
   pub no_memory : OfAnswers state held faults MAX_MOVES (Some Check) (λ answer s t k l.
-      state s ≡ untouched (Some wrong_mode) → state t ≡ read_whole wrong_mode → answer.status ≢ NoMemory)
+      state s ≡ fresh_source (Some wrong_mode) → state t ≡ read_whole wrong_mode → answer.status ≢ NoMemory)
   -- wrong words are told, and leave the source and the sink as they were
   pub wrong_words : OfAnswers state held faults MAX_MOVES None (λ answer s t k l. (answer.status ≡ Usage) × (t ≡ s) × (l ≡ k))
   -- a good journal that was read to its end is accepted, where no write failed and memory was there
   pub complete : OfAnswers state held faults MAX_MOVES (Some Check) (λ answer s t k l.
-      state s ≡ untouched (Some checked_lock) → state t ≡ read_whole checked_lock → faults k ≡ 0 → faults l ≡ 0
+      state s ≡ fresh_source (Some checked_lock) → state t ≡ read_whole checked_lock → faults k ≡ 0 → faults l ≡ 0
       → answer.status ≢ NoMemory → answer.status ≡ Done)

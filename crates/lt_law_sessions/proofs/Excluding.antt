@@ -30,7 +30,7 @@ use Rattle.lt_live.specs.Seats.{reply_to, replies_in}
 use Rattle.lt_live.specs.Words.{submitted, polled}
 use Rattle.lt_live.specs.Live.{IsServedRun}
 use Rattle.lt_live.proofs.Finished.{replies_of_lines}
-use Rattle.lt_law_sessions.specs.SessionLaws.{may_take, gives, has_after, GrantedIsHad, HadUnlessTaken, StillHolds, StillIsHeld, SessionsExclude}
+use Rattle.lt_law_sessions.specs.SessionLaws.{may_take_away, gives, has_after, GrantedIsHad, HadUnlessTaken, StillHolds, StillIsHeld, SessionsExclude}
 use Rattle.lt_law_sessions.proofs.LineEffects.{takes, not_taken, line_given, held_after}
 use Rattle.lt_law_sessions.proofs.GivenLocks.{GivenAt, given_at}
 
@@ -42,17 +42,17 @@ had_at_last script client set mode [] (r ∷ rs) has same = absurd (omega (arith
 had_at_last script client set mode (c ∷ cs) [] has same = absurd (omega (arith, same))
 had_at_last script client set mode (c ∷ cs) (r ∷ rs) has same =
     had_at_last script client set mode cs rs
-    (gives client (holding client set mode) c r || (has && not (may_take script client (holding client set mode) c))) (omega (arith, same))
+    (gives client (holding client set mode) c r || (has && not (may_take_away script client (holding client set mode) c))) (omega (arith, same))
 
 one_more : (script : ScriptData) (client : ℕ) (lock : Holding) (commands : List Command) (replies : List Reply) (command : Command) (has : Bool)
     → length replies ≤ length commands
-    → has_after script client lock (commands ++ command ∷ []) replies has ≡ (has_after script client lock commands replies has && not (may_take script client lock command))
+    → has_after script client lock (commands ++ command ∷ []) replies has ≡ (has_after script client lock commands replies has && not (may_take_away script client lock command))
 one_more script client lock [] [] command has few = refl
 one_more script client lock [] (r ∷ rs) command has few = absurd (omega (arith, few))
 one_more script client lock (c ∷ cs) [] command has few =
-    one_more script client lock cs [] command (has && not (may_take script client lock c)) (omega arith)
+    one_more script client lock cs [] command (has && not (may_take_away script client lock c)) (omega arith)
 one_more script client lock (c ∷ cs) (r ∷ rs) command has few =
-    one_more script client lock cs rs command (gives client lock c r || (has && not (may_take script client lock c))) (omega (arith, few))
+    one_more script client lock cs rs command (gives client lock c r || (has && not (may_take_away script client lock c))) (omega (arith, few))
 
 pub granted_is_had : GrantedIsHad
 granted_is_had script client set mode commands replies same = had_at_last script client set mode commands replies false same
@@ -89,7 +89,7 @@ in_prefix xs ys h k x at =
 
 -- the commands of a script say nothing of what a command may take
 same_take : (first : ScriptData) (commands : List (ℕ × Command)) (client : ℕ) (lock : Holding) (command : Command)
-    → may_take (with_commands first commands) client lock command ≡ may_take first client lock command
+    → may_take_away (with_commands first commands) client lock command ≡ may_take_away first client lock command
 same_take first commands client lock (Lock set mode) = refl
 same_take first commands client lock (Try set mode) = refl
 same_take first commands client lock (Unlock set mode) = refl
@@ -103,9 +103,9 @@ module _ (first script : ScriptData) (sessions : List Session) (run : List Logge
       subst (λ (list : List Logged). AnswersInTurn client (commands_of script client) (replies_of client (lines_of list))) (take-length run)
       (replies_in_turn script run (whole script served.is_script) served.is_run (length run) client)
 
-  takes_not : (client : ℕ) (lock : Holding) (command : Command) → may_take first client lock command ≡ false → may_take script client lock command ≡ false
+  takes_not : (client : ℕ) (lock : Holding) (command : Command) → may_take_away first client lock command ≡ false → may_take_away script client lock command ≡ false
   takes_not client lock command e =
-      ap (λ (s : ScriptData). may_take s client lock command) served.same ∙ same_take first script.commands client lock command ∙ e
+      ap (λ (s : ScriptData). may_take_away s client lock command) served.same ∙ same_take first script.commands client lock command ∙ e
 
   -- a reply to another client doesn't take the lock
   other_takes_not : (client other : ℕ) (s : Session) (lock : Holding) → StillHolds first sessions client s lock → other ≢ client

@@ -5,7 +5,7 @@ use Rattle.lt_modes.specs.declared.command.Command.{Command}
 use Rattle.lt_modes.specs.Script.{ScriptData}
 use Rattle.lt_spec.specs.Holdings.{Holding}
 use Rattle.lt_live.specs.declared.reply.Reply.{Reply}
-use Rattle.lt_law_sessions.specs.SessionLaws.{may_take, gives, has_after}
+use Rattle.lt_law_sessions.specs.SessionLaws.{may_take_away, gives, has_after}
 
 -- the reply at this place gave the lock, and no later command may take it
 pub record GivenAt (script : ScriptData) (client : ℕ) (lock : Holding) (commands : List Command) (replies : List Reply) : Type 0 where
@@ -15,12 +15,12 @@ pub record GivenAt (script : ScriptData) (client : ℕ) (lock : Holding) (comman
   pub asked : slice_get commands place ≡ Some command
   pub told : slice_get replies place ≡ Some reply
   pub given : gives client lock command reply ≡ true
-  pub later : (k : ℕ) (c : Command) → place < k → slice_get commands k ≡ Some c → may_take script client lock c ≡ false
+  pub later : (k : ℕ) (c : Command) → place < k → slice_get commands k ≡ Some c → may_take_away script client lock c ≡ false
 
 module _ (script : ScriptData) (client : ℕ) (lock : Holding) where
   -- none of these commands may take the lock
   abbrev NoneTakes : List Command → Type 0
-  NoneTakes commands = (k : ℕ) (c : Command) → slice_get commands k ≡ Some c → may_take script client lock c ≡ false
+  NoneTakes commands = (k : ℕ) (c : Command) → slice_get commands k ≡ Some c → may_take_away script client lock c ≡ false
 
   -- it was had before, and none takes it, or it was given among these
   abbrev Had : List Command → List Reply → Bool → Type 0
@@ -35,24 +35,24 @@ module _ (script : ScriptData) (client : ℕ) (lock : Holding) where
   one_of true y e = inl refl
   one_of false y e = inr e
 
-  none_more : (c : Command) (cs : List Command) → may_take script client lock c ≡ false → NoneTakes cs → NoneTakes (c ∷ cs)
-  none_more c cs first rest zero d at = ap (may_take script client lock) (sym (one c d at)) ∙ first
+  none_more : (c : Command) (cs : List Command) → may_take_away script client lock c ≡ false → NoneTakes cs → NoneTakes (c ∷ cs)
+  none_more c cs first rest zero d at = ap (may_take_away script client lock) (sym (one c d at)) ∙ first
     where
       one : (x y : Command) → Some x ≡ Some y → x ≡ y
       one x y e = cc
   none_more c cs first rest (suc k) d at = rest k d at
 
-  still_had : (c : Command) (cs : List Command) (has : Bool) → (has && not (may_take script client lock c)) ≡ true → NoneTakes cs
+  still_had : (c : Command) (cs : List Command) (has : Bool) → (has && not (may_take_away script client lock c)) ≡ true → NoneTakes cs
       → (has ≡ true) × NoneTakes (c ∷ cs)
-  still_had c cs has e rest = let (had, kept) = both has (may_take script client lock c) e in (had, none_more c cs kept rest)
+  still_had c cs has e rest = let (had, kept) = both has (may_take_away script client lock c) e in (had, none_more c cs kept rest)
 
-  later_shifted : (c : Command) (cs : List Command) (place : ℕ) → ((k : ℕ) (d : Command) → place < k → slice_get cs k ≡ Some d → may_take script client lock d ≡ false)
-      → (k : ℕ) (d : Command) → suc place < k → slice_get (c ∷ cs) k ≡ Some d → may_take script client lock d ≡ false
+  later_shifted : (c : Command) (cs : List Command) (place : ℕ) → ((k : ℕ) (d : Command) → place < k → slice_get cs k ≡ Some d → may_take_away script client lock d ≡ false)
+      → (k : ℕ) (d : Command) → suc place < k → slice_get (c ∷ cs) k ≡ Some d → may_take_away script client lock d ≡ false
   later_shifted c cs place h zero d past at = absurd (omega (arith, past))
   later_shifted c cs place h (suc k) d past at = h k d (omega (arith, past)) at
 
   later_first : (c : Command) (cs : List Command) → NoneTakes cs
-      → (k : ℕ) (d : Command) → 0 < k → slice_get (c ∷ cs) k ≡ Some d → may_take script client lock d ≡ false
+      → (k : ℕ) (d : Command) → 0 < k → slice_get (c ∷ cs) k ≡ Some d → may_take_away script client lock d ≡ false
   later_first c cs h zero d past at = absurd (omega (arith, past))
   later_first c cs h (suc k) d past at = h k d at
 
@@ -77,12 +77,12 @@ module _ (script : ScriptData) (client : ℕ) (lock : Holding) where
       no_command : (k : ℕ) (c : Command) → slice_get [] k ≡ Some c → ⊥
       no_command zero c at = absurd (cc)
       no_command (suc k) c at = absurd (cc)
-  had (c ∷ cs) [] has e = elim (had cs [] (has && not (may_take script client lock c)) e) [
+  had (c ∷ cs) [] has e = elim (had cs [] (has && not (may_take_away script client lock c)) e) [
     | inl rest ↦ inl (still_had c cs has rest.0 rest.1)
     | inr g ↦ absurd (no_reply g.place g.reply g.told)
   ]
-  had (c ∷ cs) (r ∷ rs) has e = elim (had cs rs (gives client lock c r || (has && not (may_take script client lock c))) e) [
-    | inl rest ↦ elim (one_of (gives client lock c r) (has && not (may_take script client lock c)) rest.0) [
+  had (c ∷ cs) (r ∷ rs) has e = elim (had cs rs (gives client lock c r || (has && not (may_take_away script client lock c))) e) [
+    | inl rest ↦ elim (one_of (gives client lock c r) (has && not (may_take_away script client lock c)) rest.0) [
       | inl now ↦ inr (record { place = 0; command = c; reply = r; asked = refl; told = refl; given = now; later = later_first c cs rest.1 })
       | inr before ↦ inl (still_had c cs has before rest.1)
     ]

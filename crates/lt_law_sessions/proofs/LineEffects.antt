@@ -14,7 +14,7 @@ use Rattle.lt_law_lines.proofs.LineCounts.{count_after}
 use Rattle.lt_live.specs.declared.reply.Reply.{Reply}
 use Rattle.lt_live.specs.declared.reply.Reply.TheVariants as r
 use Rattle.lt_live.specs.Seats.{told_if, reply_to}
-use Rattle.lt_law_sessions.specs.SessionLaws.{may_take, gives}
+use Rattle.lt_law_sessions.specs.SessionLaws.{may_take_away, gives}
 
 -- the line takes the lock away, or may
 abbrev pub takes : ScriptData → Holding → Event → Bool
@@ -95,7 +95,7 @@ given script lock n (Token set to epoch) e = absurd (false≢true e)
 
 -- the answer to a command that may not take the lock doesn't take it
 pub not_taken : (script : ScriptData) (client : ℕ) (lock : Holding) (command : Command) (line : Event) → AnswersCommand client command line
-    → may_take script client lock command ≡ false → takes script lock line ≡ false
+    → may_take_away script client lock command ≡ false → takes script lock line ≡ false
 not_taken script client lock (c.Lock set mode) line is barred = ap (takes script lock) is
 not_taken script client lock (c.Try set mode) line is barred = ap (takes script lock) is.1
 not_taken script client lock (c.Unlock set mode) line (inl is) barred = ap (takes script lock) is ∙ barred

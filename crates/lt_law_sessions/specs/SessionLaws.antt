@@ -14,12 +14,12 @@ use Rattle.lt_live.specs.Words.{submitted, polled}
 use Rattle.lt_live.specs.Live.{IsServedRun}
 
 -- once it is made, this command of the client may take the lock away
-abbrev pub may_take : ScriptData → ℕ → Holding → Command → Bool
-may_take script client lock (Lock set mode) = false
-may_take script client lock (Try set mode) = false
-may_take script client lock (Unlock set mode) = same_holding lock (holding client set mode)
-may_take script client lock (Change set gives_up mode) = same_holding lock (holding client set gives_up)
-may_take script client lock (DropAll other set) = is_dropped script other set lock
+abbrev pub may_take_away : ScriptData → ℕ → Holding → Command → Bool
+may_take_away script client lock (Lock set mode) = false
+may_take_away script client lock (Try set mode) = false
+may_take_away script client lock (Unlock set mode) = same_holding lock (holding client set mode)
+may_take_away script client lock (Change set gives_up mode) = same_holding lock (holding client set gives_up)
+may_take_away script client lock (DropAll other set) = is_dropped script other set lock
 
 -- this reply to this command of the client says that it has the lock now
 abbrev pub gives : ℕ → Holding → Command → Reply → Bool
@@ -32,16 +32,16 @@ gives client lock command reply = false
 -- command that has no reply yet counts if it may take the lock, and not if it may give it
 abbrev pub has_after : ScriptData → ℕ → Holding → List Command → List Reply → Bool → Bool
 has_after script client lock [] replies has = has
-has_after script client lock (c ∷ cs) [] has = has_after script client lock cs [] (has && not (may_take script client lock c))
+has_after script client lock (c ∷ cs) [] has = has_after script client lock cs [] (has && not (may_take_away script client lock c))
 has_after script client lock (c ∷ cs) (r ∷ rs) has =
-    has_after script client lock cs rs (gives client lock c r || (has && not (may_take script client lock c)))
+    has_after script client lock cs rs (gives client lock c r || (has && not (may_take_away script client lock c)))
 
 -- by what was submitted and polled at its session the client has the lock; and no command that was submitted at another session
 -- drops it, whether it was made or not
 pub record StillHolds (script : ScriptData) (sessions : List Session) (client : ℕ) (s : Session) (lock : Holding) : Type 0 where
   pub has : has_after script client lock (submitted s) (polled s) false ≡ true
   pub others : (other : ℕ) (t : Session) (k : ℕ) (c : Command) → other ≢ client → slice_get sessions other ≡ Some t
-      → slice_get (submitted t) k ≡ Some c → may_take script other lock c ≡ false
+      → slice_get (submitted t) k ≡ Some c → may_take_away script other lock c ≡ false
 
 -- That what clients hold still is held, and doesn't conflict, as laws.
 
@@ -70,4 +70,4 @@ abbrev pub HadUnlessTaken : Type 0
 HadUnlessTaken = (script : ScriptData) (client : ℕ) (lock : Holding) (commands : List Command) (replies : List Reply) (command : Command)
     → length replies ≤ length commands
     → has_after script client lock (commands ++ command ∷ []) replies false
-    ≡ (has_after script client lock commands replies false && not (may_take script client lock command))
+    ≡ (has_after script client lock commands replies false && not (may_take_away script client lock command))

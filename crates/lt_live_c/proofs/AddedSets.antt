@@ -4,11 +4,11 @@ use Rattle.std.proofs.lemmas.List.{drop_more, length_push}
 use Rattle.std.proofs.lemmas.Option.{same_Some}
 use Rattle.lt_modes.specs.Script.{ScriptData}
 use Rattle.lt_live_c.specs.declared.new_sets.NewSet.{NewSet}
-use Rattle.lt_live_c.specs.NewSets.{SetWords, set_words, family_with, in_family, is_new_name, with_set, with_sets, AddsSet}
+use Rattle.lt_live_c.specs.NewSets.{SetWords, words_of_set, family_of_next, in_family, is_new_name, with_next_set, with_next_sets, AddsSet}
 
 -- the script with the set has one more
-one_more : (s t : ScriptData) (set : SetWords) → with_set s set ≡ Some t → length t.sets ≡ length s.sets + 1
-one_more s t set = by_parts (is_new_name s set.name) (family_with s set.parent)
+one_more : (s t : ScriptData) (set : SetWords) → with_next_set s set ≡ Some t → length t.sets ≡ length s.sets + 1
+one_more s t set = by_parts (is_new_name s set.name) (family_of_next s set.parent)
   where
     by_parts : (b : Bool) (family : Option ℕ) → (if b then option_map (in_family s set.name) family else None) ≡ Some t
         → length t.sets ≡ length s.sets + 1
@@ -20,7 +20,7 @@ one_more s t set = by_parts (is_new_name s set.name) (family_with s set.parent)
 
 -- the first k were added, and those behind them are still to be added
 pub record Adding (k : ℕ) (sets : List NewSet) (old now : ScriptData) : Type 0 where
-  pub left : with_sets now (map set_words (drop k sets)) ≡ with_sets old (map set_words sets)
+  pub left : with_next_sets now (map words_of_set (drop k sets)) ≡ with_next_sets old (map words_of_set sets)
   pub count : length now.sets ≡ length old.sets + k
 
 -- what is read of a place that a list doesn't have
@@ -29,16 +29,16 @@ no_set = record { name = record { ref_ptr = (0, 0); now = [] }; parent = record 
 
 -- what comes of the next one, and then of those behind it
 next_left : (k : ℕ) (sets : List NewSet) (d : NewSet) (old now : ScriptData) → k < length sets → Adding k sets old now
-    → option_and_then (λ (more : ScriptData). with_sets more (map set_words (drop (k + 1) sets))) (with_set now (set_words (slice_index_or sets k d)))
-    ≡ with_sets old (map set_words sets)
+    → option_and_then (λ (more : ScriptData). with_next_sets more (map words_of_set (drop (k + 1) sets))) (with_next_set now (words_of_set (slice_index_or sets k d)))
+    ≡ with_next_sets old (map words_of_set sets)
 next_left k sets d old now below so_far =
-    sym (ap (λ (xs : List NewSet). with_sets now (map set_words xs)) (drop_more sets k d below)) ∙ so_far.left
+    sym (ap (λ (xs : List NewSet). with_next_sets now (map words_of_set xs)) (drop_more sets k d below)) ∙ so_far.left
 
 pub adding_on : (k : ℕ) (sets : List NewSet) (d : NewSet) (added : Bool) (old now next : ScriptData) → Adding k sets old now
-    → AddsSet added (set_words (slice_index_or sets k d)) now next → added ≡ true → k < length sets → Adding (k + 1) sets old next
+    → AddsSet added (words_of_set (slice_index_or sets k d)) now next → added ≡ true → k < length sets → Adding (k + 1) sets old next
 adding_on k sets d false old now next so_far adds is below = absurd (cc)
 adding_on k sets d true old now next so_far adds is below = record {
-  left = sym (ap (option_and_then (λ (more : ScriptData). with_sets more (map set_words (drop (k + 1) sets)))) adds)
+  left = sym (ap (option_and_then (λ (more : ScriptData). with_next_sets more (map words_of_set (drop (k + 1) sets)))) adds)
       ∙ next_left k sets d old now below so_far;
-  count = omega (arith, one_more now next (set_words (slice_index_or sets k d)) adds, so_far.count);
+  count = omega (arith, one_more now next (words_of_set (slice_index_or sets k d)) adds, so_far.count);
 }

@@ -13,16 +13,16 @@ use Rattle.lt_live_c.specs.declared.content.Content.{Content}
 use Rattle.lt_live_c.specs.declared.content.Content.TheVariants as contents
 use Rattle.lt_live_c.specs.declared.service.Service.{Service}
 use Rattle.lt_live_c.specs.Calls.{TellsNumber, HandleTellsSet}
-use Rattle.lt_live_c.specs.NewSets.{SetWords, with_sets}
+use Rattle.lt_live_c.specs.NewSets.{SetWords, with_next_sets}
 use Rattle.lt_live_c.specs.Opening.{IsOpenedOf, IsOpenedWith, HandleOpenedWith, OpenSetsRefused}
 use Rattle.lt_live_c.specs.Told.{kind_of}
 use Rattle.lt_live_c.specs.ServicesTold.{OfService, client_text}
-use Rattle.lt_live_c.specs.SetsTold.{set_with, set_alone, two_more, three_sets, AfterName, NamesTold, NeverOpened, OpensSetsTold}
+use Rattle.lt_live_c.specs.SetsTold.{set_with, set_alone, two_more, three_set_script, AfterName, NamesTold, NeverOpened, OpensSetsTold}
 use Rattle.lt_live_c.proofs.ServicesOpened.{with_command, client_read, same_script, script_or_fault, fits}
 
 -- The number of a name.
 
-told_of : (name : List ℕ) (found : Option ℕ) → set_number three_sets name ≡ found
+told_of : (name : List ℕ) (found : Option ℕ) → set_number three_set_script name ≡ found
     → AfterName name (λ code was set. TellsNumber found code was set)
 told_of name found e s code was set is h =
     subst (λ (o : Option ℕ). TellsNumber o code was set) (ap (λ (x : ScriptData). set_number x name) is ∙ e) h
@@ -45,38 +45,38 @@ names_told = record {
 -- Further sets.
 
 abbrev three_with_command : ScriptData
-three_with_command = record three_sets { commands = (0, Lock 0 Write) ∷ [] }
+three_with_command = record three_set_script { commands = (0, Lock 0 Write) ∷ [] }
 
-two_added : with_sets with_command two_more ≡ Some three_with_command
+two_added : with_next_sets with_command two_more ≡ Some three_with_command
 two_added = refl
 
 -- the script of the text is this one, and so the further sets are added to it
 added_to : (script : ScriptData) (sets : List SetWords) (o : Option ScriptData) → read_of client_text ≡ Ok script
-    → with_sets with_command sets ≡ o → with_sets script sets ≡ o
+    → with_next_sets with_command sets ≡ o → with_next_sets script sets ≡ o
 added_to script sets o read added =
-    ap (λ (x : ScriptData). with_sets x sets) (same_script script with_command (read_of client_text) read client_read) ∙ added
+    ap (λ (x : ScriptData). with_next_sets x sets) (same_script script with_command (read_of client_text) read client_read) ∙ added
 
 some_or_none : (script : ScriptData) (o : Option ScriptData) → o ≡ Some script → o ≡ None → ⊥
 some_or_none script o e f = cc
 
 opened_so : (s : Service) → IsOpenedWith client_text two_more 9 2 s
-    → IsOpen three_sets 9 2 576460752303423488 s.stations.items s.sessions.items
+    → IsOpen three_set_script 9 2 576460752303423488 s.stations.items s.sessions.items
 opened_so s h =
     let whole : h.1 ≡ three_with_command =
     same_Some h.1 three_with_command (sym h.3 ∙ added_to h.0 two_more (Some three_with_command) h.2 two_added) in
     subst (λ (x : ScriptData). IsOpenedOf x 9 2 s) whole h.4
 
 opened : (new : Option Content) → HandleOpenedWith client_text two_more 9 2 new
-    → OfService new (λ s. IsOpen three_sets 9 2 576460752303423488 s.stations.items s.sessions.items)
+    → OfService new (λ s. IsOpen three_set_script 9 2 576460752303423488 s.stations.items s.sessions.items)
 opened None h = absurd h
 opened (Some (contents.Service s)) h = opened_so s h
 opened (Some (contents.Station other)) h = absurd h
 opened (Some (contents.Session other)) h = absurd h
 opened (Some (contents.Journal other)) h = absurd h
 
-never : (sets : List SetWords) → with_sets with_command sets ≡ None → NeverOpened sets
+never : (sets : List SetWords) → with_next_sets with_command sets ≡ None → NeverOpened sets
 never sets none None h = h
-never sets none (Some (contents.Service s)) h = some_or_none h.1 (with_sets h.0 sets) h.3 (added_to h.0 sets None h.2 none)
+never sets none (Some (contents.Service s)) h = some_or_none h.1 (with_next_sets h.0 sets) h.3 (added_to h.0 sets None h.2 none)
 never sets none (Some (contents.Station other)) h = h
 never sets none (Some (contents.Session other)) h = h
 never sets none (Some (contents.Journal other)) h = h
@@ -91,7 +91,7 @@ few_sets sets limit places few h =
 good_sets : (limit places : ℕ) → OpenSetsRefused 11 client_text two_more limit places → ⊥
 good_sets limit places h =
     let bad = h.bad_set refl in
-    some_or_none three_with_command (with_sets bad.0 two_more) (added_to bad.0 two_more (Some three_with_command) bad.1 two_added) bad.2
+    some_or_none three_with_command (with_next_sets bad.0 two_more) (added_to bad.0 two_more (Some three_with_command) bad.1 two_added) bad.2
 
 no_fault : (bytes : List ℕ) (sets : List SetWords) (limit places : ℕ) (script : ScriptData)
     → read_of bytes ≡ Ok script → OpenSetsRefused 5 bytes sets limit places → ⊥

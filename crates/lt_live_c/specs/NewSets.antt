@@ -10,13 +10,13 @@ pub record SetWords : Type 0 where
   pub parent : List ℕ
 
 -- what the code's value stands for
-abbrev pub set_words : NewSet → SetWords
-set_words set = record { name = set.name.now; parent = set.parent.now }
+abbrev pub words_of_set : NewSet → SetWords
+words_of_set set = record { name = set.name.now; parent = set.parent.now }
 
 -- the family of a next set with this parent: one of its own if it has none, or that of the set with this name
-abbrev pub family_with : ScriptData → List ℕ → Option ℕ
-family_with s [] = Some (length s.sets)
-family_with s (byte ∷ bytes) = option_map (family_at s.sets) (set_number s (byte ∷ bytes))
+abbrev pub family_of_next : ScriptData → List ℕ → Option ℕ
+family_of_next s [] = Some (length s.sets)
+family_of_next s (byte ∷ bytes) = option_map (family_at s.sets) (set_number s (byte ∷ bytes))
 
 abbrev pub in_family : ScriptData → List ℕ → ℕ → ScriptData
 in_family s name family = record s { sets = s.sets ++ record { name = name; family = family } ∷ [] }
@@ -26,21 +26,21 @@ abbrev pub is_new_name : ScriptData → List ℕ → Bool
 is_new_name s word = is_name word && not (is_declared s word)
 
 -- the script with this set as its last one; none where it has no new name, or no set has its parent's
-abbrev pub with_set : ScriptData → SetWords → Option ScriptData
-with_set s set =
-    if is_new_name s set.name then option_map (in_family s set.name) (family_with s set.parent) else None
+abbrev pub with_next_set : ScriptData → SetWords → Option ScriptData
+with_next_set s set =
+    if is_new_name s set.name then option_map (in_family s set.name) (family_of_next s set.parent) else None
 
 -- the same of these sets, in order
-abbrev pub with_sets : ScriptData → List SetWords → Option ScriptData
-with_sets s [] = Some s
-with_sets s (set ∷ rest) = option_and_then (λ (more : ScriptData). with_sets more rest) (with_set s set)
+abbrev pub with_next_sets : ScriptData → List SetWords → Option ScriptData
+with_next_sets s [] = Some s
+with_next_sets s (set ∷ rest) = option_and_then (λ (more : ScriptData). with_next_sets more rest) (with_next_set s set)
 
 -- the set was added, or can't be
 abbrev pub AddsSet : Bool → SetWords → ScriptData → ScriptData → Type 0
-AddsSet true set old new = with_set old set ≡ Some new
-AddsSet false set old new = with_set old set ≡ None
+AddsSet true set old new = with_next_set old set ≡ Some new
+AddsSet false set old new = with_next_set old set ≡ None
 
 -- all were added, or one of them can't be
 abbrev pub AddsSets : Bool → List SetWords → ScriptData → ScriptData → Type 0
-AddsSets true sets old new = with_sets old sets ≡ Some new
-AddsSets false sets old new = with_sets old sets ≡ None
+AddsSets true sets old new = with_next_sets old sets ≡ Some new
+AddsSets false sets old new = with_next_sets old sets ≡ None

@@ -11,7 +11,7 @@ use Rattle.lt_live_c.specs.declared.service.Service.{Service}
 use Rattle.lt_live_c.specs.declared.content.Content.{Content}
 use Rattle.lt_live_c.specs.declared.content.Content.TheVariants as contents
 use Rattle.lt_live_c.specs.declared.limits.TheConstants.{MAX_BYTES}
-use Rattle.lt_live_c.specs.NewSets.{SetWords, with_sets}
+use Rattle.lt_live_c.specs.NewSets.{SetWords, with_next_sets}
 
 -- the numbers are in range, and the text isn't too long
 abbrev pub fits_for_c : List ℕ → ℕ → ℕ → Bool
@@ -32,7 +32,7 @@ IsOpenedFrom text limit places s =
 -- those of this script with further sets
 abbrev pub IsOpenedWith : List ℕ → List SetWords → ℕ → ℕ → Service → Type 0
 IsOpenedWith text sets limit places s =
-    (script whole : ScriptData) × (read_of text ≡ Ok script) × (with_sets script sets ≡ Some whole)
+    (script whole : ScriptData) × (read_of text ≡ Ok script) × (with_next_sets script sets ≡ Some whole)
     × IsOpenedOf whole limit places s
 
 abbrev pub HandleOpened : List ℕ → ℕ → ℕ → Option Content → Type 0
@@ -51,7 +51,7 @@ pub record TextRefused (code : ℕ) (text : List ℕ) : Type 0 where
 -- why it has no further sets
 pub record SetsRefused (code : ℕ) (sets : List SetWords) (script : ScriptData) : Type 0 where
   pub too_many : code ≡ TOO_MANY → MAX_SETS_OF_SERVICE < length script.sets + length sets
-  pub bad_set : code ≡ BAD_SET → with_sets script sets ≡ None
+  pub bad_set : code ≡ BAD_SET → with_next_sets script sets ≡ None
   pub only : (code ≡ TOO_MANY) ⊎ ((code ≡ BAD_SET) ⊎ (code ≡ NO_MEMORY))
 
 -- why nothing was opened
@@ -67,6 +67,6 @@ pub record OpenSetsRefused (code : ℕ) (text : List ℕ) (sets : List SetWords)
   pub too_many : code ≡ TOO_MANY
       → (script : ScriptData) × (read_of text ≡ Ok script) × (MAX_SETS_OF_SERVICE < length script.sets + length sets)
   pub bad_set : code ≡ BAD_SET
-      → (script : ScriptData) × (read_of text ≡ Ok script) × (with_sets script sets ≡ None)
+      → (script : ScriptData) × (read_of text ≡ Ok script) × (with_next_sets script sets ≡ None)
   pub only : (code ≡ BAD_ARGUMENT)
       ⊎ ((code ≡ BAD_SCRIPT) ⊎ ((code ≡ TOO_MANY) ⊎ ((code ≡ BAD_SET) ⊎ (code ≡ NO_MEMORY))))

@@ -23,8 +23,8 @@ set_alone name = record { name = name; parent = [] }
 abbrev pub two_more : List SetWords
 two_more = set_with (codes "t") (codes "s") ∷ set_alone (codes "u") ∷ []
 
-abbrev pub three_sets : ScriptData
-three_sets = record client_script {
+abbrev pub three_set_script : ScriptData
+three_set_script = record client_script {
   sets =
       record { name = codes "s"; family = 0 } ∷
       record { name = codes "t"; family = 0 } ∷
@@ -35,7 +35,7 @@ three_sets = record client_script {
 -- this is so of what C is told of a name at a session of the script with these sets
 abbrev pub AfterName : List ℕ → (ℕ → ℕ → ℕ → Type 0) → Type 0
 AfterName name Told =
-    (s : Session) (code was set : ℕ) → s.script ≡ three_sets
+    (s : Session) (code was set : ℕ) → s.script ≡ three_set_script
     → HandleTellsSet (Some (contents.Session s)) name code was set → Told code was set
 
 -- a set's number by its name
@@ -53,7 +53,7 @@ NeverOpened sets = (new : Option Content) → HandleOpenedWith client_text sets 
 -- what was opened with further sets; and why nothing was
 pub record OpensSetsTold : Type 0 where
   pub opened : (new : Option Content) → HandleOpenedWith client_text two_more 9 2 new
-      → OfService new (λ s. IsOpen three_sets 9 2 576460752303423488 s.stations.items s.sessions.items)
+      → OfService new (λ s. IsOpen three_set_script 9 2 576460752303423488 s.stations.items s.sessions.items)
   pub name_of_set : NeverOpened (set_alone (codes "s") ∷ [])
   pub name_of_client : NeverOpened (set_alone (codes "a") ∷ [])
   pub no_name : NeverOpened (set_alone (codes "7") ∷ [])

@@ -7,7 +7,7 @@ ghost use Rattle.lt_live.specs.Stations.{IsOpen, most_share};
 ghost use Rattle.lt_live.specs.Live.{LiveScript};
 ghost use Rattle.lt_live.specs.declared.finishing.FinishError.TheVariants as errors;
 ghost use Rattle.lt_live_c.specs.Journals.{IsJournalOfService, SomeForgot, HaveTooMany};
-ghost use Rattle.lt_live_c.specs.NewSets.{set_words, with_sets};
+ghost use Rattle.lt_live_c.specs.NewSets.{words_of_set, with_next_sets};
 ghost use Rattle.lt_live_c.specs.Opening.{IsOpenedFrom, OpenRefused, IsOpenedWith, OpenSetsRefused, IsOpenedOf, fits_for_c, TextRefused, SetsRefused};
 ghost use Rattle.lt_live_c.specs.Serving.{has_all};
 ghost use Rattle.lt_live_c.specs.Taking.{TakesFirstStation, TakesFirstSession};
@@ -52,10 +52,10 @@ impl Service {
         limit: u64,
         places: u32,
     ) -> Result<Service, u32>
-        ensures opened { IfOk result (λ s. IsOpenedWith text.now (map set_words sets.now) limit places s) }
+        ensures opened { IfOk result (λ s. IsOpenedWith text.now (map words_of_set sets.now) limit places s) }
         ensures whole { IfOk result (λ s. LiveScript s.stations.items s.sessions.items) }
         ensures refused { IfErr result (λ code.
-            OpenSetsRefused code text.now (map set_words sets.now) limit places) }
+            OpenSetsRefused code text.now (map words_of_set sets.now) limit places) }
     {
         if !fits(text, limit, places) {
             return Err(BAD_ARGUMENT);
@@ -161,8 +161,8 @@ fn script_of(alloc: Global, text: &[u8]) -> Result<Script, u32>
 
 // The script with these sets behind its own.
 fn with_sets(mut script: Script, sets: &[NewSet<'_>]) -> Result<Script, u32>
-    ensures sets { IfOk result (λ made. with_sets script (map set_words sets.now) ≡ Some made) }
-    ensures refused { IfErr result (λ code. SetsRefused code (map set_words sets.now) script) }
+    ensures sets { IfOk result (λ made. with_next_sets script (map words_of_set sets.now) ≡ Some made) }
+    ensures refused { IfErr result (λ code. SetsRefused code (map words_of_set sets.now) script) }
 {
     let room = MAX_SETS_OF_SERVICE - script.sets();
     if sets.len() > room as usize {

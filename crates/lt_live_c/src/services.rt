@@ -2,7 +2,7 @@
 ghost use Rattle.std.specs.Prelude.{◌≡◌, ◌≢◌, None, IsSome, map};
 ghost use Rattle.lt_live_c.specs.Taking.{IsWholeHandle, IsOfOther, HandleTakesStation, HandleTakesSession, HandleHasNoStation, HandleHasNoSession, HandleGives, HandleKeeps, HandleGiveRefused};
 ghost use Rattle.lt_live_c.specs.Serving.{IsWholeHandleIfAll, HandleTellsServed, HandleNotTold};
-ghost use Rattle.lt_live_c.specs.NewSets.{set_words};
+ghost use Rattle.lt_live_c.specs.NewSets.{words_of_set};
 ghost use Rattle.lt_live_c.specs.Opening.{HandleOpened, OpenRefused, HandleOpenedWith, OpenSetsRefused};
 ghost use Rattle.lt_live_c.specs.Journals.{HandleFinishes, HandleNotFinished};
 
@@ -52,10 +52,10 @@ pub extern "C" fn lockrun_open_sets(
     places: u32,
     service: &mut Handle,
 ) -> u32
-    ensures opened { result ≡ OK → HandleOpenedWith text.now (map set_words sets.now) limit places service.new.value }
+    ensures opened { result ≡ OK → HandleOpenedWith text.now (map words_of_set sets.now) limit places service.new.value }
     ensures whole { result ≡ OK → IsWholeHandle service.new.value }
     ensures keeps { result ≢ OK → service.new.value ≡ service.old.value }
-    ensures refused { result ≢ OK → OpenSetsRefused result text.now (map set_words sets.now) limit places }
+    ensures refused { result ≢ OK → OpenSetsRefused result text.now (map words_of_set sets.now) limit places }
 {
     let Ok(room) = room(alloc) else {
         return NO_MEMORY;

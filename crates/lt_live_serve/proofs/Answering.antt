@@ -15,7 +15,7 @@ use Rattle.lt_live_serve.specs.declared.limits.TheConstants.{MAX_INPUT}
 use Rattle.lt_live_serve.specs.declared.served.Served.{Served}
 use Rattle.lt_live_serve.specs.declared.status.Status.{Status}
 use Rattle.lt_live_serve.specs.declared.status.Status.TheVariants.{Done, Stuck, Usage, Refused, TooLong, ReadFault, WriteFault, NoMemory, Cut, Share}
-use Rattle.lt_live_serve.specs.Status.{outcome_of, status_of_end}
+use Rattle.lt_live_serve.specs.Status.{outcome_of, status_by_end}
 use Rattle.lt_live_serve.specs.Serves.{Serves, Did, Ends, GoesWell, IsUnfit, IsGood}
 use Rattle.lt_call.specs.Scripts.{DenotesOrdered}
 
@@ -179,7 +179,7 @@ usage_serves state held write_faults words answer source sink some is no_run no_
     did = subst (λ (s : Status). Did s (state source).left answer.run.entries answer.polled.items (held sink) (held sink)) (sym is) (no_run, no_reply, refl)
 
 -- what was written of each ending
-pub end_is_ending : (end : Ending) → IsEnding (outcome_of (status_of_end end))
+pub end_is_ending : (end : Ending) → IsEnding (outcome_of (status_by_end end))
 end_is_ending ending.Done = tt
 end_is_ending ending.Stuck = tt
 end_is_ending (ending.Cut node) = tt

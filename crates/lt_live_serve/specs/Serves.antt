@@ -24,7 +24,7 @@ use Rattle.lt_call.specs.Outcomes.{WritesNothing, SaysOfSource, SaysOfSink}
 use Rattle.lt_live_serve.specs.declared.status.Status.{Status}
 use Rattle.lt_live_serve.specs.declared.status.Status.TheVariants.{Refused, NoMemory, Done, Stuck, Usage, WriteFault, Cut, Share}
 use Rattle.lt_live_serve.specs.declared.limits.TheConstants.{MOVES, MAX_INPUT}
-use Rattle.lt_live_serve.specs.Status.{cut_of, outcome_of}
+use Rattle.lt_live_serve.specs.Status.{cut_node, outcome_of}
 use Rattle.lt_live_serve.specs.declared.served.Served.{Served}
 
 -- all that these commands name is of the script and of its version
@@ -91,7 +91,7 @@ pub record Journals (end : Ending) (left : Option (List ℕ)) (run : List Logged
   pub live : LiveRun end script run polled
   -- it wasn't cut
   pub never_cut : (node : ℕ) → end ≢ ending.Cut node
-  pub journal : text ≡ text_of script run (cut_of end)
+  pub journal : text ≡ text_of script run (cut_node end)
 
 -- All that the top call says of an answer: what was written, why the answer comes, and what it says of the source and the sink.
 

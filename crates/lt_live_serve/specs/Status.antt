@@ -22,22 +22,22 @@ outcome_of NoMemory = outcome.NoMemory
 outcome_of (Cut node) = outcome.Cut
 outcome_of (Share client) = outcome.Share
 
-abbrev pub status_text : Status → List ℕ
-status_text Done = []
-status_text Stuck = []
-status_text Usage = codes "locklive: usage: locklive"
-status_text (Refused fault) = codes "locklive: " ++ text_of_fault fault
-status_text (Cut node) = codes "locklive: cut at node " ++ decimal node
-status_text (Share client) = codes "locklive: too many commands of client " ++ decimal client
-status_text other = codes "locklive: " ++ fixed_text (outcome_of other)
+abbrev pub line_of_status : Status → List ℕ
+line_of_status Done = []
+line_of_status Stuck = []
+line_of_status Usage = codes "locklive: usage: locklive"
+line_of_status (Refused fault) = codes "locklive: " ++ text_of_fault fault
+line_of_status (Cut node) = codes "locklive: cut at node " ++ decimal node
+line_of_status (Share client) = codes "locklive: too many commands of client " ++ decimal client
+line_of_status other = codes "locklive: " ++ fixed_text (outcome_of other)
 
 -- the node at which the run was cut
-abbrev pub cut_of : Ending → Option ℕ
-cut_of (ending.Cut node) = Some node
-cut_of other = None
+abbrev pub cut_node : Ending → Option ℕ
+cut_node (ending.Cut node) = Some node
+cut_node other = None
 
 -- how a run ended, as a status
-abbrev pub status_of_end : Ending → Status
-status_of_end ending.Done = Done
-status_of_end ending.Stuck = Stuck
-status_of_end (ending.Cut node) = Cut node
+abbrev pub status_by_end : Ending → Status
+status_by_end ending.Done = Done
+status_by_end ending.Stuck = Stuck
+status_by_end (ending.Cut node) = Cut node

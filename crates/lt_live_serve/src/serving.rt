@@ -8,7 +8,7 @@ ghost use Rattle.lt_live_serve.specs.Status.{outcome_of};
 use crate::live::live_run;
 use crate::reading::read_shared;
 use crate::served::{Made, Served};
-use crate::status::{Status, cut_of};
+use crate::status::{Status, cut_node};
 use lt_io::{Sink, Source, write_all};
 use lt_journal::write;
 use lt_merge::Run;
@@ -56,7 +56,7 @@ fn make<R: Threads + Sync, S: Source, G: Gate>(
     let Ok(live) = live_run(rt, alloc, &script, gate) else {
         return Err(Status::NoMemory);
     };
-    match write(alloc, &script, &live.run, cut_of(live.ending)) {
+    match write(alloc, &script, &live.run, cut_node(live.ending)) {
         Ok(text) => Ok(Made {
             ending: live.ending,
             run: live.run,

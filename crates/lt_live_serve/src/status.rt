@@ -1,5 +1,5 @@
 ghost use Rattle.std.specs.Prelude.{◌≡◌, ◌≢◌, ◌↔◌, [], IsTrue};
-ghost use Rattle.lt_live_serve.specs.Status.{status_text, cut_of};
+ghost use Rattle.lt_live_serve.specs.Status.{line_of_status, cut_node};
 
 use lt_call::{Outcome, Status as CallStatus};
 use lt_script::ScriptFault;
@@ -31,7 +31,7 @@ pub enum Status {
 impl Status {
     /// Whether the program writes a line on standard error.
     pub fn has_line(&self) -> bool
-        ensures { IsTrue result ↔ (status_text self.now ≢ []) }
+        ensures { IsTrue result ↔ (line_of_status self.now ≢ []) }
     {
         self.outcome().has_line()
     }
@@ -71,9 +71,9 @@ impl CallStatus for Status {
 }
 
 impl From<Ending> for Status {
-    ghost use Rattle.lt_live_serve.specs.Status.{status_of_end};
+    ghost use Rattle.lt_live_serve.specs.Status.{status_by_end};
 
-    ghost from_gives = { λ ending status. status ≡ status_of_end ending };
+    ghost from_gives = { λ ending status. status ≡ status_by_end ending };
 
     fn from(ending: Ending) -> Status {
         match ending {
@@ -87,9 +87,9 @@ impl From<Ending> for Status {
 /// The line that the program writes on standard error, without its line end; empty where it writes none.
 impl fmt::Display for Status {
     ghost use Rattle.std.specs.Prelude.{Some};
-    ghost use Rattle.lt_live_serve.specs.Status.{status_text};
+    ghost use Rattle.lt_live_serve.specs.Status.{line_of_status};
 
-    ghost output = { λ status. Some (status_text status) };
+    ghost output = { λ status. Some (line_of_status status) };
 
     fn fmt<W: fmt::Write>(&self, f: &mut fmt::Formatter<W>) -> fmt::Result {
         match self {
@@ -109,8 +109,8 @@ impl fmt::Display for Status {
 }
 
 /// The node at which the run was cut.
-pub(crate) fn cut_of(ending: Ending) -> Option<u8>
-    ensures { result ≡ cut_of ending }
+pub(crate) fn cut_node(ending: Ending) -> Option<u8>
+    ensures { result ≡ cut_node ending }
 {
     match ending {
         Ending::Cut { node } => Some(node),
