@@ -14,8 +14,7 @@ scheduled (Drawn numbers) count = ((draw_of count numbers).0, Drawn (draw_of cou
 
 -- the entry is that of the enabled move at this place
 abbrev pub IsAt : ScriptData → World → ℕ → Logged → Type 0
-IsAt script w place entry =
-    (turn : Turn) × (pick script w place ≡ Some turn) × (entry ≡ logged script w turn.node turn.step)
+IsAt script w k entry = (turn : Turn) × (pick script w k ≡ Some turn) × (entry ≡ logged script w turn.node turn.step)
 
 -- each entry is that of the move whose place the schedule gives, from world w on
 abbrev pub AreInOrderFrom : ScriptData → World → Schedule → List Logged → Type 0

@@ -41,8 +41,7 @@ pub record GoesWell (asked : Option Command) (answer : Status) (before after : S
 
 -- where nothing goes wrong, the command is answered so
 abbrev pub IsComplete : Option Command → Status → SourceState → SourceState → ℕ → ℕ → Type 0
-IsComplete asked answer before after writes_before writes_after =
-    (well : GoesWell asked answer before after writes_before writes_after) → IsAnswered well.command answer
+IsComplete asked answer before after w v = (well : GoesWell asked answer before after w v) → IsAnswered well.command answer
 
 -- That every run comes to rest, where a node may make more moves than any run has.
 

@@ -60,12 +60,12 @@ pub record Soaks (seed moves : ℕ) (ending : Status) (run : List Logged) (text 
   pub far : GoesFar moves (greatest_script seed) run
   pub told : text ≡ soak_text (greatest_script seed) run (cut_of ending)
 
--- the script that is made from the seed, and no run
-abbrev pub Prints : ℕ → ℕ → ℕ → ℕ → Status → List Logged → List ℕ → Type 0
-Prints nodes clients commands seed ending run text =
-    (ending ≡ Done) × (run ≡ []) × (text ≡ print_of (script_of nodes clients commands seed))
+-- the script, and no run
+abbrev pub Prints : ScriptData → Status → List Logged → List ℕ → Type 0
+Prints script ending run text = (ending ≡ Done) × (run ≡ []) × (text ≡ print_of script)
 
--- the input is a script and the journal of a run of it that ended at rest, which is the answer's, and `ok` with the number of its moves is written
+-- the input is a script and the journal of a run of it that ended at rest, which is the answer's, and `ok` with the number
+-- of its moves is written
 pub record Checks (ending : Status) (left : Option (List ℕ)) (run : List Logged) (text : List ℕ) : Type 0 where
   pub done : ending ≡ Done
   pub script : ScriptData
@@ -95,7 +95,7 @@ pub record TellsOrder (ending : Status) (left : Option (List ℕ)) (run : List L
 abbrev pub JournalsBy : ℕ → Command → Status → Option (List ℕ) → List Logged → List ℕ → Type 0
 JournalsBy moves SimFirst ending left run text = JournalsInOrder First moves ending left run text
 JournalsBy moves (Sim seed) ending left run text = JournalsInOrder (Drawn (seeded seed)) moves ending left run text
-JournalsBy moves (Make nodes clients commands seed) ending left run text = Prints nodes clients commands seed ending run text
+JournalsBy moves (Make nodes clients commands seed) ending left run text = Prints (script_of nodes clients commands seed) ending run text
 JournalsBy moves Check ending left run text = Checks ending left run text
 JournalsBy moves Run ending left run text = JournalsThreads moves ending left run text
 JournalsBy moves (Soak seed) ending left run text = Soaks seed moves ending run text

@@ -1,4 +1,5 @@
 ghost use Rattle.std.specs.Prelude.{◌≡◌, true, IfOk};
+ghost use Rattle.lt_gen.specs.Generator.{script_of};
 ghost use Rattle.lt_gen.specs.Sizes.{can_make};
 ghost use Rattle.lt_serve.specs.TopCall.{Prints};
 
@@ -17,7 +18,8 @@ pub(crate) fn printed(
     seed: u64,
 ) -> Result<Made, AllocError>
     requires possible { can_make nodes clients commands ≡ true }
-    ensures { IfOk result (λ made. Prints nodes clients commands seed made.ending made.run.entries made.text.items) }
+    ensures { IfOk result (λ made. Prints (script_of nodes clients commands seed)
+        made.ending made.run.entries made.text.items) }
 {
     let script = lt_gen::script(alloc, nodes, clients, commands, seed)?;
     let text = print(alloc, &script)?;
