@@ -16,7 +16,7 @@ use Rattle.lt_live.specs.Seats.{IsSeat, KnowAll, LooksBeside, HasToldAll}
 use Rattle.lt_live.specs.Stations.{IsSeatOf, StationData, AreOthers, IsNewSession, HasSeat, runner_of, SeatsBefore, Opens, AreSeatless, HaveNoCommands, IsStation, IsSeated, SeatLooks}
 use Rattle.lt_live.specs.declared.ends.Session.{Session}
 use Rattle.lt_live.specs.declared.limits.TheConstants.{LETTER_PLACES}
-use Rattle.lt_live.specs.Words.{known_commands, outbox_replies, IsSeatOf, command_held, known_replies}
+use Rattle.lt_live.specs.Words.{known_commands, outbox_replies, AreTwoEnds, command_held, known_replies}
 use Rattle.lt_live.proofs.SeatLists.{set_here, set_other, pushed, last_here, stays_here, none_here}
 use Rattle.lt_live.proofs.KeptStations.{seat_of, Stays, station_from}
 
@@ -58,7 +58,7 @@ pub record Adds (script : ScriptData) (capacity share n place : ℕ) (x y : Stat
   pub seats : y.seats ≡ x.seats ++ seat ∷ []
   pub new : IsNewSession script capacity share n s
   pub place_is : s.place ≡ length x.seats
-  pub link : IsSeatOf s seat
+  pub link : AreTwoEnds s seat
   pub places : producer_capacity seat.replies ≡ capacity
   pub commands : known_commands seat ≡ []
   pub waits : outbox_replies seat ≡ []
@@ -242,11 +242,11 @@ station_set p seats place x y h here client now = station_from p p seats (slice_
 
 -- what is found at the place of the session
 pub seat_found : (seats : List Seat) (place : ℕ) (d : Seat) (s : Session) (seated : IsSeated s seats) → place ≡ s.place → d ≡ slice_index_or seats place d
-    → (slice_get seats s.place ≡ Some d) × IsSeatOf s d
+    → (slice_get seats s.place ≡ Some d) × AreTwoEnds s d
 seat_found seats place d s seated at found =
     let inside : place < length seats = subst (λ (k : ℕ). k < length seats) (sym at) (slice_get_within seats s.place seated.seat seated.here) in
     let there : slice_get seats s.place ≡ Some d = ap (slice_get seats) (sym at) ∙ slice_get-get_or seats place d inside ∙ ap Some (sym found) in
-    (there, subst (λ (x : Seat). IsSeatOf s x) (same_Some seated.seat d (sym seated.here ∙ there)) seated.link)
+    (there, subst (λ (x : Seat). AreTwoEnds s x) (same_Some seated.seat d (sym seated.here ∙ there)) seated.link)
 
 pub seat_inside : (seats : List Seat) (place : ℕ) (s : Session) → IsSeated s seats → place ≡ s.place → place < length seats
 seat_inside seats place s seated at = subst (λ (k : ℕ). k < length seats) (sym at) (slice_get_within seats s.place seated.seat seated.here)
@@ -258,7 +258,7 @@ station_looked p seats place s t d y h at here looks =
     station_set p seats place d y h there looks.seat.client (seat_of_looked p s t d y (h.each place d there) looks)
 
 pub seat_looked : (log : List Logged) (seats : List Seat) (place : ℕ) (s t : Session) (d y : Seat) → place ≡ s.place → slice_get seats s.place ≡ Some d
-    → IsSeatOf t y → KnowAll t y → LooksBeside log s t d y → HasToldAll log y ⊎ (0 < length (known_replies t))
+    → AreTwoEnds t y → KnowAll t y → LooksBeside log s t d y → HasToldAll log y ⊎ (0 < length (known_replies t))
     → SeatLooks log s t seats (slice_set seats place y)
 seat_looked log seats place s t d y at here link beside looks moves = record {
   x = d;

@@ -16,7 +16,7 @@ use Rattle.lt_threads.specs.Meeting.{EachIs}
 use Rattle.lt_live.specs.declared.ends.Session.{Session}
 use Rattle.lt_live.specs.declared.ends.Seat.{Seat}
 use Rattle.lt_live.specs.declared.limits.TheConstants.{LETTER_PLACES}
-use Rattle.lt_live.specs.Words.{SameSession, IsSeatOf}
+use Rattle.lt_live.specs.Words.{SameSession, AreTwoEnds}
 use Rattle.lt_live.specs.Stations.{StationData, IsStation, StationTurns, StaySeated, runner_of, IsSeated, SeatLooks}
 use Rattle.lt_live.specs.Live.{GoesOn, StationGoesOn, EachStation, OpenedAreLive, LiveLasts, OneStationLasts, OneSessionLasts, AreLive, ServedBy, SaysSame, ServedAt, SettlesAt, Settling, Settled}
 use Rattle.lt_live.proofs.Telling.{session_stays, link_seat, is_settled}
@@ -140,7 +140,7 @@ look_stays log s t old new h u seated = elim (cases_eq u.place s.place) [
       record {
         seat = h.y;
         here = ap (slice_get new) at ∙ h.now;
-        link = link_seat u h.x h.y h.looks.seat (subst (λ (z : Seat). IsSeatOf u z) is seated.link);
+        link = link_seat u h.x h.y h.looks.seat (subst (λ (z : Seat). AreTwoEnds u z) is seated.link);
       }
   | inr apart ↦ record { seat = seated.seat; here = h.others u.place apart ∙ seated.here; link = seated.link }
 ]

@@ -19,7 +19,7 @@ use Rattle.lt_runner.specs.declared.parts.Parts.{Parts}
 use Rattle.lt_runner.specs.declared.turning.Turned.{Turned}
 use Rattle.lt_live.specs.declared.reply.Reply.{Reply}
 use Rattle.lt_live.specs.Seats.{reply_to, replies_in, lines_at, lines_up_to, IsSeat, KnowAll, LooksBeside, IsSettledSeat, lines_if, OnlyTells, TellsMove, TellsOn, TellsOutbox, TellsSeat, IsCursor}
-use Rattle.lt_live.specs.Words.{submitted, polled, known_commands, known_replies, command_held, told_to, outbox_replies, due_to, SameSeat, IsSeatOf, SameSession}
+use Rattle.lt_live.specs.Words.{submitted, polled, known_commands, known_replies, command_held, told_to, outbox_replies, due_to, SameSeat, AreTwoEnds, SameSession}
 use Rattle.lt_live.specs.Live.{IsReplyTo, PolledInTurn, NoMoreThanSubmitted}
 use Rattle.lt_live.proofs.Finished.{replies_of_lines}
 use Rattle.lt_live.specs.declared.ends.Session.{Session}
@@ -240,10 +240,10 @@ tells_further log a b d cursor told further =
 
 -- The two ends of a session stay the ends of one.
 
-pub link_seat : (s : Session) (x y : Seat) → SameSeat x y → IsSeatOf s x → IsSeatOf s y
+pub link_seat : (s : Session) (x y : Seat) → SameSeat x y → AreTwoEnds s x → AreTwoEnds s y
 link_seat s x y same link = (same.client ∙ link.0, search rules, search rules)
 
-link_session : (s t : Session) (x : Seat) → SameSession s t → IsSeatOf s x → IsSeatOf t x
+link_session : (s t : Session) (x : Seat) → SameSession s t → AreTwoEnds s x → AreTwoEnds t x
 link_session s t x same link = (link.0 ∙ sym same.client, search rules, search rules)
 
 same_gone : (x y : Seat) → HandMayGo x y → SameSeat x y

@@ -21,7 +21,7 @@ use Rattle.lt_threads.specs.Pushes.{IsFirstCrew}
 use Rattle.lt_live.specs.declared.ends.Session.{Session}
 use Rattle.lt_live.specs.declared.ends.Seat.{Seat}
 use Rattle.lt_live.specs.Seats.{IsCursorOf, TakesIn, TellsSeat, HasReadOn, IsSeat, KnowAll, LooksBeside, HasToldAll}
-use Rattle.lt_live.specs.Words.{known_replies, IsSeatOf, submitted, polled, known_commands, outbox_replies, places}
+use Rattle.lt_live.specs.Words.{known_replies, AreTwoEnds, submitted, polled, known_commands, outbox_replies, places}
 use Rattle.lt_live.specs.declared.limits.TheConstants.{LETTER_PLACES}
 
 abbrev pub has_set : ScriptData → ℕ → Bool
@@ -186,7 +186,7 @@ ForgetsCommands a b = b ≡ record a { runner = record a.runner { node = record 
 pub record IsSeated (s : Session) (seats : List Seat) : Type 0 where
   pub seat : Seat
   pub here : slice_get seats s.place ≡ Some seat
-  pub link : IsSeatOf s seat
+  pub link : AreTwoEnds s seat
 
 -- sessions keep their other ends
 abbrev pub StaySeated : List Seat → List Seat → Type 0
@@ -199,7 +199,7 @@ pub record SeatLooks (log : List Logged) (s t : Session) (old new : List Seat) :
   pub y : Seat
   pub before : slice_get old s.place ≡ Some x
   pub now : slice_get new s.place ≡ Some y
-  pub link : IsSeatOf t y
+  pub link : AreTwoEnds t y
   pub beside : KnowAll t y
   pub looks : LooksBeside log s t x y
   pub moves : HasToldAll log y ⊎ (0 < length (known_replies t))

@@ -46,8 +46,8 @@ command_held None = []
 command_held (Some command) = command ∷ []
 
 -- the two ends of one session
-abbrev pub IsSeatOf : Session → Seat → Type 0
-IsSeatOf s seat = (seat.client ≡ s.client) × IsPair s.commands seat.commands × IsPair seat.replies s.replies
+abbrev pub AreTwoEnds : Session → Seat → Type 0
+AreTwoEnds s seat = (seat.client ≡ s.client) × IsPair s.commands seat.commands × IsPair seat.replies s.replies
 
 -- the session of the same client, with the same ends of rings and the same share
 pub record SameSession (a b : Session) : Type 0 where

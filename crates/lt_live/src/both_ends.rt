@@ -3,7 +3,7 @@ ghost use Rattle.std.specs.Prelude.{◌≡◌, ◌≤◌, ◌<◌, ◌⊎◌, Li
 ghost use Rattle.lt_modes.specs.declared.command.Command.{Command};
 ghost use Rattle.lt_spec.specs.Holdings.{lines_of};
 ghost use Rattle.rtrb.specs.Ring.{producer_capacity};
-ghost use Rattle.lt_live.specs.Words.{known_replies, IsSeatOf};
+ghost use Rattle.lt_live.specs.Words.{known_replies, AreTwoEnds};
 ghost use Rattle.lt_live.specs.Seats.{IsCursorOf, KnowAll, LooksBeside, HasToldAll, IsSeat, IsSettledSeat};
 
 use crate::ends::{Seat, Session};
@@ -12,10 +12,10 @@ use lt_log::LongLog;
 /// Looks at both rings from both ends: replies that wait go into their ring as far as it takes them, and then each side
 /// knows all that is in its ring.
 pub(crate) fn beside(session: &mut Session, seat: &mut Seat, log: &LongLog)
-    requires link { IsSeatOf session.old seat.old }
+    requires link { AreTwoEnds session.old seat.old }
     requires cursor { IsCursorOf log.now seat.old }
     requires places { 0 < producer_capacity seat.old.replies }
-    ensures link { IsSeatOf session.new seat.new }
+    ensures link { AreTwoEnds session.new seat.new }
     ensures beside { KnowAll session.new seat.new }
     ensures looks { LooksBeside log.now.entries session.old session.new seat.old seat.new }
     ensures moves { HasToldAll log.now.entries seat.new ⊎ (0 < length (known_replies session.new)) }
@@ -28,7 +28,7 @@ pub(crate) fn beside(session: &mut Session, seat: &mut Seat, log: &LongLog)
 
 /// What a caller can be sure of at the end, for each list of commands that the node made the client's.
 pub(crate) fn settle(session: &mut Session, seat: &mut Seat, log: &LongLog)
-    requires link { IsSeatOf session.old seat.old }
+    requires link { AreTwoEnds session.old seat.old }
     requires cursor { IsCursorOf log.now seat.old }
     requires places { 0 < producer_capacity seat.old.replies }
     ensures { (list : List Command) → IsSeat list log.now.entries seat.old.client seat.old → IsSettledSeat list (lines_of log.now.entries) seat.old.client session.old session.new seat.new }

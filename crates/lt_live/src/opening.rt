@@ -1,7 +1,7 @@
 // New sessions.
 ghost use Rattle.std.specs.Prelude.{◌≡◌, ◌<◌, [], length, IfOk};
 ghost use Rattle.rtrb.specs.Ring.{producer_capacity};
-ghost use Rattle.lt_live.specs.Words.{submitted, polled, known_replies, places, known_commands, outbox_replies, IsSeatOf};
+ghost use Rattle.lt_live.specs.Words.{submitted, polled, known_replies, places, known_commands, outbox_replies, AreTwoEnds};
 ghost use Rattle.lt_live.specs.Seats.{IsSeat};
 
 use crate::ends::{Seat, Session};
@@ -20,7 +20,7 @@ pub(crate) fn new_session(
     capacity: u32,
 ) -> Result<(Session, Seat), AllocError>
     requires { client < length script.now.clients }
-    ensures link { IfOk result (λ ends. IsSeatOf ends.0 ends.1) }
+    ensures link { IfOk result (λ ends. AreTwoEnds ends.0 ends.1) }
     ensures session { IfOk result (λ ends. (ends.0.script ≡ script.now) × (ends.0.client ≡ client) × (ends.0.place ≡ place) × (ends.0.left ≡ share) × (ends.0.share ≡ share)) }
     ensures fresh { IfOk result (λ ends. (submitted ends.0 ≡ []) × (polled ends.0 ≡ []) × (known_replies ends.0 ≡ [])) }
     ensures empty { IfOk result (λ ends. (known_commands ends.1 ≡ []) × (outbox_replies ends.1 ≡ [])) }
