@@ -12,7 +12,7 @@ use Rattle.lt_runner.specs.Kept.{HasAll}
 use Rattle.lt_threads.specs.Meeting.{HaveAll}
 use Rattle.lt_threads.specs.Pushes.{HasLimit}
 use Rattle.lt_live.specs.declared.ends.Session.{Session}
-use Rattle.lt_live.specs.Words.{SameSession, taken, outbox_replies, IsSeatOf}
+use Rattle.lt_live.specs.Words.{SameSession, taken, outbox_replies, AreTwoEnds}
 use Rattle.lt_live.specs.Live.{AreLive, StationGoesOn, EachStation}
 use Rattle.lt_live.specs.Stations.{runner_of, StationData, IsNewSession, equal_share, IsSeated, StaySeated, IsStation, StationTurns, EachSeat}
 use Rattle.lt_live.specs.Seats.{replies_in, KnowAll}
@@ -163,7 +163,7 @@ pub record IsBeside (script : ScriptData) (stations : List StationData) (client 
   pub here : slice_get stations (home script client) ≡ Some station
   pub seat : Seat
   pub at : slice_get station.seats c.session.place ≡ Some seat
-  pub link : IsSeatOf c.session seat
+  pub link : AreTwoEnds c.session seat
   pub beside : KnowAll c.session seat
 
 -- so it is of the first n callers
