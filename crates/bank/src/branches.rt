@@ -36,7 +36,7 @@ pub fn branch(number: u32) -> u32 {
 /// The set of an account.
 pub fn account(number: u32) -> u32 {
     let of_branch = number / BRANCHES % ACCOUNTS;
-    branch(number) + 1 + of_branch
+    branch(number).saturating_add(1 + of_branch)
 }
 
 fn add(script: &mut Script, name: &str, parent: Option<u32>) -> Result<u32> {

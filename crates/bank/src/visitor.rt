@@ -6,7 +6,7 @@ use lt_live_callers::Caller;
 use lt_modes::{Command, Mode};
 
 // How many errands a visitor makes, and how many commands each takes.
-const ERRANDS: u32 = 25;
+const ERRANDS: u32 = 8;
 
 const PARTS: u32 = 4;
 
@@ -38,7 +38,10 @@ impl Visitor {
     pub fn new(client: u16, seed: u64) -> Visitor {
         Visitor {
             client,
-            draws: Draws::new(seed.wrapping_add(u64::from(client) << 32)),
+            draws: Draws::new(
+                seed.wrapping_mul(u64::from(CLIENTS))
+                    .wrapping_add(u64::from(client)),
+            ),
             errand: 0,
             account: 0,
             given: 0,
@@ -62,7 +65,7 @@ impl Visitor {
             16..18 => Errand::Tries { mode: Mode::Write },
             18..21 => Errand::Upgrade,
             number => Errand::Close {
-                client: (self.client + NODES * (number % 2) as u16) % CLIENTS,
+                client: self.client.wrapping_add(NODES * (number % 2) as u16) % CLIENTS,
             },
         }
     }
@@ -79,7 +82,7 @@ impl Visitor {
             },
             Errand::Tries { mode } => match part {
                 0..3 => Command::Try {
-                    set: account(self.account + part * BRANCHES),
+                    set: account(self.account.wrapping_add(part * BRANCHES)),
                     mode,
                 },
                 _ => drop_all(self.client, set),
