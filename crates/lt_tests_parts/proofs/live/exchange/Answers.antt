@@ -7,12 +7,12 @@ use Rattle.lt_live.proofs.Settling.{live_lasts, station_itself, same_sessions}
 use Rattle.lt_tests_parts.proofs.live.exchange.Goals as goal
 
 pub poll_first-requires : goal.poll_first-requires
-poll_first-requires c =
+poll_first-requires g c =
     subst (λ (n : ℕ). 0 < n) (sym (alike_len SameSession c.args.sessions.now.items c.submit_first.new.sessions.items c.submit_first.ensures))
     (search rules)
 
 pub returns : goal.returns
-returns c = (
+returns g c = (
   c.requires.0,
   live_lasts c.requires.0 c.args.stations.now.items c.turn_first.new.stations.items c.args.sessions.now.items c.poll_first.new.sessions.items c.requires.1
       c.turn_first.ensures
