@@ -65,6 +65,7 @@ static uint32_t reply(lockrun_session *session) {
 static const char *text = "nodes 2\nset a\nset b with a\nclient ann at 0\nclient ben at 1\nann lock a read\n";
 
 static void opening(void) {
+    const lockrun_new_set more = new_set("c", "a");
     IS(open_text("nodes 0\n", 100, 2), LOCKRUN_BAD_SCRIPT);
     IS(open_text("", 100, 2), LOCKRUN_BAD_SCRIPT);
     IS(open_text(text, 0, 2), LOCKRUN_BAD_ARGUMENT);
@@ -79,7 +80,7 @@ static void opening(void) {
     IS(open_set(text, "ann", ""), LOCKRUN_BAD_SET);
     IS(open_set(text, "c", "ann"), LOCKRUN_BAD_SET);
     IS(open_set(text, "c", "c"), LOCKRUN_BAD_SET);
-    IS(lockrun_open_sets((const uint8_t *)text, ((size_t)1 << 20) + 1, 0, 0, 100, 2, &service), LOCKRUN_BAD_ARGUMENT);
+    IS(lockrun_open_sets((const uint8_t *)text, ((size_t)1 << 20) + 1, &more, 1, 100, 2, &service), LOCKRUN_BAD_ARGUMENT);
     IS(service.at != 0, 0);
     IS(open_text(text, 14, 2), LOCKRUN_OK);
 }
