@@ -135,15 +135,15 @@ impl Caller for Visitor {
         if reply.is_some() {
             self.told = self.told.saturating_add(1);
         }
-        if self.told < self.given || self.given >= ERRANDS * PARTS {
+        let given = self.given;
+        if self.told < given || given >= ERRANDS * PARTS {
             return None;
         }
-        if self.given % PARTS == 0 {
+        if given % PARTS == 0 {
             self.draw_errand();
         }
-        let command = self.command(self.given % PARTS);
-        self.given += 1;
-        Some(command)
+        self.given = given + 1;
+        Some(self.command(given % PARTS))
     }
 
     fn is_done(&self) -> bool {
