@@ -5,5 +5,5 @@ use Rattle.lt_tests_parts.proofs.live.submit_first.Goals as goal
 
 pub returns : goal.returns
 returns g c =
-    alike_set SameSession session_itself c.args.sessions.now.items 0 c.index_mut.result.now c.submit.new.session
-    (session_found c.args.sessions.now.items 0 c.index_mut.result.now c.requires c.index_mut.ensures.value) c.submit.ensures
+    alike_set SameSession session_itself c.args.sessions.now.items 0 c.index_mut.result.now c.submit-taken.new.session
+    (session_found c.args.sessions.now.items 0 c.index_mut.result.now c.requires c.index_mut.ensures.value) c.submit-taken.ensures
