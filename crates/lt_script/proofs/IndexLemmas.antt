@@ -16,7 +16,7 @@ pub spot_inside : (spots : ℕ) (name : List ℕ) → 0 < spots → spot_of spot
 spot_inside spots name some = omega (arith, and_le_r (hash_of name) (spots - 1))
 
 -- the places before the one that a link is of have their spots as before
-link_stays : (at more : ℕ → ℕ) (spot place link : ℕ) → ((k : ℕ) → k < place → more k ≡ at k) → IsLink at spot place link → IsLink more spot place link
+pub link_stays : (at more : ℕ → ℕ) (spot place link : ℕ) → ((k : ℕ) → k < place → more k ≡ at k) → IsLink at spot place link → IsLink more spot place link
 link_stays at more spot place link same h = record {
   within = h.within;
   there = λ k e. same k (omega (arith, e, h.within)) ∙ h.there k e;

@@ -1,6 +1,7 @@
 pub mod ScriptLemmas
 pub mod NameLemmas
 pub mod IndexLemmas
+pub mod ChainLemmas
 pub mod FirstLineEnd
 pub mod OneModeLemmas
 pub mod FaultOrder

@@ -34,10 +34,10 @@ client_name_last : (clients : List ClientData) (x : ClientData) (client : ℕ) �
 client_name_last clients x client e = ap (λ k. name_of_client (slice_get (clients ++ x ∷ []) k)) e ∙ ap name_of_client (get_last clients x)
 
 -- the families of earlier sets stay, and the last set has its own
-family_front : (sets : List SetData) (x : SetData) (set : ℕ) → set < length sets → family_at (sets ++ x ∷ []) set ≡ family_at sets set
+pub family_front : (sets : List SetData) (x : SetData) (set : ℕ) → set < length sets → family_at (sets ++ x ∷ []) set ≡ family_at sets set
 family_front sets x set inside = ap family_of_set (get_front sets x set inside)
 
-family_last : (sets : List SetData) (x : SetData) (set : ℕ) → set ≡ length sets → family_at (sets ++ x ∷ []) set ≡ x.family
+pub family_last : (sets : List SetData) (x : SetData) (set : ℕ) → set ≡ length sets → family_at (sets ++ x ∷ []) set ≡ x.family
 family_last sets x set e = ap (family_at (sets ++ x ∷ [])) e ∙ ap family_of_set (get_last sets x)
 
 home_front : (clients : List ClientData) (x : ClientData) (client : ℕ) → client < length clients → home_at (clients ++ x ∷ []) client ≡ home_at clients client

@@ -1,6 +1,7 @@
 pub mod Fault
 pub mod Views
 pub mod ByName
+pub mod Families
 pub mod Forms
 pub mod Faults
 pub mod Reading

@@ -1,8 +1,10 @@
 ghost use Rattle.std.specs.Prelude.{◌≡◌, ◌<◌, ◌^◌, ◌++◌, ◌∷◌, [], ℕ, None, List, length, position, IfOk, IfSome, OnOk, OnErr};
 ghost use Rattle.std.specs.Str.{bytes_eq};
+ghost use Rattle.lt_script.specs.Index.{hash_of};
 
 mod chains;
 
+pub(crate) use crate::index::chains::hash;
 use crate::index::chains::{copied, linked, place_of, spot};
 use std::alloc::{AllocError, Global};
 use std::marker::Model;
@@ -77,25 +79,41 @@ impl<T: Named> Index<T> {
         &self.items
     }
 
-    /// The place of the item with this name.
+    /// The place of the item with this name, which has this hash.
     #[inline(always)]
-    pub(crate) fn place(&self, name: &[u8]) -> Option<u32>
+    pub(crate) fn place(&self, name: &[u8], hash: u32) -> Option<u32>
+        requires { hash ≡ hash_of name.now }
         ensures place { result ≡ position (λ x. bytes_eq (T.name_of x) name.now) self.now }
         ensures inside { IfSome result (λ place. place < length self.now) }
     {
-        place_of(&self.items, &self.lasts, &self.befores, name)
+        place_of(&self.items, &self.lasts, &self.befores, name, hash)
     }
 
-    /// Adds a last item.
-    pub(crate) fn push(&mut self, item: T) -> Result<(), AllocError>
+    /// Makes room for so many further items.
+    pub(crate) fn reserve(&mut self, more: u32) -> Result<(), AllocError>
+        ensures { self.new ≡ self.old }
+    {
+        let more = more as usize;
+        let count = self.items.len() + more;
+        if count > self.lasts.len() {
+            self.link_by(count.next_power_of_two())?;
+        }
+        self.items.reserve(more)?;
+        self.befores.reserve(more)?;
+        Ok(())
+    }
+
+    /// Adds a last item, whose name has this hash.
+    pub(crate) fn push(&mut self, item: T, hash: u32) -> Result<(), AllocError>
         requires new { position (λ x. bytes_eq (T.name_of x) (T.name_of item)) self.old ≡ None }
         requires few { length self.old < 2 ^ 31 }
+        requires hash { hash ≡ hash_of (T.name_of item) }
         ensures pushed { OnOk result (self.new ≡ self.old ++ item ∷ []) }
         ensures unchanged { OnErr result (self.new ≡ self.old) }
     {
         self.grow()?;
         let place = self.items.len();
-        let spot = spot(item.name(), self.lasts.len());
+        let spot = spot(hash, self.lasts.len());
         self.items.reserve(1)?;
         self.befores.push(self.lasts[spot])?;
         match self.items.push(item) {
@@ -108,14 +126,22 @@ impl<T: Named> Index<T> {
 
     // Makes twice as many spots, where there are as many items as spots.
     fn grow(&mut self) -> Result<(), AllocError>
-        requires { length self.old < 2 ^ 31 }
         ensures { self.new ≡ self.old }
     {
-        if self.items.len() < self.lasts.len() {
+        let count = self.items.len();
+        if count < self.lasts.len() {
             return Ok(());
         }
+        self.link_by(2 * count)
+    }
+
+    // Chains the items anew, by so many spots.
+    fn link_by(&mut self, spots: usize) -> Result<(), AllocError>
+        requires { 0 < spots }
+        ensures { self.new ≡ self.old }
+    {
         let alloc = *self.items.allocator();
-        let mut lasts = vec![in alloc; 0; 2 * self.items.len()]?;
+        let mut lasts = vec![in alloc; 0; spots]?;
         linked(&self.items, &mut lasts, &mut self.befores);
         self.lasts = lasts;
         Ok(())

@@ -15,6 +15,7 @@ mod one_mode;
 mod printing;
 mod reading;
 mod script;
+mod sets;
 
 pub use cutting::line_end;
 pub use fault::{Fault, ReadError, ScriptFault};

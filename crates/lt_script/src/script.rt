@@ -1,7 +1,8 @@
-ghost use Rattle.std.specs.Prelude.{◌≡◌, ◌⊎◌, ◌<◌, ◌≤◌, [], length, slice_get, IfOk};
+ghost use Rattle.std.specs.Prelude.{◌≡◌, ◌⊎◌, ◌<◌, ◌≤◌, [], length, slice_get, IfOk, IfSome, IfNone};
 ghost use Rattle.lt_modes.specs.Script.{set_name, family_at, client_name, home_at};
 ghost use Rattle.lt_spec.specs.Script.{IsScript, most_nodes, load_of};
 ghost use Rattle.lt_spec.specs.declared.limits.TheConstants.{MAX_NODES, MAX_NODES_OF_FIRST};
+ghost use Rattle.lt_script.specs.Families.{IsNextRelated, IsLastRelated};
 
 mod adding;
 mod by_name;
@@ -164,6 +165,19 @@ impl Script {
         ensures first { family_at self.now.sets result ≡ result }
     {
         self.parts.sets.items()[set as usize].family()
+    }
+
+    /// The next set of the set's family.
+    #[tactic(auto, using(crate::proofs::ChainLemmas::is_next_related, crate::proofs::ChainLemmas::is_last_related))]
+    pub fn next_related(&self, set: u32) -> Option<u32>
+        requires { set < length self.now.sets }
+        ensures next { IfSome result (IsNextRelated self.now set) }
+        ensures last { IfNone result (IsLastRelated self.now set) }
+    {
+        match self.parts.sets.next(set) {
+            0 => None,
+            next => Some(next),
+        }
     }
 
     pub fn client_name(&self, client: u16) -> &[u8]

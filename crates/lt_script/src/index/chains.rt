@@ -1,26 +1,28 @@
 // How the items of an index are chained by the spots of their names.
-ghost use Rattle.std.specs.Prelude.{◌≡◌, ◌<◌, ◌≤◌, ◌^◌, length, position, replicate, IfOk, IfSome};
+ghost use Rattle.std.specs.Prelude.{◌≡◌, ◌<◌, ◌≤◌, ◌^◌, ◌-◌, length, position, replicate, bit_and, IfOk, IfSome};
 ghost use Rattle.std.specs.Str.{bytes_eq};
-ghost use Rattle.lt_script.specs.Index.{hash_of, spot_of, spot_at, AreLinked, IsIndex};
+ghost use Rattle.lt_script.specs.Index.{hash_of, spot_at, AreLinked, IsIndex};
 
 use crate::index::Named;
 use std::alloc::{AllocError, Global};
 
-/// The spot of the name.
+/// The spot of a name with this hash.
 #[inline(always)]
 #[tactic(auto, using(crate::proofs::IndexLemmas::spot_inside))]
-pub(super) fn spot(name: &[u8], spots: usize) -> usize
+pub(super) fn spot(hash: u32, spots: usize) -> usize
     requires { 0 < spots }
-    ensures spot { result ≡ spot_of spots name.now }
+    ensures spot { result ≡ bit_and hash (spots - 1) }
     ensures inside { result < spots }
 {
-    hash(name) as usize & (spots - 1)
+    hash as usize & (spots - 1)
 }
 
-// By the factor 21 the numbers from 0 to 255 behind common words have nearly all a spot of their own.
+/// The hash of a name.
+///
+/// By the factor 21 the numbers from 0 to 255 behind common words have nearly all a spot of their own.
 #[inline(always)]
 #[tactic(auto, unfolding(crate::specs::Index::hash_of))]
-fn hash(name: &[u8]) -> u32
+pub(crate) fn hash(name: &[u8]) -> u32
     ensures { result ≡ hash_of name.now }
 {
     name.iter().fold(0, |hash: u32, byte| {
@@ -28,19 +30,21 @@ fn hash(name: &[u8]) -> u32
     })
 }
 
-/// The place of the item with this name.
+/// The place of the item with this name, which has this hash.
 #[inline(always)]
 pub(super) fn place_of<T: Named>(
     items: &[T],
     lasts: &[u32],
     befores: &[u32],
     name: &[u8],
+    hash: u32,
 ) -> Option<u32>
-    requires { IsIndex T.name_of items.now lasts.now befores.now }
+    requires index { IsIndex T.name_of items.now lasts.now befores.now }
+    requires hash { hash ≡ hash_of name.now }
     ensures place { result ≡ position (λ x. bytes_eq (T.name_of x) name.now) items.now }
     ensures inside { IfSome result (λ place. place < length items.now) }
 {
-    let mut link = lasts[spot(name, lasts.len())];
+    let mut link = lasts[spot(hash, lasts.len())];
     while link > 0 {
         let place = link - 1;
         if items[place as usize].name() == name {
@@ -56,13 +60,13 @@ pub(super) fn linked<T: Named>(items: &[T], lasts: &mut [u32], befores: &mut [u3
     requires some { 0 < length lasts.old }
     requires none { lasts.old ≡ replicate (length lasts.old) 0 }
     requires same { length befores.old ≡ length items.now }
-    requires few { length items.now < 2 ^ 31 }
+    requires few { length items.now ≤ 2 ^ 31 }
     ensures linked { AreLinked (spot_at T.name_of items.now (length lasts.new)) (length items.now) lasts.new befores.new }
     ensures spots { length lasts.new ≡ length lasts.old }
     ensures count { length befores.new ≡ length befores.old }
 {
     for place in 0..items.len() {
-        let spot = spot(items[place].name(), lasts.len());
+        let spot = spot(hash(items[place].name()), lasts.len());
         befores[place] = lasts[spot];
         lasts[spot] = place as u32 + 1;
     }

@@ -2,9 +2,11 @@
 ghost use Rattle.std.specs.Prelude.{◌≡◌, ◌<◌, ◌++◌, ◌∷◌, [], true, false, length, OnOk, OnErr, IfOk};
 ghost use Rattle.lt_spec.specs.Script.{is_name, IsFamilyOfNext, IsRequest, HasModesOf, most_clients, load_of, is_declared};
 ghost use Rattle.std.specs.Arc.{arc_value};
+ghost use Rattle.lt_script.specs.Index.{hash_of};
 ghost use Rattle.lt_spec.specs.declared.limits.TheConstants.{MAX_SETS_OF_SERVICE, MAX_CLIENTS_OF_NODE, MAX_COMMANDS_OF_SERVICE};
 
 use crate::declarations::{ClientDecl, SetDecl};
+use crate::index::hash;
 use crate::script::Script;
 use lt_modes::Command;
 use std::alloc::AllocError;
@@ -45,12 +47,43 @@ impl Script {
         }) }
         ensures unchanged { OnErr result (self.new ≡ self.old) }
     {
+        self.add_set_of(name, hash(name), family)
+    }
+
+    /// The same of a name with this hash.
+    pub(crate) fn add_set_of(
+        &mut self,
+        name: &[u8],
+        hash: u32,
+        family: u32,
+    ) -> Result<(), AllocError>
+        requires name { is_name name.now ≡ true }
+        requires new { is_declared self.old name.now ≡ false }
+        requires room { length self.old.sets < MAX_SETS_OF_SERVICE }
+        requires family { IsFamilyOfNext self.old.sets family }
+        requires hash { hash ≡ hash_of name.now }
+        ensures added { OnOk result (self.new ≡ record self.old {
+          sets = self.old.sets ++ record { name = name.now; family = family } ∷ [];
+        }) }
+        ensures unchanged { OnErr result (self.new ≡ self.old) }
+    {
         self.own_parts()?;
         let Some(parts) = Arc::get_mut(&mut self.parts) else {
             return Err(AllocError);
         };
-        parts.sets.push(SetDecl::new(name, family))?;
+        parts.sets.push(SetDecl::new(name, family), hash)?;
         Ok(())
+    }
+
+    /// Makes room for so many further sets.
+    pub fn reserve_sets(&mut self, more: u32) -> Result<(), AllocError>
+        ensures { self.new ≡ self.old }
+    {
+        self.own_parts()?;
+        let Some(parts) = Arc::get_mut(&mut self.parts) else {
+            return Err(AllocError);
+        };
+        parts.sets.reserve(more)
     }
 
     /// Adds a last client.
@@ -69,7 +102,7 @@ impl Script {
         let Some(parts) = Arc::get_mut(&mut self.parts) else {
             return Err(AllocError);
         };
-        parts.clients.push(ClientDecl::new(name, node))?;
+        parts.clients.push(ClientDecl::new(name, node), hash(name))?;
         Ok(())
     }
 

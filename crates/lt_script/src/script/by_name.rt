@@ -1,8 +1,10 @@
 // Sets that are asked for by name.
 ghost use Rattle.std.specs.Prelude.{◌≡◌, None, IfOk, IfSome, OnErr, false, true};
 ghost use Rattle.lt_spec.specs.Script.{set_number, IsFamilyOfNext};
+ghost use Rattle.lt_script.specs.Index.{hash_of};
 ghost use Rattle.lt_script.specs.ByName.{has_parent, family_with, new_set, set_by_name, after_name};
 
+use crate::index::hash;
 use crate::name::is_name;
 use crate::script::Script;
 use lt_spec::MAX_SETS_OF_SERVICE;
@@ -31,15 +33,22 @@ impl Script {
         ensures script { IfOk result (λ told. self.new ≡ after_name self.old name.now parent told) }
         ensures same { OnErr result (self.new ≡ self.old) }
     {
-        match self.set_number(name) {
+        let hash = hash(name);
+        match self.set_hashed(name, hash) {
             Some(set) => Ok(SetByName::Set(set)),
-            None => self.new_set(name, parent),
+            None => self.new_set(name, hash, parent),
         }
     }
 
-    // A set with a name that no set has.
-    fn new_set(&mut self, name: &[u8], parent: Option<u32>) -> Result<SetByName, AllocError>
+    // A set with a name that no set has, and which has this hash.
+    fn new_set(
+        &mut self,
+        name: &[u8],
+        hash: u32,
+        parent: Option<u32>,
+    ) -> Result<SetByName, AllocError>
         requires none { set_number self.old name.now ≡ None }
+        requires hash { hash ≡ hash_of name.now }
         ensures told { IfOk result (λ told. told ≡ new_set self.old name.now parent) }
         ensures script { IfOk result (λ told. self.new ≡ after_name self.old name.now parent told) }
         ensures same { OnErr result (self.new ≡ self.old) }
@@ -47,7 +56,7 @@ impl Script {
         if !is_name(name) {
             return Ok(SetByName::NoName);
         }
-        if self.client_number(name).is_some() {
+        if self.client_hashed(name, hash).is_some() {
             return Ok(SetByName::IsClient);
         }
         let Some(family) = self.family_with(parent) else {
@@ -57,7 +66,7 @@ impl Script {
         if set >= MAX_SETS_OF_SERVICE {
             return Ok(SetByName::TooMany);
         }
-        self.add_set(name, family)?;
+        self.add_set_of(name, hash, family)?;
         Ok(SetByName::Set(set))
     }
 

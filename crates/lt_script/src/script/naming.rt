@@ -1,7 +1,9 @@
 // Sets and clients by their names.
 ghost use Rattle.std.specs.Prelude.{◌≡◌, ◌<◌, length, IfSome};
 ghost use Rattle.lt_spec.specs.Script.{set_number, client_number, is_declared};
+ghost use Rattle.lt_script.specs.Index.{hash_of};
 
+use crate::index::hash;
 use crate::script::Script;
 
 impl Script {
@@ -11,7 +13,7 @@ impl Script {
         ensures number { result ≡ set_number self.now name.now }
         ensures inside { IfSome result (λ set. set < length self.now.sets) }
     {
-        self.parts.sets.place(name)
+        self.set_hashed(name, hash(name))
     }
 
     /// The client with this name.
@@ -20,16 +22,37 @@ impl Script {
         ensures number { result ≡ client_number self.now name.now }
         ensures inside { IfSome result (λ client. client < length self.now.clients) }
     {
-        match self.parts.clients.place(name) {
-            Some(client) => Some(client as u16),
-            None => None,
-        }
+        self.client_hashed(name, hash(name))
     }
 
     /// Whether a set or a client has this name.
     pub fn is_declared(&self, name: &[u8]) -> bool
         ensures { result ≡ is_declared self.now name.now }
     {
-        self.set_number(name).is_some() || self.client_number(name).is_some()
+        let hash = hash(name);
+        self.set_hashed(name, hash).is_some() || self.client_hashed(name, hash).is_some()
+    }
+
+    /// The set with this name, which has this hash.
+    #[inline(always)]
+    pub(crate) fn set_hashed(&self, name: &[u8], hash: u32) -> Option<u32>
+        requires { hash ≡ hash_of name.now }
+        ensures number { result ≡ set_number self.now name.now }
+        ensures inside { IfSome result (λ set. set < length self.now.sets) }
+    {
+        self.parts.sets.place(name, hash)
+    }
+
+    /// The client with this name, which has this hash.
+    #[inline(always)]
+    pub(crate) fn client_hashed(&self, name: &[u8], hash: u32) -> Option<u16>
+        requires { hash ≡ hash_of name.now }
+        ensures number { result ≡ client_number self.now name.now }
+        ensures inside { IfSome result (λ client. client < length self.now.clients) }
+    {
+        match self.parts.clients.place(name, hash) {
+            Some(client) => Some(client as u16),
+            None => None,
+        }
     }
 }

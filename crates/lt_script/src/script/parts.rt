@@ -2,8 +2,9 @@
 ghost use Rattle.std.specs.Prelude.{◌≡◌, [], IfOk};
 ghost use Rattle.lt_script.specs.Views.{DeclareTheSame};
 
-use crate::declarations::{ClientDecl, SetDecl};
+use crate::declarations::ClientDecl;
 use crate::index::Index;
+use crate::sets::Sets;
 use lt_modes::Command;
 use lt_spec::MAX_COMMANDS;
 use std::alloc::{AllocError, Global};
@@ -11,7 +12,7 @@ use std::alloc::{AllocError, Global};
 /// What a script and its copies declare: the sets and the clients.
 #[derive(Debug, Drop)]
 pub(crate) struct Parts {
-    pub(crate) sets: Index<SetDecl>,
+    pub(crate) sets: Sets,
     pub(crate) clients: Index<ClientDecl>,
 }
 
@@ -21,7 +22,7 @@ impl Parts {
         ensures clients { IfOk result (λ parts. parts.clients ≡ []) }
     {
         Ok(Parts {
-            sets: Index::new(alloc)?,
+            sets: Sets::new(alloc)?,
             clients: Index::new(alloc)?,
         })
     }

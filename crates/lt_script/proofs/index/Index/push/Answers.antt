@@ -1,4 +1,4 @@
-use Rattle.std.proofs.Common.{rules, ◌≡◌, ◌∙◌, ◌<◌, ◌^◌, ℕ, None, List, length, position, slice_index, sym, ap, subst, arith, bytes_eq}
+use Rattle.std.proofs.Common.{rules, ◌≡◌, ◌∙◌, ◌<◌, ◌^◌, ◌-◌, ℕ, None, List, length, position, slice_index, sym, ap, subst, arith, bit_and, bytes_eq}
 use Rattle.std.proofs.lemmas.List.{get_or_read}
 use Rattle.lt_script.specs.Index.{spot_of}
 use Rattle.lt_script.proofs.IndexLemmas.{index_pushed}
@@ -17,7 +17,7 @@ invariant_of-self-2 g c =
     let place : c.len-place.result ≡ length items = c.len-place.ensures ∙ search rules in
     let spots : c.len.result ≡ length lasts = c.len.ensures ∙ search rules in
     let spot : c.spot-spot.result ≡ spot_of (length lasts) (name_of x) =
-    c.spot-spot.ensures.spot ∙ ap (λ (n : ℕ). spot_of n c.name.result.now) spots ∙ ap (spot_of (length lasts)) c.name.ensures in
+    c.spot-spot.ensures.spot ∙ ap (λ (n : ℕ). bit_and c.args.hash (n - 1)) spots ∙ ap (λ (h : ℕ). bit_and h (length lasts - 1)) c.requires.hash in
     let within : c.spot-spot.result < length lasts = omega (arith, c.spot-spot.ensures.inside, spots) in
     let link : c.index.result.now ≡ slice_index lasts (spot_of (length lasts) (name_of x)) =
     get_or_read lasts c.spot-spot.result c.index.result.now within c.index.ensures 0 ∙ ap (slice_index lasts) spot in
