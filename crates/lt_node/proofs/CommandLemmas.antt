@@ -76,18 +76,6 @@ pub record AreTaken (script : ScriptData) (q k : ℕ) (lists clients : List Prog
   pub later : (client : ℕ) → k ≤ client → client < length lists → q ≤ home script client → progress_of lists client ≡ unstarted (commands_of script client)
   pub left : (client : ℕ) → client < length lists → q + 1 ≤ home script client → progress_of lists client ≡ unstarted (commands_of script client)
 
-pub none_taken : (script : ScriptData) (q : ℕ) (lists : List Progress) → ListsFrom script q lists → AreTaken script q 0 lists []
-none_taken script q lists have = record {
-  made = refl;
-  count = have.count;
-  each = λ client within. absurd (omega (arith, within));
-  later = λ client after within here. have.each client within here;
-  left = λ client within here. have.each client within (omega (arith, here));
-}
-
-pub all_taken : (script : ScriptData) (q k : ℕ) (lists clients : List Progress) → AreTaken script q k lists clients → ListsFrom script (q + 1) lists
-all_taken script q k lists clients taken = record { count = taken.count; each = taken.left }
-
 module _ (script : ScriptData) (q k : ℕ) (lists clients : List Progress) where
   -- the clients with one more, which is as it is at the start
   abbrev IsStart : ℕ → Progress → Type 0

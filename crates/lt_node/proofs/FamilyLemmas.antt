@@ -1,22 +1,23 @@
 -- What a command asks of a set.
-use Rattle.std.proofs.Common.{◌≡◌, ◌<◌, ◌≤◌, ℕ, List, length, slice_index_or, sum_by, arith, sym, subst, ◌+◌, ◌==◌, ◌++◌, [], ◌∷◌, Option, Some, None, drop, slice_set, refl, ap, ◌∙◌, append_assoc, if◌then◌else◌, Bool, true, false, All, append-nil}
+use Rattle.std.proofs.Common.{◌≡◌, ◌≢◌, ◌<◌, ◌≤◌, ◌-◌, ℕ, zero, suc, IfSome, IfNone, eq-eqb, eqb-true, ne_eqb, List, length, slice_index_or, sum_by, arith, sym, subst, ◌+◌, ◌==◌, [], ◌∷◌, Option, Some, None, drop, slice_set, refl, ap, ◌∙◌, append_assoc, if◌then◌else◌, Bool, true, false, All}
 use Rattle.std.proofs.lemmas.List.Elements.{All-head, All-rest}
 use Rattle.std.proofs.lemmas.List.Sums.{sum_by-cons}
 use Rattle.std.proofs.lemmas.Option.{slice_get-get_or}
-use Rattle.std.proofs.lemmas.List.{drop_more, drop_all, get_or_default}
+use Rattle.std.proofs.lemmas.List.{drop_more, get_or_default}
 use Rattle.lt_modes.specs.declared.stamp.Stamp.{Stamp}
 use Rattle.lt_modes.specs.Freezing.{places_from}
 use Rattle.lt_modes.specs.Script.{ScriptData, SetData, family_at, family_of_set}
 use Rattle.lt_modes.specs.State.{SetState, Made}
 use Rattle.lt_modes.specs.Modes.{locks_of}
 use Rattle.lt_lists.specs.Below.{put}
+use Rattle.lt_script.specs.Families.{IsNextRelated, IsLastRelated}
 use Rattle.lt_spec.specs.NodeMove.{family, related, NodeState, each_touched, touched}
 use Rattle.lt_desk.specs.DeskData.{OutData, FitsOut}
 use Rattle.lt_core.specs.CoreData.{CoreData, Does, HasRoom}
 use Rattle.lt_core.proofs.BoundLemmas.{commands_fit, ends_fit}
 use Rattle.lt_core.specs.declared.set_command.SetCommand.TheVariants as set_commands
 use Rattle.lt_core.specs.Bound.{RoomToSend}
-use Rattle.lt_node.specs.NodeData.{most_sent, first_core, untouched, with_sent, ending, with_sets, sets_in, SetsDo}
+use Rattle.lt_node.specs.NodeData.{most_sent, first_core, untouched, with_sent, ending, with_sets, sets_in}
 use Rattle.lt_node.specs.Sets.{AreSetsOf, SetDoes, SetsData, core_in, locks_by}
 use Rattle.lt_node.proofs.NodeLemmas.{put_read}
 use Rattle.lt_node.proofs.NodeSets.{other_core, sets_moved}
@@ -44,6 +45,82 @@ related_in script set k inside e = related_by script set k true inside e
 pub related_out : (script : ScriptData) (set k : ℕ) → k < length script.sets → (family_at script.sets k == family script set) ≡ false → related_from script set k ≡ related_from script set (k + 1)
 related_out script set k inside e = related_by script set k false inside e
 
+-- no set from one place up to the other is of the family
+pub record IsGap (sets : List SetData) (f from to : ℕ) : Type 0 where
+  pub later : from ≤ to
+  pub inside : to ≤ length sets
+  pub none : (k : ℕ) → from ≤ k → k < to → (family_at sets k == f) ≡ false
+
+gap_of : (script : ScriptData) (set count from to : ℕ) → from + count ≡ to → IsGap script.sets (family script set) from to → related_from script set from ≡ related_from script set to
+gap_of script set zero from to is gap = ap (related_from script set) (omega (arith, is))
+gap_of script set (suc m) from to is gap =
+    related_out script set from (omega (arith, is, gap.inside)) (gap.none from (omega arith) (omega (arith, is)))
+    ∙ gap_of script set m (from + 1) to (omega (arith, is)) (record { later = omega (arith, is); inside = gap.inside; none = λ k above below. gap.none k (omega (arith, above)) below })
+
+pub related_gap : (script : ScriptData) (set from to : ℕ) → IsGap script.sets (family script set) from to → related_from script set from ≡ related_from script set to
+related_gap script set from to gap = gap_of script set (to - from) from to (omega (arith, gap.later)) gap
+
+-- A walk over the sets of a family, from each to the next.
+
+-- the place of the next set, or behind all sets
+abbrev pub place_of_next : List SetData → Option ℕ → ℕ
+place_of_next sets None = length sets
+place_of_next sets (Some k) = k
+
+-- the set is the family's next, and P is true of its place
+pub record IsHere (sets : List SetData) (f : ℕ) (P : ℕ → Type 0) (k : ℕ) : Type 0 where
+  pub inside : k < length sets
+  pub mine : (family_at sets k == f) ≡ true
+  pub at : P k
+
+-- so it is where there is a next set
+pub record IsWalk (sets : List SetData) (f : ℕ) (P : ℕ → Type 0) (next : Option ℕ) : Type 0 where
+  pub here : IfSome next (IsHere sets f P)
+  pub at : P (place_of_next sets next)
+
+pub walk_here : {sets : List SetData} {f : ℕ} {P : ℕ → Type 0} (next : Option ℕ) (k : ℕ) → IsWalk sets f P next → next ≡ Some k → IsHere sets f P k
+walk_here {sets} {f} {P} next k walk some = (subst (IsWalk sets f P) some walk).here
+
+pub walk_over : {sets : List SetData} {f : ℕ} {P : ℕ → Type 0} (next : Option ℕ) → IsWalk sets f P next → next ≡ None → P (length sets)
+walk_over {sets} {f} {P} next walk none = (subst (IsWalk sets f P) none walk).at
+
+-- P stays true where no set of the family is between
+abbrev pub GoesOn : List SetData → ℕ → (ℕ → Type 0) → Type 0
+GoesOn sets f P = (from to : ℕ) → IsGap sets f from to → P from → P to
+
+pub walk_start : {P : ℕ → Type 0} (script : ScriptData) (set first : ℕ) → set < length script.sets → family_at script.sets first ≡ family script set → first ≤ set
+    → ((k : ℕ) → k < first → family_at script.sets k ≢ family script set) → GoesOn script.sets (family script set) P → P 0 → IsWalk script.sets (family script set) P (Some first)
+walk_start {P} script set first inside mine earlier none goes_on start =
+    let at = goes_on 0 first (record {
+      later = omega arith;
+      inside = omega (arith, earlier, inside);
+      none = λ k above below. ne_eqb (family_at script.sets k) (family script set) (none k below);
+    }) start in
+    record { here = record { inside = omega (arith, earlier, inside); mine = eq-eqb (family_at script.sets first) (family script set) mine; at = at }; at = at }
+
+pub walk_on : {P : ℕ → Type 0} (script : ScriptData) (set k : ℕ) (next : Option ℕ) → k < length script.sets → (family_at script.sets k == family script set) ≡ true
+    → IfSome next (IsNextRelated script k) → IfNone next (IsLastRelated script k) → GoesOn script.sets (family script set) P → P (k + 1) → IsWalk script.sets (family script set) P next
+walk_on {P} script set k None inside mine some none goes_on done =
+    let same = eqb-true (family_at script.sets k) (family script set) mine in
+    record {
+      here = record {};
+      at = goes_on (k + 1) (length script.sets) (record {
+        later = omega (arith, inside);
+        inside = omega arith;
+        none = λ j above below. ne_eqb (family_at script.sets j) (family script set) (λ e. none j (omega (arith, above)) below (e ∙ sym same));
+      }) done;
+    }
+walk_on {P} script set k (Some next) inside mine some none goes_on done =
+    let same = eqb-true (family_at script.sets k) (family script set) mine in
+    let at = goes_on (k + 1) next (record {
+      later = omega (arith, some.later);
+      inside = omega (arith, some.inside);
+      none = λ j above below. ne_eqb (family_at script.sets j) (family script set) (λ e. some.first j (omega (arith, above)) below (e ∙ sym same));
+    }) done in
+    record { here = record { inside = some.inside; mine = eq-eqb (family_at script.sets next) (family script set) (some.related ∙ same); at = at }; at = at }
+
+-- The moves that end in the sets, one after the other.
+
 -- what is left to do at these sets gives what the whole gives
 pub record IsLeft (script : ScriptData) (me : ℕ) (rule : ℕ → SetState → Made) (left : List ℕ) (cores : List CoreData) (out : OutData) (whole : List ℕ) (old : List CoreData) (had : OutData) (n : NodeState) : Type 0 where
   pub node : (each_touched rule left (with_sets script me cores n)).node ≡ (each_touched rule whole (with_sets script me old n)).node
@@ -69,19 +146,6 @@ one_done script me k rule rest cores core new had out n inside at does =
 pub left_then : (script : ScriptData) (me : ℕ) (rule : ℕ → SetState → Made) (a b c : List ℕ) (x y z : List CoreData) (p q r : OutData) (n : NodeState)
     → IsLeft script me rule a x p b y q n → IsLeft script me rule b y q c z r n → IsLeft script me rule a x p c z r n
 left_then script me rule a b c x y z p q r n first second = record { node = first.node ∙ second.node; sent = first.sent ∙ second.sent }
-
-abbrev the_same : OutData → OutData
-the_same out = record out { posts = out.posts ++ []; events = out.events ++ [] }
-
--- where nothing is left, all is done
-pub all_done : (script : ScriptData) (me : ℕ) (rule : ℕ → SetState → Made) (whole : List ℕ) (old new : List CoreData) (had out : OutData) (n : NodeState)
-    → IsLeft script me rule [] new out whole old had n → SetsDo script me (each_touched rule whole) old had new out n
-all_done script me rule whole old new had out n left =
-    let same : the_same out ≡ out = rw (append-nil out.posts, append-nil out.events) refl in
-    record {
-      node = left.node;
-      sent = sym same ∙ left.sent;
-    }
 
 -- the end of a move fits
 pub end_fits : (dropped : Option ℕ) (stamp : Stamp) (core : CoreData) (out : OutData) → RoomToSend (most_sent core) out → FitsOut (ending dropped stamp core.set core.state) out
@@ -110,16 +174,15 @@ pub at_start : (script : ScriptData) (stamp : Stamp) (dropped : Option ℕ) (set
     → IsAt script stamp dropped set sets out 0 sets out
 at_start script stamp dropped set sets out of rooms send = record { of = of; rest = λ s above. refl; rooms = rooms; send = send; left = λ n. record { node = refl; sent = refl } }
 
-pub at_skipped : (script : ScriptData) (stamp : Stamp) (dropped : Option ℕ) (set : ℕ) (old : SetsData) (had : OutData) (k : ℕ) (now : SetsData) (out : OutData)
-    → IsAt script stamp dropped set old had k now out → k < length script.sets → (family_at script.sets k == family script set) ≡ false
-    → IsAt script stamp dropped set old had (k + 1) now out
-at_skipped script stamp dropped set old had k now out at inside other =
-    let out_of = related_out script set k inside other in record {
+pub at_past : (script : ScriptData) (stamp : Stamp) (dropped : Option ℕ) (set : ℕ) (old : SetsData) (had : OutData) (now : SetsData) (out : OutData)
+    → GoesOn script.sets (family script set) (λ k. IsAt script stamp dropped set old had k now out)
+at_past script stamp dropped set old had now out from to gap at =
+    let same = related_gap script set from to gap in record {
       of = at.of;
-      rest = λ s above. at.rest s (omega (arith, above));
-      rooms = subst (λ (l : List ℕ). All (λ s. HasRoom 2 stamp.clock (core_in old s)) l) out_of at.rooms;
-      send = subst (λ (l : List ℕ). RoomToSend (sum_by (λ s. most_sent (core_in old s)) l) out) out_of at.send;
-      left = λ n. subst (λ (l : List ℕ). IsLeft script stamp.node (ending dropped stamp) l now.cores out (related_from script set 0) old.cores had n) out_of (at.left n);
+      rest = λ s above. at.rest s (omega (arith, above, gap.later));
+      rooms = subst (λ (l : List ℕ). All (λ s. HasRoom 2 stamp.clock (core_in old s)) l) same at.rooms;
+      send = subst (λ (l : List ℕ). RoomToSend (sum_by (λ s. most_sent (core_in old s)) l) out) same at.send;
+      left = λ n. subst (λ (l : List ℕ). IsLeft script stamp.node (ending dropped stamp) l now.cores out (related_from script set 0) old.cores had n) same (at.left n);
     }
 
 -- the next set of the family is ready
@@ -163,14 +226,6 @@ at_ended script stamp dropped set old had k now new out after at inside mine doe
           (subst (λ (l : List ℕ). IsLeft script stamp.node (ending dropped stamp) l now.cores out (related_from script set 0) old.cores had n) in_it (at.left n));
     }
 
-pub at_end : (script : ScriptData) (stamp : Stamp) (dropped : Option ℕ) (set : ℕ) (old : SetsData) (had : OutData) (k : ℕ) (now : SetsData) (out : OutData)
-    → IsAt script stamp dropped set old had k now out → length script.sets ≤ k → (n : NodeState)
-    → SetsDo script stamp.node (each_touched (ending dropped stamp) (related script set)) old.cores had now.cores out n
-at_end script stamp dropped set old had k now out at all n =
-    all_done script stamp.node (ending dropped stamp) (related script set) old.cores now.cores had out n
-    (subst (λ (l : List SetData). IsLeft script stamp.node (ending dropped stamp) (places_from (λ j (x : SetData). x.family == family script set) k l) now.cores out (related_from script set 0) old.cores had n)
-    (drop_all k script.sets all) (at.left n))
-
 -- How many locks a client has in a family.
 
 -- the locks counted so far, with those that are left, are all
@@ -190,13 +245,7 @@ pub counted_in : (script : ScriptData) (set client : ℕ) (sets : SetsData) (k l
 counted_in script set client sets k locks held counted inside mine is =
     record { left = omega (arith, is, counted_next script set client sets k locks counted inside mine) }
 
-pub counted_out : (script : ScriptData) (set client : ℕ) (sets : SetsData) (k locks : ℕ) → IsCounted script set client sets k locks → k < length script.sets
-    → (family_at script.sets k == family script set) ≡ false → IsCounted script set client sets (k + 1) locks
-counted_out script set client sets k locks counted inside other =
-    record { left = ap (λ (l : List ℕ). locks + locks_by sets client l) (sym (related_out script set k inside other)) ∙ counted.left }
-
-pub counted_all : (script : ScriptData) (set client : ℕ) (sets : SetsData) (k locks : ℕ) → IsCounted script set client sets k locks → length script.sets ≤ k
-    → locks ≡ locks_by sets client (related script set)
-counted_all script set client sets k locks counted past =
-    let rest = ap (λ (l : List SetData). locks_by sets client (places_from (λ j (x : SetData). x.family == family script set) k l)) (drop_all k script.sets past) in
-    omega (arith, counted.left, rest)
+pub counted_past : (script : ScriptData) (set client : ℕ) (sets : SetsData) (locks : ℕ)
+    → GoesOn script.sets (family script set) (λ k. IsCounted script set client sets k locks)
+counted_past script set client sets locks from to gap counted =
+    record { left = ap (λ (l : List ℕ). locks + locks_by sets client l) (sym (related_gap script set from to gap)) ∙ counted.left }

@@ -1,12 +1,10 @@
 -- One set or one client of a node changes.
-use Rattle.std.proofs.Common.{◌≡◌, ◌<◌, true, ℕ, List, length, inl, inr, refl, sym, ap, subst, arith, ◌∙◌, slice_index_or, slice_set, ◌≤◌, Option, Some, None, nat_le, length-append, ◌+◌, [], ◌∷◌, map, All, sum_by, eq-eqb, ne_eqb, leb-true, get_or-set_other, length-set}
+use Rattle.std.proofs.Common.{◌≡◌, ◌<◌, true, ℕ, List, length, inl, inr, refl, sym, ap, subst, arith, ◌∙◌, slice_index_or, slice_set, ◌≤◌, Option, Some, None, nat_le, length-append, map, eq-eqb, ne_eqb, leb-true, get_or-set_other}
 use Rattle.std.proofs.Math.Path.{fun_ext}
 use Rattle.std.proofs.lemmas.Bool.{cases_eq, and_parts}
 use Rattle.std.proofs.lemmas.List.{length-map}
 use Rattle.std.proofs.lemmas.Grind.{get_or-set_at}
 use Rattle.std.proofs.Math.ListN.{get_or-map as map_read}
-use Rattle.std.proofs.Math.Seq.{map-set_same}
-use Rattle.std.proofs.lemmas.List.Sums.{sum_by-cons}
 use Rattle.lt_modes.specs.State.{SetState, Made, Desk}
 use Rattle.lt_modes.specs.Modes.{locks_in}
 use Rattle.lt_modes.specs.Serving.{queue_of}
@@ -16,8 +14,7 @@ use Rattle.lt_spec.specs.NodeMove.{NodeState, touched, desk_within, set_within}
 use Rattle.lt_spec.specs.declared.limits.TheConstants.{MAX_COMMANDS_OF_SERVICE}
 use Rattle.lt_desk.specs.DeskData.{OutData}
 use Rattle.lt_core.specs.CoreData.{CoreData, Does, HasRoom, HasMemory, waiting_here, epoch_of, freeze_number_of}
-use Rattle.lt_core.specs.Bound.{most}
-use Rattle.lt_node.specs.NodeData.{NodeData, NodeDoes, IsNode, IsCoreOf, state_of, core_at, first_core, SameNode, KeptData, HasFewAsks, kept_of, most_sent}
+use Rattle.lt_node.specs.NodeData.{NodeData, NodeDoes, IsNode, state_of, core_at, first_core, SameNode, KeptData, kept_of}
 
 -- a list written at one place is a function changed at one number
 pub put_read : {X Y : Type 0} (f : X → Y) (xs : List X) (d : ℕ → X) (i : ℕ) (x : X) → i < length xs
@@ -26,17 +23,6 @@ put_read f xs d i x inside = fun_ext (λ k. elim (cases_eq k i) [
   | inl same ↦ rw (eq-eqb k i same) (ap f (get_or-set_at xs i k x (d k) same inside))
   | inr other ↦ rw (ne_eqb k i other) (ap f (get_or-set_other xs i k x (d k) other))
 ])
-
--- the changed set is that of its place
-pub places_set : (q s : ℕ) (cores : List CoreData) (d : ℕ → CoreData) (core : CoreData) → IsCoreOf q s core
-    → ((k : ℕ) → k < length cores → IsCoreOf q k (slice_index_or cores k (d k)))
-    → (k : ℕ) → k < length (slice_set cores s core) → IsCoreOf q k (slice_index_or (slice_set cores s core) k (d k))
-places_set q s cores d core new old k inside = elim (cases_eq k s) [
-  | inl same ↦ subst (λ (c : CoreData). IsCoreOf q k c) (sym (get_or-set_at cores s k core (d k) same (omega (arith, inside, same, length-set cores s core))))
-      (record { node = new.node; set = new.set ∙ sym same })
-  | inr other ↦ subst (λ (c : CoreData). IsCoreOf q k c) (sym (get_or-set_other cores s k core (d k) other))
-      (old k (omega (arith, inside, length-set cores s core)))
-]
 
 -- a node of which one set made this
 pub touch_does : (old : NodeData) (had out : OutData) (s : ℕ) (made : Made) (core : CoreData) → s < length old.cores → Does made (core_at old s) had core out
@@ -51,16 +37,6 @@ touch_does old had out s made core inside does =
           (states ∙ ap (λ (v : SetState). put (λ k. (slice_index_or old.cores k (first_core old.script old.me k)).state) s v) does.state);
       sent = does.sent;
     }
-
-pub node_kept : (old : NodeData) (clock s : ℕ) (core : CoreData) → IsNode old → IsCoreOf old.me s core
-    → IsNode (record old { clock = clock; cores = slice_set old.cores s core })
-node_kept old clock s core node place = record {
-  is_script = node.is_script;
-  within = node.within;
-  clients = node.clients;
-  sets = length-set old.cores s core ∙ node.sets;
-  places = places_set old.me s old.cores (first_core old.script old.me) core place node.places;
-}
 
 pub node_is : (m n : NodeData) → m ≡ n → IsNode m → IsNode n
 node_is m n same node = subst IsNode same node
@@ -108,40 +84,11 @@ room_later clock now more core within later memory = record {
 pub kept_one : (old new : CoreData) → new.state ≡ old.state → (new.node ≡ old.node) × (new.set ≡ old.set) → kept_of new ≡ kept_of old
 kept_one old new state place = λ i. record { node = place.0 i; set = place.1 i; state = state i }
 
-pub kept_set : (cores : List CoreData) (k : ℕ) (core new : CoreData) → core ≡ slice_index_or cores k core → kept_of new ≡ kept_of core → map kept_of (slice_set cores k new) ≡ map kept_of cores
-kept_set cores k core new at same = map-set_same kept_of cores k new core (same ∙ ap kept_of at)
-
 pub kept_at : (xs ys : List CoreData) (k : ℕ) (d : CoreData) → map kept_of xs ≡ map kept_of ys → kept_of (slice_index_or xs k d) ≡ kept_of (slice_index_or ys k d)
 kept_at xs ys k d same = sym (map_read kept_of xs k d) ∙ ap (λ (l : List KeptData). slice_index_or l k (kept_of d)) same ∙ map_read kept_of ys k d
 
 pub kept_length : (xs ys : List CoreData) → map kept_of xs ≡ map kept_of ys → length xs ≡ length ys
 kept_length xs ys same = sym (length-map xs kept_of) ∙ ap (λ (l : List KeptData). length l) same ∙ length-map ys kept_of
-
-pub few_kept : (xs ys : List CoreData) → map kept_of xs ≡ map kept_of ys → All HasFewAsks ys → All HasFewAsks xs
-few_kept xs ys same few k d inside =
-    let states = ap (λ (x : KeptData). x.state) (kept_at xs ys k d same) in
-    subst (λ (s : SetState). waiting_here s ≤ 256) (sym states) (few k d (omega (arith, inside, kept_length xs ys same)))
-
-abbrev pub most_kept : KeptData → ℕ
-most_kept kept = most kept.state + 2
-
-sent_by_kept : (cores : List CoreData) → sum_by most_sent cores ≡ sum_by most_kept (map kept_of cores)
-sent_by_kept [] = refl
-sent_by_kept (core ∷ rest) =
-    sum_by-cons most_sent core rest ∙ ap (λ (k : ℕ). most_sent core + k) (sent_by_kept rest)
-    ∙ sym (sum_by-cons most_kept (kept_of core) (map kept_of rest))
-
--- so no more is sent
-pub sent_kept : (xs ys : List CoreData) → map kept_of xs ≡ map kept_of ys → sum_by most_sent xs ≡ sum_by most_sent ys
-sent_kept xs ys same = sent_by_kept xs ∙ ap (λ (l : List KeptData). sum_by most_kept l) same ∙ sym (sent_by_kept ys)
-
--- one more has memory
-pub memory_more : (cores : List CoreData) (k : ℕ) (new : CoreData) → k < length cores → HasMemory 0 new → ((s : ℕ) (d : CoreData) → s < k → HasMemory 0 (slice_index_or cores s d))
-    → (s : ℕ) (d : CoreData) → s < k + 1 → HasMemory 0 (slice_index_or (slice_set cores k new) s d)
-memory_more cores k new inside has before s d below = elim (cases_eq s k) [
-  | inl same ↦ subst (λ (c : CoreData). HasMemory 0 c) (sym (get_or-set_at cores k s new d same inside)) has
-  | inr other ↦ subst (λ (c : CoreData). HasMemory 0 c) (sym (get_or-set_other cores k s new d other)) (before s d (omega (arith, below, other)))
-]
 
 -- it is the same node, still
 pub node_same : (m : NodeData) (cores : List CoreData) → IsNode m → map kept_of cores ≡ map kept_of m.cores → IsNode (record m { cores = cores })

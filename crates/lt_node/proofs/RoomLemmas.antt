@@ -2,7 +2,7 @@
 use Rattle.std.proofs.Common.{◌≡◌, ◌<◌, ◌≤◌, ◌+◌, ◌∙◌, ◌==◌, ◌≢◌, ◌*◌, Result, Ok, Err, OnOk, ℕ, zero, suc, inl, inr, All, Bool, true, false, List, [], ◌∷◌, Some, IsTrue, length, arith, refl, sym, ap, subst, sum_by}
 use Rattle.std.specs.List.{AllByRecursion}
 use Rattle.std.proofs.Math.Path.{fun_ext}
-use Rattle.std.proofs.lemmas.Bool.{cases_eq, and_parts}
+use Rattle.std.proofs.lemmas.Bool.{cases_eq, cases_lt, and_parts}
 use Rattle.std.proofs.lemmas.List.{length-map}
 use Rattle.std.proofs.lemmas.List.Elements.{All-from_recursion, recursion_from_All}
 use Rattle.std.proofs.lemmas.List.Sums.{sum_by-cons}
@@ -29,7 +29,7 @@ use Rattle.lt_node.specs.Touched.{touched_sets, touched_by, named_set, sets_with
 use Rattle.lt_node.proofs.AdvanceLemmas.{HasNext, next_is, next_targets}
 use Rattle.lt_node.proofs.NodeLemmas.{node_is, set_numbers}
 use Rattle.lt_node.proofs.TokenLemmas.{few_brought, fitting}
-use Rattle.lt_node.proofs.FamilyLemmas.{related_from, related_in, related_out}
+use Rattle.lt_node.proofs.FamilyLemmas.{GoesOn, related_from, related_in, related_out, related_gap}
 use Rattle.lt_node.proofs.StoredLemmas.{same_core, same_then}
 use Rattle.lt_node.proofs.NodeSets.{core_held}
 use Rattle.lt_node.proofs.TouchedLemmas.{all_true_each, named_inside, related_none}
@@ -56,21 +56,32 @@ pub record IsReservedTo (script : ScriptData) (set k sent : ℕ) (old now : Sets
   pub left : sent + sent_by old (related_from script set k) ≡ sent_by old (related script set)
   pub few : sent ≤ k * 323
 
-pub reserved_past : (script : ScriptData) (set k sent : ℕ) (old now : SetsData) → IsReservedTo script set k sent old now
-    → k < length script.sets → (family_at script.sets k == family script set) ≡ false → IsReservedTo script set (k + 1) sent old now
-reserved_past script set k sent old now to inside other =
-    let same = related_out script set k inside other in
+pub reserved_none : (script : ScriptData) (set : ℕ) (sets : SetsData) → HaveFewAsks sets (related script set) → IsReservedTo script set 0 0 sets sets
+reserved_none script set sets few =
     record {
-      same = to.same;
-      rest = λ s above. to.rest s (omega (arith, above));
-      asks = subst (AllByRecursion (λ s. HasFewAsks (core_in old s))) same to.asks;
-      room = λ s below mine. elim (cases_eq s k) [
-        | inl here ↦ cc (other, ap (λ (i : ℕ). family_at script.sets i == family script set) here, mine)
-        | inr apart ↦ to.room s (omega (arith, below, apart)) mine
+      same = record { nodes = refl; me = refl; kept = refl };
+      rest = λ s above. refl;
+      asks = recursion_from_All (λ s. HasFewAsks (core_in sets s)) (related script set) few;
+      room = λ s below mine. absurd (omega (arith, below));
+      had = λ memory. memory;
+      left = omega arith;
+      few = omega arith;
+    }
+
+pub reserved_past : (script : ScriptData) (set sent : ℕ) (old now : SetsData) → GoesOn script.sets (family script set) (λ k. IsReservedTo script set k sent old now)
+reserved_past script set sent old now from to gap reserved =
+    let same = related_gap script set from to gap in
+    record {
+      same = reserved.same;
+      rest = λ s above. reserved.rest s (omega (arith, above, gap.later));
+      asks = subst (AllByRecursion (λ s. HasFewAsks (core_in old s))) same reserved.asks;
+      room = λ s below mine. elim (cases_lt s from) [
+        | inl before ↦ reserved.room s before mine
+        | inr behind ↦ cc (gap.none s behind below, mine)
       ];
-      had = λ memory. subst (AllByRecursion (λ s. HasMemory 0 (core_in old s))) same (to.had memory);
-      left = ap (λ (l : List ℕ). sent + sent_by old l) (sym same) ∙ to.left;
-      few = omega (arith, to.few);
+      had = λ memory. subst (AllByRecursion (λ s. HasMemory 0 (core_in old s))) same (reserved.had memory);
+      left = ap (λ (l : List ℕ). sent + sent_by old l) (sym same) ∙ reserved.left;
+      few = omega (arith, reserved.few, gap.later);
     }
 
 -- the next set of the family
@@ -116,19 +127,16 @@ each_from P script set (suc m) k each count = by_test (family_at script.sets k =
     by_test true mine later = subst (AllByRecursion P) (sym (related_in script set k (omega (arith, count)) mine)) (each k (omega (arith, count)) mine, later)
     by_test false other later = subst (AllByRecursion P) (sym (related_out script set k (omega (arith, count)) other)) later
 
-pub reserved_room : (script : ScriptData) (set k sent : ℕ) (old now : SetsData) → IsReservedTo script set k sent old now → length script.sets ≤ k → HaveMemory now (related script set)
-reserved_room script set k sent old now to past =
+pub reserved_room : (script : ScriptData) (set sent : ℕ) (old now : SetsData) → IsReservedTo script set (length script.sets) sent old now → HaveMemory now (related script set)
+reserved_room script set sent old now to =
     All-from_recursion (λ s. HasMemory 0 (core_in now s)) (related script set)
-    (each_from (λ s. HasMemory 0 (core_in now s)) script set (length script.sets) 0 (λ s inside mine. to.room s (omega (arith, inside, past)) mine) (omega arith))
+    (each_from (λ s. HasMemory 0 (core_in now s)) script set (length script.sets) 0 to.room (omega arith))
 
-pub reserved_sent : (script : ScriptData) (set k sent : ℕ) (old now : SetsData) → IsReservedTo script set k sent old now → length script.sets ≤ k → sent ≡ sent_by now (related script set)
-reserved_sent script set k sent old now to past =
-    omega (arith, to.left, ap (λ (l : List ℕ). sent_by old l) (related_none script set k past), same_sent old now (related script set) to.same)
+pub reserved_sent : (script : ScriptData) (set sent : ℕ) (old now : SetsData) → IsReservedTo script set (length script.sets) sent old now → sent ≡ sent_by now (related script set)
+reserved_sent script set sent old now to =
+    omega (arith, to.left, ap (λ (l : List ℕ). sent_by old l) (related_none script set (length script.sets) (omega arith)), same_sent old now (related script set) to.same)
 
 -- one set
-
-pub all_one : (P : ℕ → Type 0) (s : ℕ) → P s → All P (s ∷ [])
-all_one P s h = All-from_recursion P (s ∷ []) (h, record {})
 
 pub one_of : (P : ℕ → Type 0) (s : ℕ) → All P (s ∷ []) → P s
 one_of P s h = (recursion_from_All P (s ∷ []) h).0

@@ -1,7 +1,6 @@
 -- What a command asks of the sets that it touches.
 use Rattle.std.proofs.Common.{◌≡◌, ◌<◌, ◌≤◌, ◌+◌, ◌∙◌, ◌==◌, ◌&&◌, ℕ, Bool, true, false, not, nat_le, List, [], ◌∷◌, Option, Some, None, IsTrue, Contains, length, arith, refl, sym, ap, subst, slice_get, leb-true, if◌then◌else◌}
 use Rattle.std.specs.List.{AllByRecursion, list_all}
-use Rattle.std.proofs.Math.Bool.{and-true}
 use Rattle.std.proofs.lemmas.Bool.{and_from, and_parts, leb-false, le-leb, lt-leb, not-true, not-false}
 use Rattle.std.proofs.lemmas.Option.{get_or_from_slice_get, slice_get_within}
 use Rattle.std.proofs.lemmas.List.{drop_all}
@@ -22,7 +21,7 @@ use Rattle.lt_spec.specs.NodeMove.{NodeState, commands_of, next_command, family,
 use Rattle.lt_spec.specs.declared.limits.TheConstants.{MAX_COMMANDS_OF_SERVICE}
 use Rattle.lt_node.specs.Touched.{touched_sets, touched_by, named_set, sets_within, sets_leave_asks, drops_few, leaves_room_to_obey, leaves_room_to_act, leaves_room_to_take, leaves_room_in, with_dropped}
 use Rattle.lt_node.proofs.AdvanceLemmas.{targets_of}
-use Rattle.lt_node.proofs.FamilyLemmas.{related_from, related_in, related_out}
+use Rattle.lt_node.proofs.FamilyLemmas.{GoesOn, related_from, related_in, related_gap}
 
 -- The sets that a command touches are sets of the script.
 
@@ -94,12 +93,6 @@ room_to_take script n letter within inside = within_at script n within letter.se
 
 -- One set.
 
-pub room_in_one : (n : NodeState) (s : ℕ) → leaves_room_in n s ≡ (sets_within n (s ∷ []) && (sets_leave_asks n (s ∷ []) && true))
-room_in_one n s =
-    let within = and-true (set_within n.clock (n.set s)) in
-    let asks = and-true (leaves_ask (n.set s)) in
-    sym (ap (λ (b : Bool). b && ((leaves_ask (n.set s) && true) && true)) within ∙ ap (λ (b : Bool). set_within n.clock (n.set s) && b) (and-true (leaves_ask (n.set s) && true) ∙ asks))
-
 -- the locks that are counted with those of a set are few
 pub few_held : (n : NodeState) (s client : ℕ) → leaves_room_in n s ≡ true → locks_of (n.set s).held client ≤ MAX_COMMANDS_OF_SERVICE
 few_held n s client room =
@@ -115,10 +108,9 @@ pub record IsCountedTo (script : ScriptData) (n : NodeState) (set client k locks
   pub all : locks + locks_in_sets n client (related_from script set k) ≡ locks_in_sets n client (related script set)
   pub few : locks ≤ MAX_COMMANDS_OF_SERVICE
 
-pub counted_past : (script : ScriptData) (n : NodeState) (set client k locks : ℕ) → IsCountedTo script n set client k locks
-    → k < length script.sets → (family_at script.sets k == family script set) ≡ false → IsCountedTo script n set client (k + 1) locks
-counted_past script n set client k locks counted inside other =
-    let same = sym (related_out script set k inside other) in
+pub counted_past : (script : ScriptData) (n : NodeState) (set client locks : ℕ) → GoesOn script.sets (family script set) (λ k. IsCountedTo script n set client k locks)
+counted_past script n set client locks from to gap counted =
+    let same = sym (related_gap script set from to gap) in
     record {
       within = ap (sets_within n) same ∙ counted.within;
       asks = ap (sets_leave_asks n) same ∙ counted.asks;
@@ -191,14 +183,6 @@ counted_out_of_room script n set client k locks counted inside mine none =
 
 pub related_none : (script : ScriptData) (set k : ℕ) → length script.sets ≤ k → related_from script set k ≡ []
 related_none script set k past = ap (λ (l : List SetData). places_from (λ j (x : SetData). x.family == family script set) k l) (drop_all k script.sets past)
-
-pub counted_to_end : (script : ScriptData) (n : NodeState) (set client k locks : ℕ) → IsCountedTo script n set client k locks → length script.sets ≤ k
-    → leaves_room_to_obey script n (Some (commands.DropAll client set)) ≡ true
-counted_to_end script n set client k locks counted past =
-    let none = related_none script set k past in
-    and_from (sets_within n (related script set)) _ (sym counted.within ∙ ap (sets_within n) none)
-    (and_from (sets_leave_asks n (related script set)) _ (sym counted.asks ∙ ap (sets_leave_asks n) none)
-    (le-leb _ _ (omega (arith, counted.all, counted.few, ap (λ (l : List ℕ). locks_in_sets n client l) none))))
 
 -- the set that a command names is one of the script
 pub named_inside : (script : ScriptData) (client : ℕ) (command : Command) → HasTargets script.sets script.clients client command → named_set command < length script.sets

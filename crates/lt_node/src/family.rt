@@ -1,6 +1,7 @@
-ghost use Rattle.std.specs.Prelude.{◌≡◌, ◌≤◌, ◌<◌, ℕ, All, length, sum_by};
+ghost use Rattle.std.specs.Prelude.{◌≡◌, ◌≢◌, ◌≤◌, ◌<◌, ℕ, All, length, sum_by};
 ghost use Rattle.lt_core.specs.Bound.{RoomToSend};
 ghost use Rattle.lt_core.specs.CoreData.{HasRoom};
+ghost use Rattle.lt_modes.specs.Script.{family_at};
 ghost use Rattle.lt_spec.specs.NodeMove.{related, NodeState, each_touched};
 ghost use Rattle.lt_spec.specs.declared.limits.TheConstants.{MAX_COMMANDS_OF_SERVICE};
 ghost use Rattle.lt_node.specs.NodeData.{SetsDo, ending, most_sent};
@@ -28,11 +29,10 @@ pub(crate) fn end_each(
         (each_touched (ending dropped stamp) (related script.now set)) sets.old.cores out.old sets.new.cores out.new n }
     ensures sets { AreSetsOf script.now stamp.node sets.new }
 {
-    let family = script.family(set);
-    for k in 0..script.sets() {
-        if script.family(k) == family {
-            sets.end(k, dropped, stamp, out);
-        }
+    let mut next = Some(first_related(script, set));
+    while let Some(k) = next {
+        sets.end(k, dropped, stamp, out);
+        next = script.next_related(k);
     }
 }
 
@@ -43,12 +43,23 @@ pub(crate) fn locks(sets: &Sets, script: &Script, set: u32, client: u16) -> u64
     requires few { locks_by sets.now client (related script.now set) ≤ MAX_COMMANDS_OF_SERVICE }
     ensures { result ≡ locks_by sets.now client (related script.now set) }
 {
-    let family = script.family(set);
     let mut locks = 0;
-    for k in 0..script.sets() {
-        if script.family(k) == family {
-            locks += sets.core(k).held_count(client);
-        }
+    let mut next = Some(first_related(script, set));
+    while let Some(k) = next {
+        locks += sets.core(k).held_count(client);
+        next = script.next_related(k);
     }
     locks
+}
+
+/// The first set of the family of a set.
+pub(crate) fn first_related(script: &Script, set: u32) -> u32
+    requires { set < length script.now.sets }
+    ensures related { family_at script.now.sets result ≡ family_at script.now.sets set }
+    ensures earlier { result ≤ set }
+    ensures first { (k : ℕ) → k < result → family_at script.now.sets k ≢ family_at script.now.sets set }
+{
+    // Asked for its clause `kept` alone: in a script no set is of the family of a later one.
+    let _ = script.version();
+    script.family(set)
 }

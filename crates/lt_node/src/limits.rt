@@ -7,6 +7,7 @@ ghost use Rattle.lt_desk.specs.LetterSeen.{letter_seen};
 ghost use Rattle.lt_node.specs.NodeData.{state_of};
 ghost use Rattle.lt_node.specs.Touched.{named_set, leaves_room_to_obey, leaves_room_to_act, leaves_room_to_take, leaves_room_in, with_dropped};
 
+use crate::family::first_related;
 use crate::node::Node;
 use lt_core::Core;
 use lt_desk::Letter;
@@ -62,15 +63,14 @@ impl Node {
             (Some (commands.DropAll client set)) }
     {
         let script = self.script.kept();
-        let family = script.family(set);
         let mut locks = 0;
-        for k in 0..script.sets() {
-            if script.family(k) == family {
-                match self.with_dropped(k, client, locks) {
-                    Some(all) => locks = all,
-                    None => return false,
-                }
+        let mut next = Some(first_related(script, set));
+        while let Some(k) = next {
+            match self.with_dropped(k, client, locks) {
+                Some(all) => locks = all,
+                None => return false,
             }
+            next = script.next_related(k);
         }
         true
     }

@@ -10,6 +10,7 @@ ghost use Rattle.lt_node.specs.NodeData.{SameNode, RoomToTake, RoomForLetter, Ha
 ghost use Rattle.lt_node.specs.Sets.{SameSets, core_in};
 ghost use Rattle.lt_node.specs.Touched.{RoomToAct, HaveFewAsks, HaveMemory, leaves_room_to_act, leaves_room_to_take, touched_sets, named_set, sent_by};
 
+use crate::family::first_related;
 use crate::node::Node;
 use crate::sets::Sets;
 use lt_desk::{Body, Letter, Out};
@@ -86,12 +87,11 @@ fn reserve_family(sets: &mut Sets, script: &Script, set: u32) -> Result<u32, All
     ensures small { IfOk result (λ sent. sent + 1 < 2 ^ 32) }
     ensures full { HaveMemory sets.old (related script.now set) → IsOk result }
 {
-    let family = script.family(set);
     let mut sent = 0;
-    for k in 0..script.sets() {
-        if script.family(k) == family {
-            sent += reserve_set(sets, k)?;
-        }
+    let mut next = Some(first_related(script, set));
+    while let Some(k) = next {
+        sent += reserve_set(sets, k)?;
+        next = script.next_related(k);
     }
     Ok(sent)
 }

@@ -1,47 +1,40 @@
-use Rattle.std.proofs.Common.{◌<◌, ◌+◌, ◌∙◌, ℕ, IsOk, length, sym, subst, arith, eq-eqb, ne_eqb}
+use Rattle.std.proofs.Common.{◌+◌, IsOk, subst}
 use Rattle.std.proofs.lemmas.Bool.{false≢true}
-use Rattle.lt_modes.specs.Script.{family_at}
-use Rattle.lt_spec.specs.NodeMove.{family}
-use Rattle.lt_node.specs.Sets.{SetsData}
-use Rattle.lt_node.proofs.RoomLemmas.{IsReservedTo, reserved_past, reserved_asks, reserved_had, reserved_more, reserved_room, reserved_sent}
+use Rattle.lt_node.proofs.FamilyLemmas.{walk_here, walk_on, walk_over, walk_start}
+use Rattle.lt_node.proofs.RoomLemmas.{reserved_asks, reserved_had, reserved_more, reserved_none, reserved_past, reserved_room, reserved_sent}
 use Rattle.lt_node.proofs.room.reserve_family.Goals as goal
-use Rattle.lt_node.proofs.room.reserve_family.Goals.{then-family+in_ok-sent, else-family}
+
+pub loop-next-init : goal.loop-next-init
+loop-next-init c =
+    let first = c.first_related.ensures in
+    walk_start c.args.script.now c.args.set c.first_related.result c.requires.set first.related first.earlier first.first
+    (reserved_past c.args.script.now c.args.set 0 c.args.sets.now c.args.sets.now) (reserved_none c.args.script.now c.args.set c.args.sets.now c.requires.few)
 
 pub reserve_set-requires-clause-few : goal.reserve_set-requires-clause-few
 reserve_set-requires-clause-few c =
-    let script = c.args.script.now in
-    let mine = eq-eqb (family_at script.sets c.loop-k.k) (family script c.args.set) (sym c.family.ensures.family ∙ c.if-family.true ∙ c.family-family.ensures.family) in
-    reserved_asks script c.args.set c.loop-k.k c.loop-k.sent c.args.sets.now c.loop-k.sets c.loop-k.invariant (omega (arith, c.loop-k-test.true, c.sets-k-end.ensures)) mine
+    let here = walk_here c.loop-next.next c.in-Some.k c.loop-next.invariant c.in-Some.is in
+    reserved_asks c.args.script.now c.args.set c.in-Some.k c.loop-next.sent c.args.sets.now c.loop-next.sets here.at here.inside here.mine
 
 pub returns-in_err-sent-clause-full : goal.returns-in_err-sent-clause-full
 returns-in_err-sent-clause-full c = λ memory.
-    let script = c.args.script.now in
-    let mine = eq-eqb (family_at script.sets c.loop-k.k) (family script c.args.set) (sym c.family.ensures.family ∙ c.if-family.true ∙ c.family-family.ensures.family) in
-    let had = reserved_had script c.args.set c.loop-k.k c.loop-k.sent c.args.sets.now c.loop-k.sets c.loop-k.invariant (omega (arith, c.loop-k-test.true, c.sets-k-end.ensures)) mine memory in
+    let here = walk_here c.loop-next.next c.in-Some.k c.loop-next.invariant c.in-Some.is in
+    let had = reserved_had c.args.script.now c.args.set c.in-Some.k c.loop-next.sent c.args.sets.now c.loop-next.sets here.at here.inside here.mine memory in
     absurd (false≢true (subst (λ r. IsOk r) c.in_err-sent.was (c.reserve_set.ensures.full had)))
 
-pub loop-k-preserved : goal.loop-k-preserved
-loop-k-preserved c =
-    let script = c.args.script.now in
-    let inside : c.loop-k.k < length script.sets = omega (arith, c.loop-k-test.true, c.sets-k-end.ensures) in
-    elim c.if-family.branch [
-      | then-family+in_ok-sent w ↦
-          let mine = eq-eqb (family_at script.sets c.loop-k.k) (family script c.args.set) (sym c.family.ensures.family ∙ w.if-family.true ∙ c.family-family.ensures.family) in
-          subst (λ (sent : ℕ). IsReservedTo script c.args.set (c.loop-k.k + 1) sent c.args.sets.now c.if-family.sets) (sym w.sent-is)
-          (subst (λ (sets : SetsData). IsReservedTo script c.args.set (c.loop-k.k + 1) (c.loop-k.sent + w.in_ok-sent.field-0) c.args.sets.now sets) (sym w.sets-is)
-          (reserved_more script c.args.set c.loop-k.k c.loop-k.sent w.in_ok-sent.field-0 c.args.sets.now c.loop-k.sets w.reserve_set.new.sets c.loop-k.invariant inside mine
-          w.in_ok-sent.ensures.same w.in_ok-sent.ensures.others w.in_ok-sent.ensures.room w.in_ok-sent.ensures.sent w.in_ok-sent.ensures.small))
-      | else-family w ↦
-          let other = ne_eqb (family_at script.sets c.loop-k.k) (family script c.args.set) (λ e. w.if-family.false (c.family.ensures.family ∙ e ∙ sym c.family-family.ensures.family)) in
-          subst (λ (sent : ℕ). IsReservedTo script c.args.set (c.loop-k.k + 1) sent c.args.sets.now c.if-family.sets) (sym w.sent-is)
-          (subst (λ (sets : SetsData). IsReservedTo script c.args.set (c.loop-k.k + 1) c.loop-k.sent c.args.sets.now sets) (sym w.sets-is)
-          (reserved_past script c.args.set c.loop-k.k c.loop-k.sent c.args.sets.now c.loop-k.sets c.loop-k.invariant inside other))
-    ]
+pub loop-next-preserved : goal.loop-next-preserved
+loop-next-preserved c =
+    let here = walk_here c.loop-next.next c.in-Some.k c.loop-next.invariant c.in-Some.is in
+    let next = c.next_related-next.ensures in
+    let did = c.in_ok-sent.ensures in
+    walk_on c.args.script.now c.args.set c.in-Some.k c.next_related-next.result here.inside here.mine next.next next.last
+    (reserved_past c.args.script.now c.args.set (c.loop-next.sent + c.in_ok-sent.field-0) c.args.sets.now c.reserve_set.new.sets)
+    (reserved_more c.args.script.now c.args.set c.in-Some.k c.loop-next.sent c.in_ok-sent.field-0 c.args.sets.now c.loop-next.sets c.reserve_set.new.sets here.at here.inside here.mine
+    did.same did.others did.room did.sent did.small)
 
 pub returns-clause-room : goal.returns-clause-room
 returns-clause-room c =
-    reserved_room c.args.script.now c.args.set c.loop-k.k c.loop-k.sent c.args.sets.now c.loop-k.sets c.loop-k.invariant (omega (arith, c.loop-k-test.false, c.sets-k-end.ensures))
+    reserved_room c.args.script.now c.args.set c.loop-next.sent c.args.sets.now c.loop-next.sets (walk_over c.loop-next.next c.loop-next.invariant c.in_default.is)
 
 pub returns-clause-sent : goal.returns-clause-sent
 returns-clause-sent c =
-    reserved_sent c.args.script.now c.args.set c.loop-k.k c.loop-k.sent c.args.sets.now c.loop-k.sets c.loop-k.invariant (omega (arith, c.loop-k-test.false, c.sets-k-end.ensures))
+    reserved_sent c.args.script.now c.args.set c.loop-next.sent c.args.sets.now c.loop-next.sets (walk_over c.loop-next.next c.loop-next.invariant c.in_default.is)

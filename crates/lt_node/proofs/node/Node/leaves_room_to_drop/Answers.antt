@@ -1,42 +1,37 @@
-use Rattle.std.proofs.Common.{◌≡◌, ◌∙◌, ◌+◌, ◌==◌, ◌<◌, ℕ, List, true, false, length, ap, sym, subst, arith, eq-eqb, ne_eqb}
+use Rattle.std.proofs.Common.{◌∙◌, ◌<◌, length, ap, refl, subst, sym, arith, List}
 use Rattle.lt_modes.specs.Script.{ScriptData, SetData, family_at}
 use Rattle.lt_node.specs.NodeData.{NodeData, state_of}
-use Rattle.lt_node.proofs.TouchedLemmas.{IsCountedTo, counted_past, counted_more, counted_out_of_room, counted_to_end}
+use Rattle.lt_node.proofs.FamilyLemmas.{GoesOn, IsHere, walk_here, walk_on, walk_start}
+use Rattle.lt_node.proofs.TouchedLemmas.{IsCountedTo, counted_past, counted_more, counted_out_of_room}
 use Rattle.lt_node.proofs.node.Node.leaves_room_to_drop.Goals as goal
-use Rattle.lt_node.proofs.node.Node.leaves_room_to_drop.Goals.{then-family+in-Some, else-family}
+
+pub loop-next-init : goal.loop-next-init
+loop-next-init c =
+    let n = c.args.self.now in
+    let sets = ap (λ (s : ScriptData). s.sets) c.kept-script.ensures ∙ ap (λ (n : NodeData). n.script.sets) c.self.view_is in
+    let first = c.first_related.ensures in
+    walk_start c.kept-script.result.now c.args.set c.first_related.result (subst (λ (l : List SetData). c.args.set < length l) (sym sets) c.requires) first.related first.earlier first.first
+    (subst (λ (l : List SetData). GoesOn l (family_at l c.args.set) (λ k. IsCountedTo n.script (state_of n) c.args.set c.args.client k 0)) (sym sets)
+    (counted_past n.script (state_of n) c.args.set c.args.client 0))
+    (record { within = refl; asks = refl; all = omega arith; few = omega arith })
 
 pub returns-in-None : goal.returns-in-None
 returns-in-None c =
     let n = c.args.self.now in
     let sets = ap (λ (s : ScriptData). s.sets) c.kept-script.ensures ∙ ap (λ (n : NodeData). n.script.sets) c.self.view_is in
-    let read = c.kept-script.result.now.sets in
-    let mine = eq-eqb (family_at read c.loop-k.k) (family_at read c.args.set) (sym c.family.ensures.family ∙ c.if-family.true ∙ c.family-family.ensures.family) in
-    sym (counted_out_of_room n.script (state_of n) c.args.set c.args.client c.loop-k.k c.loop-k.locks c.loop-k.invariant
-    (omega (arith, c.loop-k-test.true, c.sets-k-end.ensures, ap (λ (l : List SetData). length l) sets))
-    (subst (λ (l : List SetData). (family_at l c.loop-k.k == family_at l c.args.set) ≡ true) sets mine) (sym c.in-None.ensures.dropped))
+    let here = subst (λ (l : List SetData). IsHere l (family_at l c.args.set) (λ k. IsCountedTo n.script (state_of n) c.args.set c.args.client k c.loop-next.locks) c.in-Some.k) sets
+    (walk_here c.loop-next.next c.in-Some.k c.loop-next.invariant c.in-Some.is) in
+    sym (counted_out_of_room n.script (state_of n) c.args.set c.args.client c.in-Some.k c.loop-next.locks here.at here.inside here.mine (sym c.in-None.ensures.dropped))
 
-pub loop-k-preserved : goal.loop-k-preserved
-loop-k-preserved c =
+pub loop-next-preserved : goal.loop-next-preserved
+loop-next-preserved c =
     let n = c.args.self.now in
     let sets = ap (λ (s : ScriptData). s.sets) c.kept-script.ensures ∙ ap (λ (n : NodeData). n.script.sets) c.self.view_is in
-    let read = c.kept-script.result.now.sets in
-    let k = c.loop-k.k in
-    let inside : k < length n.script.sets = omega (arith, c.loop-k-test.true, c.sets-k-end.ensures, ap (λ (l : List SetData). length l) sets) in
-    elim c.if-family.branch [
-      | then-family+in-Some w ↦
-          let mine = eq-eqb (family_at read k) (family_at read c.args.set) (sym c.family.ensures.family ∙ w.if-family.true ∙ c.family-family.ensures.family) in
-          subst (λ (locks : ℕ). IsCountedTo n.script (state_of n) c.args.set c.args.client (k + 1) locks) (sym w.locks-is)
-          (counted_more n.script (state_of n) c.args.set c.args.client k c.loop-k.locks w.in-Some.all c.loop-k.invariant
-          inside (subst (λ (l : List SetData). (family_at l k == family_at l c.args.set) ≡ true) sets mine) (sym w.with_dropped.ensures.dropped ∙ w.in-Some.is))
-      | else-family w ↦
-          let other = ne_eqb (family_at read k) (family_at read c.args.set) (λ e. w.if-family.false (c.family.ensures.family ∙ e ∙ sym c.family-family.ensures.family)) in
-          subst (λ (locks : ℕ). IsCountedTo n.script (state_of n) c.args.set c.args.client (k + 1) locks) (sym w.locks-is)
-          (counted_past n.script (state_of n) c.args.set c.args.client k c.loop-k.locks c.loop-k.invariant
-          inside (subst (λ (l : List SetData). (family_at l k == family_at l c.args.set) ≡ false) sets other))
-    ]
-
-pub returns : goal.returns
-returns c =
-    let sets = ap (λ (s : ScriptData). s.sets) c.kept-script.ensures ∙ ap (λ (n : NodeData). n.script.sets) c.self.view_is in
-    sym (counted_to_end c.args.self.now.script (state_of c.args.self.now) c.args.set c.args.client c.loop-k.k c.loop-k.locks c.loop-k.invariant
-    (omega (arith, c.loop-k-test.false, c.sets-k-end.ensures, ap (λ (l : List SetData). length l) sets)))
+    let read = walk_here c.loop-next.next c.in-Some.k c.loop-next.invariant c.in-Some.is in
+    let here = subst (λ (l : List SetData). IsHere l (family_at l c.args.set) (λ k. IsCountedTo n.script (state_of n) c.args.set c.args.client k c.loop-next.locks) c.in-Some.k) sets read in
+    let next = c.next_related-next.ensures in
+    let all = c.in-Some-with_dropped.all in
+    walk_on c.kept-script.result.now c.args.set c.in-Some.k c.next_related-next.result read.inside read.mine next.next next.last
+    (subst (λ (l : List SetData). GoesOn l (family_at l c.args.set) (λ k. IsCountedTo n.script (state_of n) c.args.set c.args.client k all)) (sym sets)
+    (counted_past n.script (state_of n) c.args.set c.args.client all))
+    (counted_more n.script (state_of n) c.args.set c.args.client c.in-Some.k c.loop-next.locks all here.at here.inside here.mine (sym c.with_dropped.ensures.dropped ∙ c.in-Some-with_dropped.is))
