@@ -1,11 +1,9 @@
 -- The journal of the run that was made is that of the service, or there is none.
-use Rattle.std.proofs.Common.{◌≡◌, ◌≤◌, ◌<◌, ℕ, List, length, map, inl, inr, arith, ap}
+use Rattle.std.proofs.Common.{◌≤◌, ◌<◌, List, length, inr, arith, ap}
 use Rattle.lt_modes.specs.Script.{ScriptData}
 use Rattle.lt_spec.specs.declared.limits.TheConstants.{MAX_COMMANDS, MAX_SETS}
 use Rattle.lt_spec.specs.World.{Logged}
-use Rattle.lt_threads.specs.Meeting.{AreTooMany}
 use Rattle.lt_live.specs.Live.{AreLive, IsServedRun}
-use Rattle.lt_live.specs.Stations.{runner_of}
 use Rattle.lt_live_c.specs.declared.journal.Journal.{Journal}
 use Rattle.lt_live_c.specs.declared.service.Service.{Service}
 use Rattle.lt_live_c.specs.Journals.{TellsOf, IsJournalOfService, HaveTooMany}
@@ -20,11 +18,8 @@ pub is_journal : (s : Service) (script : ScriptData) (run : List Logged) (journa
 is_journal s script run journal served commands sets tells first live =
     (script, run, served first live, record { sets = sets; commands = commands }, tells)
 
--- more sets or more commands than a text may have
+-- more sets than a text may have
 pub many_sets : (s : Service) (script : ScriptData) (run : List Logged) → ServesAll s script run
     → MAX_SETS < length script.sets → HaveTooMany s
 many_sets s script run served many = inr (λ first live.
     let same = ap (λ (x : ScriptData). length x.sets) (served first live).same in omega (arith, many, same))
-
-pub many_commands : (s : Service) → AreTooMany (map runner_of s.stations.items) → HaveTooMany s
-many_commands s many = inl many

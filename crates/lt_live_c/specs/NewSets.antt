@@ -2,6 +2,7 @@
 use Rattle.std.specs.Prelude.{◌≡◌, ◌&&◌, not, ℕ, Bool, true, false, if◌then◌else◌, List, [], ◌∷◌, ◌++◌, Option, Some, None, option_map, option_and_then, length}
 use Rattle.lt_modes.specs.Script.{ScriptData, family_at}
 use Rattle.lt_spec.specs.Script.{is_name, is_declared, set_number}
+use Rattle.lt_script.specs.ByName.{family_with, has_parent}
 use Rattle.lt_live_c.specs.declared.new_sets.NewSet.{NewSet}
 
 -- a further set: its name, and that of its parent, which is empty if it has none
@@ -17,6 +18,11 @@ words_of_set set = record { name = set.name.now; parent = set.parent.now }
 abbrev pub family_of_next : ScriptData → List ℕ → Option ℕ
 family_of_next s [] = Some (length s.sets)
 family_of_next s (byte ∷ bytes) = option_map (family_at s.sets) (set_number s (byte ∷ bytes))
+
+-- this is the number of the parent, if it has a name
+pub record IsParent (s : ScriptData) (parent : List ℕ) (number : Option ℕ) : Type 0 where
+  pub family : family_of_next s parent ≡ Some (family_with s number)
+  pub there : has_parent s number ≡ true
 
 abbrev pub in_family : ScriptData → List ℕ → ℕ → ScriptData
 in_family s name family = record s { sets = s.sets ++ record { name = name; family = family } ∷ [] }

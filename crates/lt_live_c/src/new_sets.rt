@@ -1,10 +1,9 @@
 // Sets that C adds to those of a script's text.
-ghost use Rattle.std.specs.Prelude.{◌≡◌, ◌<◌, ◌≤◌, ◌+◌, length, map, IfOk, IfSome};
-ghost use Rattle.lt_spec.specs.Script.{IsFamilyOfNext};
+ghost use Rattle.std.specs.Prelude.{◌≡◌, ◌<◌, ◌≤◌, ◌+◌, None, length, map, IfOk, IfSome, IfNone};
 ghost use Rattle.lt_spec.specs.declared.limits.TheConstants.{MAX_SETS_OF_SERVICE};
-ghost use Rattle.lt_live_c.specs.NewSets.{words_of_set, family_of_next, AddsSet, AddsSets};
+ghost use Rattle.lt_live_c.specs.NewSets.{words_of_set, family_of_next, IsParent, AddsSet, AddsSets};
 
-use lt_script::{Script, is_name};
+use lt_script::{Script, SetByName};
 use std::alloc::AllocError;
 
 /// A further set: its name, and that of its parent, which is empty if it has none.
@@ -33,26 +32,26 @@ fn add_set(script: &mut Script, set: &NewSet<'_>) -> Result<bool, AllocError>
     requires { length script.old.sets < MAX_SETS_OF_SERVICE }
     ensures { IfOk result (λ added. AddsSet added (words_of_set set.now) script.old script.new) }
 {
-    if !is_name(set.name) || script.is_declared(set.name) {
-        return Ok(false);
-    }
-    let Some(family) = family_of_next(script, set.parent) else {
+    let Some(parent) = parent_of(script, set.parent) else {
         return Ok(false);
     };
-    script.add_set(set.name, family)?;
-    Ok(true)
+    let count = script.sets();
+    match script.set_by_name(set.name, parent)? {
+        SetByName::Set(set) => Ok(set == count),
+        _ => Ok(false),
+    }
 }
 
-// The family of a next set with this parent; none where no set has its name.
-fn family_of_next(script: &Script, parent: &[u8]) -> Option<u32>
-    ensures family { result ≡ family_of_next script.now parent.now }
-    ensures next { IfSome result (IsFamilyOfNext script.now.sets) }
+// The number of the set with the parent's name, if it has one; none where no set has it.
+fn parent_of(script: &Script, parent: &[u8]) -> Option<Option<u32>>
+    ensures some { IfSome result (IsParent script.now parent.now) }
+    ensures none { IfNone result (family_of_next script.now parent.now ≡ None) }
 {
     if parent.is_empty() {
-        return Some(script.sets());
+        return Some(None);
     }
-    let Some(set) = script.set_number(parent) else {
-        return None;
-    };
-    Some(script.family(set))
+    match script.set_number(parent) {
+        Some(set) => Some(Some(set)),
+        None => None,
+    }
 }

@@ -168,6 +168,9 @@ fn with_sets(mut script: Script, sets: &[NewSet<'_>]) -> Result<Script, u32>
     if sets.len() > room as usize {
         return Err(TOO_MANY);
     }
+    let Ok(()) = script.reserve_sets(sets.len() as u32) else {
+        return Err(NO_MEMORY);
+    };
     match add_sets(&mut script, sets) {
         Ok(true) => Ok(script),
         Ok(false) => Err(BAD_SET),
