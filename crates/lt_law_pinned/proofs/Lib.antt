@@ -20,3 +20,4 @@ pub mod WhyRings
 pub mod WhyOpened
 pub mod EndsOpened
 pub mod CallersOpened
+pub mod SilentEnds

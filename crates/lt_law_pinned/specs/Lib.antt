@@ -12,3 +12,4 @@ pub mod NestCalls
 pub mod WhyCalls
 pub mod EndCalls
 pub mod CallerCalls
+pub mod Untouched
