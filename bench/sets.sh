@@ -1,12 +1,12 @@
 #!/bin/sh
-# What a lock and unlock pair takes with 65,536 sets, of which each pair locks one of 1,000, beside 8 sets: instructions of
-# one pair, by callgrind, as the difference of two runs of which one makes twice as many pairs. Beside them, what opening the
-# service, with the declaration of its sets, takes of the processor, the least of eight runs, and of memory, and what the
-# touched sets take. On 1, 4 and 16 nodes. The status is 1 if a pair takes a tenth more with many sets, or if opening on one
-# node takes 10 milliseconds or 4 MiB.
-# usage: bench/sets.sh [PAIRS]: 40,000 if no number is named.
+# What a round of four commands, lock, unlock, lock and drop, takes with 65,536 sets, of which each round locks one of 1,000,
+# beside 8 sets: instructions of one round, by callgrind, as the difference of two runs of which one makes twice as many
+# rounds. Beside them, what opening the service, with the declaration of its sets, takes of the processor, the least of eight
+# runs, and of memory, and what the touched sets take. On 1, 4 and 16 nodes. The status is 1 if a round takes a tenth more with
+# many sets, or if opening on one node takes 10 milliseconds or 4 MiB.
+# usage: bench/sets.sh [ROUNDS]: 20,000 if no number is named.
 top=$(CDPATH='' cd -- "$(dirname -- "$0")/.." && pwd) || exit 1
-pairs=${1:-40000}
+rounds=${1:-20000}
 library=$top/crates/lt_live_c/out/liblt_live_c.a
 [ -f "$library" ] || { echo "bench: run rt lib in crates/lt_live_c first" >&2; exit 1; }
 room=$(mktemp -d) || exit 1
@@ -20,20 +20,20 @@ instructions() {
     sed -n 's/.*Collected : \([0-9]*\).*/\1/p'
 }
 
-# The instructions of a pair on so many nodes, with so many sets and touched ones.
-of_pair() {
-  once=$(instructions "$@" "$pairs") && twice=$(instructions "$@" $((2 * pairs))) && echo $(((twice - once) / pairs))
+# The instructions of a round on so many nodes, with so many sets and touched ones.
+of_round() {
+  once=$(instructions "$@" "$rounds") && twice=$(instructions "$@" $((2 * rounds))) && echo $(((twice - once) / rounds))
 }
 
 # Of eight runs with these words the one that opened in the least time.
 least() {
-  for run in 1 2 3 4 5 6 7 8; do "$room/sets" "$@" "$pairs" || return 1; done | sort -n | head -1
+  for run in 1 2 3 4 5 6 7 8; do "$room/sets" "$@" "$rounds" || return 1; done | sort -n | head -1
 }
 
 status=0
 for nodes in 1 4 16; do
-  few=$(of_pair $nodes 8 8) && many=$(of_pair $nodes 65536 1000) || exit 1
-  echo "nodes $nodes: $few instructions a pair with 8 sets, $many with 65,536"
+  few=$(of_round $nodes 8 8) && many=$(of_round $nodes 65536 1000) || exit 1
+  echo "nodes $nodes: $few instructions a round with 8 sets, $many with 65,536"
   [ $((10 * many)) -lt $((11 * few)) ] || status=1
   least $nodes 8 8 >"$room/few" && least $nodes 65536 1000 >"$room/many" || exit 1
   cat "$room/few" "$room/many" | tr '\n' ' ' | {

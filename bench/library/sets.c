@@ -1,6 +1,7 @@
-/* Lock and unlock pairs of one thread, through one service of many sets that forgets, by lockrun_easy.h.
+/* Rounds of one thread, through one service of many sets that forgets, by lockrun_easy.h. A round is four commands of one
+ * client on one set: lock, unlock, lock, drop.
  *
- * usage: sets NODES SETS TOUCHED PAIRS: a client on each node, so many sets, of which each pair locks one of the touched
+ * usage: sets NODES SETS TOUCHED ROUNDS: a client on each node, so many sets, of which each round locks one of the touched
  * ones. It prints the milliseconds of processor time and the KiB that opening took, and the KiB that became resident since. */
 #define _POSIX_C_SOURCE 200809L
 #include "lockrun_easy.h"
@@ -35,18 +36,21 @@ static void open_nodes(int on, uint32_t count) {
     want(lockrun_nodes_open_sets(&nodes, text, (size_t)length, sets, count, (uint64_t)1 << 55), LOCKRUN_OK);
 }
 
-static void make_pair(long number, uint32_t count, uint32_t touched) {
-    lockrun_caller *caller = &nodes.caller[(size_t)number % nodes.callers];
+static void make_round(long number, uint32_t count, uint32_t touched) {
+    uint32_t client = (uint32_t)((size_t)number % nodes.callers);
+    lockrun_caller *caller = &nodes.caller[client];
     uint32_t set = (uint32_t)(number / (long)nodes.callers % touched) * (count / touched);
     want(lockrun_lock(caller, set, LOCKRUN_WRITE, LOCKRUN_FOREVER), LOCKRUN_GRANTED);
     want(lockrun_unlock(caller, set, LOCKRUN_WRITE, LOCKRUN_FOREVER), LOCKRUN_UNLOCKED);
+    want(lockrun_lock(caller, set, LOCKRUN_WRITE, LOCKRUN_FOREVER), LOCKRUN_GRANTED);
+    want(lockrun_drop(caller, set, client, LOCKRUN_FOREVER), LOCKRUN_DROPPED);
 }
 
 int main(int count, char **words) {
-    if (count != 5) { fputs("usage: sets NODES SETS TOUCHED PAIRS\n", stderr); return 1; }
+    if (count != 5) { fputs("usage: sets NODES SETS TOUCHED ROUNDS\n", stderr); return 1; }
     int on = atoi(words[1]);
     uint32_t all = (uint32_t)atol(words[2]), touched = (uint32_t)atol(words[3]);
-    long pairs = atol(words[4]);
+    long rounds = atol(words[4]);
     if (on < 1 || on > MOST_NODES || all < 1 || all > MOST_SETS || touched < 1 || touched > all) {
         fputs("sets: 1 to 64 nodes, 1 to 65,536 sets, and no more touched ones\n", stderr);
         return 1;
@@ -58,8 +62,8 @@ int main(int count, char **words) {
     open_nodes(on, all);
     double opened = nanoseconds();
     long first = resident();
-    for (long number = 1; number <= pairs; number++) {
-        make_pair(number, all, touched);
+    for (long number = 1; number <= rounds; number++) {
+        make_round(number, all, touched);
         if (number % KEPT == 0) want(lockrun_nodes_forget(&nodes), LOCKRUN_OK);
     }
     printf("%.2f %ld %ld\n", (opened - begun) / 1e6, first - before, resident() - first);

@@ -1,5 +1,5 @@
 -- What follows of an answer that comes once the writing has begun, and of words that are a command.
-use Rattle.std.proofs.Common.{◌≡◌, ℕ, Bool, true, false, List, [], ◌∷◌, Option, Some, None, refl, sym, subst, ◌∙◌, ap, Result, Ok, length, take, arith, inl, inr, option_map, if◌then◌else◌, codes, IsTrue, IsFalse, ◌⊎◌, bytes_eq, take_all}
+use Rattle.std.proofs.Common.{◌≡◌, ℕ, Bool, true, false, List, [], ◌∷◌, Option, Some, None, refl, sym, subst, ◌∙◌, ap, length, take, arith, inl, inr, option_map, if◌then◌else◌, codes, IsTrue, IsFalse, ◌⊎◌, bytes_eq, take_all}
 use Rattle.std.proofs.lemmas.Bool.{false≢true}
 use Rattle.lt_modes.specs.Script.{ScriptData}
 use Rattle.lt_spec.specs.Script.{IsScript, IsShort, IsOrdered}
@@ -8,8 +8,6 @@ use Rattle.lt_spec.specs.declared.ending.Ending.{Ending}
 use Rattle.lt_spec.specs.declared.ending.Ending.TheVariants as ending
 use Rattle.lt_io.specs.Streams.{CountsFaults, SourceState, IsReadWhole}
 use Rattle.lt_text.specs.Number.{number}
-use Rattle.lt_script.specs.declared.fault.ScriptFault.{ScriptFault}
-use Rattle.lt_script.specs.Reading.{read_of}
 use Rattle.lt_gen.specs.Sizes.{can_make}
 use Rattle.lt_words.specs.declared.command.Command.{Command}
 use Rattle.lt_words.specs.declared.command.Command.TheVariants.{Sim, Make, Soak, Run, SimFirst, Check, Order}
@@ -26,7 +24,7 @@ use Rattle.lt_serve.specs.declared.status.Status.TheVariants.{Stuck, Done, Usage
 use Rattle.lt_serve.specs.Causes.{HasStatusCause, CanBeMade, IsRefusal, RunsOrdered, WantsToRead, reads, limit_of}
 use Rattle.lt_serve.specs.Status.{outcome_of}
 use Rattle.lt_serve.specs.Endings.{EndsAs, RanTo, status_of_end}
-use Rattle.lt_serve.specs.TopCall.{Journals, JournalsBy, DidOf}
+use Rattle.lt_serve.specs.TopCall.{JournalsBy, DidOf}
 use Rattle.lt_serve.specs.declared.serving.Served.{Served}
 use Rattle.lt_serve.specs.Serves.{IsComplete, IsAnswered, Serves}
 use Rattle.lt_serve.proofs.Completing.{complete_of, refusal_complete}
