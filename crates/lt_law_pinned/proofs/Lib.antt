@@ -20,4 +20,3 @@ pub mod WhyRings
 pub mod WhyOpened
 pub mod EndsOpened
 pub mod CallersOpened
-pub mod SilentEnds

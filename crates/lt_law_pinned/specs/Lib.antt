@@ -12,4 +12,3 @@ pub mod NestCalls
 pub mod WhyCalls
 pub mod EndCalls
 pub mod CallerCalls
-pub mod Untouched

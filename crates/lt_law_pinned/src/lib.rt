@@ -1,6 +1,6 @@
 //! What definitions say of small inputs, in literals that the proof computes: what the promise of a run rules out,
 //! what a script and its journal are, what each field of an answer of the top call says, and what each answer to
-//! small inputs says. And that nothing comes of a set which no move touched.
+//! small inputs says.
 #![tactic(auto)]
 
 mod answers;
@@ -9,7 +9,6 @@ mod calls;
 mod ends;
 mod laws;
 mod live;
-mod untouched;
 mod why;
 
 pub use answers::law_answers;
@@ -18,5 +17,4 @@ pub use calls::{law_nests_told, law_reports_told};
 pub use ends::law_ends_told;
 pub use laws::{law_excluded, law_texts, law_told, law_worlds_excluded};
 pub use live::law_live_told;
-pub use untouched::law_untouched;
 pub use why::law_why_told;

@@ -29,3 +29,4 @@ pub mod NewsRules
 pub mod SmallSteps
 pub mod HomesRows
 pub mod PathsRoutes
+pub mod SilentEnds

@@ -5,3 +5,4 @@ pub mod PathEffects
 pub mod Laws
 pub mod AccountRules
 pub mod Homes
+pub mod Untouched

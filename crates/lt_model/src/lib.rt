@@ -3,6 +3,7 @@
 
 mod laws;
 mod rule_laws;
+mod untouched;
 
 pub use laws::{
     law_clocks, law_exact_try, law_homes, law_lines, law_moment, law_one_place, law_one_token,
@@ -10,3 +11,4 @@ pub use laws::{
 };
 pub use lt_law_accounts::{law_account, law_account_facts, law_accounts, law_news};
 pub use rule_laws::{law_account_rules, law_news_rules, law_on_way};
+pub use untouched::law_untouched;

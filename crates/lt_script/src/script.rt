@@ -1,4 +1,4 @@
-ghost use Rattle.std.specs.Prelude.{◌≡◌, ◌⊎◌, ◌<◌, ◌≤◌, [], length, slice_get, IfOk, IfSome, IfNone};
+ghost use Rattle.std.specs.Prelude.{◌≡◌, ◌≢◌, ◌⊎◌, ◌<◌, ◌≤◌, ℕ, [], length, slice_get, IfOk, IfSome, IfNone};
 ghost use Rattle.lt_modes.specs.Script.{set_name, family_at, client_name, home_at};
 ghost use Rattle.lt_spec.specs.Script.{IsScript, most_nodes, load_of};
 ghost use Rattle.lt_spec.specs.declared.limits.TheConstants.{MAX_NODES, MAX_NODES_OF_FIRST};
@@ -163,6 +163,7 @@ impl Script {
         ensures family { result ≡ family_at self.now.sets set }
         ensures earlier { result ≤ set }
         ensures first { family_at self.now.sets result ≡ result }
+        ensures none_before { (k : ℕ) → k < result → family_at self.now.sets k ≢ result }
     {
         self.parts.sets.items()[set as usize].family()
     }

@@ -11,7 +11,7 @@ use std::marker::Model;
 
 /// The sets of a script, found by their names. Those of a family are chained, each to the next one.
 #[derive(Debug, Drop)]
-pub(crate) struct Sets {
+pub(crate) struct DeclaredSets {
     index: Index<SetDecl>,
     // For each family one more than its last set; 0 for the number of a set that isn't the first of its family.
     lasts: Vec<u32>,
@@ -19,7 +19,7 @@ pub(crate) struct Sets {
     nexts: Vec<u32>,
 }
 
-impl Model for Sets {
+impl Model for DeclaredSets {
     ghost use Rattle.std.specs.Prelude.{List, length};
     ghost use Rattle.lt_modes.specs.Script.{SetData, family_at};
     ghost use Rattle.lt_script.specs.Families.{AreChained};
@@ -31,12 +31,12 @@ impl Model for Sets {
     ghost invariant = { λ s. AreChained (family_at s.index) (length s.index) s.lasts.items s.nexts.items };
 }
 
-impl Sets {
+impl DeclaredSets {
     /// No sets.
-    pub(crate) fn new(alloc: Global) -> Result<Sets, AllocError>
+    pub(crate) fn new(alloc: Global) -> Result<DeclaredSets, AllocError>
         ensures { IfOk result (λ sets. sets ≡ []) }
     {
-        Ok(Sets {
+        Ok(DeclaredSets {
             index: Index::new(alloc)?,
             lasts: Vec::new(alloc),
             nexts: Vec::new(alloc),
@@ -44,10 +44,10 @@ impl Sets {
     }
 
     /// The same sets once more.
-    pub(crate) fn copy(&self, alloc: Global) -> Result<Sets, AllocError>
+    pub(crate) fn copy(&self, alloc: Global) -> Result<DeclaredSets, AllocError>
         ensures { IfOk result (λ sets. sets ≡ self.now) }
     {
-        Ok(Sets {
+        Ok(DeclaredSets {
             index: self.index.copy(alloc)?,
             lasts: Vec::from_slice(alloc, &self.lasts)?,
             nexts: Vec::from_slice(alloc, &self.nexts)?,

@@ -47,11 +47,11 @@ impl Script {
         }) }
         ensures unchanged { OnErr result (self.new ≡ self.old) }
     {
-        self.add_set_of(name, hash(name), family)
+        self.add_set_hashed(name, hash(name), family)
     }
 
     /// The same of a name with this hash.
-    pub(crate) fn add_set_of(
+    pub(crate) fn add_set_hashed(
         &mut self,
         name: &[u8],
         hash: u32,

@@ -66,7 +66,7 @@ impl Script {
         if set >= MAX_SETS_OF_SERVICE {
             return Ok(SetByName::TooMany);
         }
-        self.add_set_of(name, hash, family)?;
+        self.add_set_hashed(name, hash, family)?;
         Ok(SetByName::Set(set))
     }
 

@@ -4,7 +4,7 @@ ghost use Rattle.lt_script.specs.Views.{DeclareTheSame};
 
 use crate::declarations::ClientDecl;
 use crate::index::Index;
-use crate::sets::Sets;
+use crate::sets::DeclaredSets;
 use lt_modes::Command;
 use lt_spec::MAX_COMMANDS;
 use std::alloc::{AllocError, Global};
@@ -12,7 +12,7 @@ use std::alloc::{AllocError, Global};
 /// What a script and its copies declare: the sets and the clients.
 #[derive(Debug, Drop)]
 pub(crate) struct Parts {
-    pub(crate) sets: Sets,
+    pub(crate) sets: DeclaredSets,
     pub(crate) clients: Index<ClientDecl>,
 }
 
@@ -22,7 +22,7 @@ impl Parts {
         ensures clients { IfOk result (λ parts. parts.clients ≡ []) }
     {
         Ok(Parts {
-            sets: Sets::new(alloc)?,
+            sets: DeclaredSets::new(alloc)?,
             clients: Index::new(alloc)?,
         })
     }

@@ -1,4 +1,4 @@
-ghost use Rattle.lt_law_pinned.specs.Untouched.{EndsSilently, DropsSilently};
+ghost use Rattle.lt_model.specs.Untouched.{EndsSilently, DropsSilently};
 
 /// A set that no move touched: the end of a move makes nothing of it, and neither does a drop. So a drop might leave
 /// out the untouched sets of its family.

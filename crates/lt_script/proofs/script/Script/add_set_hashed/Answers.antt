@@ -4,7 +4,7 @@ use Rattle.lt_spec.specs.declared.limits.TheConstants.{MAX_SETS_OF_SERVICE}
 use Rattle.lt_spec.specs.Script.{IsFamilyOfNext, is_declared}
 use Rattle.lt_script.specs.Views.{script_data}
 use Rattle.lt_script.proofs.ScriptLemmas.{set_added}
-use Rattle.lt_script.proofs.script.Script.add_set_of.Goals as goal
+use Rattle.lt_script.proofs.script.Script.add_set_hashed.Goals as goal
 
 pub invariant_of-self-2 : goal.invariant_of-self-2
 invariant_of-self-2 c =

@@ -5,7 +5,7 @@ use Rattle.lt_modes.specs.Freezing.{frozen_by, frozen_entry, is_target, map_from
 use Rattle.lt_modes.specs.Modes.{Modes, conflicts, no_modes}
 use Rattle.lt_modes.specs.SetMove.{finish}
 use Rattle.lt_modes.specs.State.{SetState, first_desk, first_entry, first_state, silent}
-use Rattle.lt_law_pinned.specs.Untouched.{DropsSilently, EndsSilently}
+use Rattle.lt_model.specs.Untouched.{DropsSilently, EndsSilently}
 
 -- a node without a record is told of no frozen modes
 no_target : (me x : ℕ) (frozen : Modes) → is_target me frozen x first_entry ≡ false

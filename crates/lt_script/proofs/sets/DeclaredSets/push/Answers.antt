@@ -1,7 +1,7 @@
 use Rattle.std.proofs.Common.{◌≡◌, ◌∙◌, ◌≤◌, ◌++◌, ◌∷◌, [], ℕ, List, length, sym, ap, subst}
 use Rattle.lt_modes.specs.Script.{SetData}
 use Rattle.lt_script.proofs.ChainLemmas.{set_chained}
-use Rattle.lt_script.proofs.sets.Sets.push.Goals as goal
+use Rattle.lt_script.proofs.sets.DeclaredSets.push.Goals as goal
 
 pub invariant_of-self-2 : goal.invariant_of-self-2
 invariant_of-self-2 c =
