@@ -1,6 +1,6 @@
 -- Sets that the end of a transaction changes, and sets that it leaves as they are.
-use Rattle.std.proofs.Common.{◌≡◌, ℕ, suc, ◌+◌, ◌<◌, ◌≤◌, List, [], ◌∷◌, ◌++◌, length, Bool, true, false, not, refl, sym, ap, subst, arith, ◌∙◌, Option, Some, None, take, drop, map, append_assoc, if◌then◌else◌, slice_index_or, slice_set, position, filter, All, drop-set-lt}
-use Rattle.std.proofs.lemmas.List.{drop_more, take_more_set}
+use Rattle.std.proofs.Common.{◌≡◌, ℕ, suc, ◌+◌, ◌<◌, ◌≤◌, List, [], ◌∷◌, ◌++◌, length, Bool, true, false, not, refl, sym, ap, ap₂, append-nil, subst, arith, ◌∙◌, Option, Some, None, take, drop, map, append_assoc, if◌then◌else◌, slice_index_or, slice_set, position, filter, All, drop-set-lt}
+use Rattle.std.proofs.lemmas.List.{drop_more, take_more_set, take_all, drop_all}
 use Rattle.std.proofs.lemmas.List.Elements.{All-weaker}
 use Rattle.lt_lists.proofs.Sums.{none_found}
 use Rattle.lt_nest.specs.declared.forest.Transaction.{Transaction}
@@ -104,6 +104,17 @@ pub next_grants : (ts : List Transaction) (change : Change) (k : ℕ) (sets : Li
     ++ (serve_from (k + 1) ts (map (after_change ts change) (drop (k + 1) (slice_set sets k (serve_set ts (after_change ts change s)).set)))).grants
 next_grants ts change k sets d s h is =
     rw (drop-set-lt (k + 1) sets k (serve_set ts (after_change ts change s)).set (omega arith), drop_more sets k d h, ← is) refl
+
+-- behind the last set none is left
+
+pub sets_left : (ts : List Transaction) (change : Change) (k : ℕ) (sets : List LockSet) → length sets ≤ k
+    → take k sets ++ (serve_from k ts (map (after_change ts change) (drop k sets))).sets ≡ sets
+sets_left ts change k sets whole =
+    ap₂ (λ (front back : List LockSet). front ++ (serve_from k ts (map (after_change ts change) back)).sets) (take_all k sets whole) (drop_all k sets whole) ∙ append-nil sets
+
+pub grants_left : (ts : List Transaction) (change : Change) (k : ℕ) (sets : List LockSet) → length sets ≤ k
+    → (serve_from k ts (map (after_change ts change) (drop k sets))).grants ≡ []
+grants_left ts change k sets whole = ap (λ (back : List LockSet). (serve_from k ts (map (after_change ts change) back)).grants) (drop_all k sets whole)
 
 -- the end of a transaction frees no ask by itself
 

@@ -7,7 +7,7 @@ use crate::forest::{Transaction, is_own, parent};
 /// Which transactions are x or an ancestor of x, found by one walk.
 ///
 /// The 256 numbers that end at x have a mark each; of those below them the ancestor is kept where the walk ended.
-#[derive(Clone, Copy, Debug)]
+#[derive(Clone, Copy)]
 pub(crate) struct Marks {
     first: u16,
     own: [bool; 256],

@@ -9,7 +9,7 @@ use lt_modes::Mode;
 use std::alloc::AllocError;
 
 /// What is kept of a transaction, so that no call has to look for it.
-#[derive(Clone, Copy, Debug, PartialEq, Eq)]
+#[derive(Clone, Copy)]
 pub struct Tally {
     /// How many open transactions have it as their parent.
     pub children: u16,

@@ -1,4 +1,4 @@
-ghost use Rattle.std.specs.Prelude.{◌≡◌, ◌<◌, ◌++◌, length, OnOk};
+ghost use Rattle.std.specs.Prelude.{◌≡◌, ◌<◌, ◌++◌, ◌∷◌, [], length, decimal, OnOk};
 ghost use Rattle.lt_nest_lines.specs.Written.{each_below, held_count_line, held_text_in_set, held_text_of, wish_line, waiting_text_of, last_line, closing_text};
 
 use crate::input::Input;
@@ -80,8 +80,15 @@ fn push_held_line(
     push_text(out, "held")?;
     let name = input.transaction_name(usize::from(transaction));
     push_lock_words(out, name, input.set_name(set), mode)?;
+    push_last_number(out, count)
+}
+
+// Writes a space, the number and the line end.
+fn push_last_number(out: &mut Vec<u8>, number: u32) -> Result<(), AllocError>
+    ensures { OnOk result (out.new.items ≡ out.old.items ++ (32 ∷ decimal number) ++ 10 ∷ []) }
+{
     push_text(out, " ")?;
-    push_number(out, u64::from(count))?;
+    push_number(out, u64::from(number))?;
     push_text(out, "\n")
 }
 
@@ -115,7 +122,6 @@ fn push_waiting_line(
 fn push_count(out: &mut Vec<u8>, input: &Input) -> Result<(), AllocError>
     ensures { OnOk result (out.new.items ≡ out.old.items ++ last_line input.now) }
 {
-    push_text(out, "end ")?;
-    push_number(out, u64::from(input.lines()))?;
-    push_text(out, "\n")
+    push_text(out, "end")?;
+    push_last_number(out, input.lines())
 }

@@ -1,8 +1,10 @@
-ghost use Rattle.std.specs.Prelude.{◌≤◌, length, IfOk, IfErr};
+ghost use Rattle.std.specs.Prelude.{◌≡◌, ◌≤◌, length, Ok, IfOk, IfErr};
 ghost use Rattle.lt_nest_lines.specs.declared.limits.TheConstants.{MAX_INPUT};
+ghost use Rattle.lt_nest_lines.specs.Input.{input_of};
 ghost use Rattle.lt_nest_lines.specs.Serves.{IsTextOf, IsWritten, IsUnfit, IsInputFault, LinesWantMemory};
 
 use crate::answer::Answer;
+use crate::input::Input;
 use crate::limits::MAX_INPUT;
 use crate::reading::{ReadError, read};
 use crate::writing::report;
@@ -36,13 +38,22 @@ fn text_of(alloc: Global, bytes: &[u8]) -> Result<Vec<u8>, Answer>
     ensures text { IfOk result (λ text. IsTextOf bytes.now text.items) }
     ensures refused { IfErr result (IsInputFault bytes.now) }
 {
-    let input = match read(alloc, bytes) {
-        Ok(input) => input,
-        Err(ReadError::Refused { line }) => return Err(Answer::Refused { line }),
-        Err(ReadError::Memory) => return Err(Answer::NoMemory),
-    };
+    let input = input_of(alloc, bytes)?;
     match report(alloc, &input) {
         Ok(text) => Ok(text),
         Err(_) => Err(Answer::NoMemory),
+    }
+}
+
+// What these lines say.
+fn input_of(alloc: Global, bytes: &[u8]) -> Result<Input, Answer>
+    requires few { length bytes.now ≤ MAX_INPUT }
+    ensures input { IfOk result (λ input. input_of bytes.now ≡ Ok input) }
+    ensures refused { IfErr result (IsInputFault bytes.now) }
+{
+    match read(alloc, bytes) {
+        Ok(input) => Ok(input),
+        Err(ReadError::Refused { line }) => Err(Answer::Refused { line }),
+        Err(ReadError::Memory) => Err(Answer::NoMemory),
     }
 }

@@ -14,10 +14,16 @@ pub fn report(alloc: Global, input: &Input) -> Result<Vec<u8>, AllocError>
     ensures { IfOk result (λ text. text.items ≡ report_text input.now) }
 {
     let mut out = Vec::new(alloc);
-    let mut play = Play::new(alloc, input.sets())?;
-    follow_all(&mut play, input, input.orders(), &mut out)?;
-    push_closing(&mut out, input, &play)?;
+    push_report(alloc, &mut out, input)?;
     Ok(out)
+}
+
+fn push_report(alloc: Global, out: &mut Vec<u8>, input: &Input) -> Result<(), AllocError>
+    ensures { OnOk result (out.new.items ≡ out.old.items ++ report_text input.now) }
+{
+    let mut play = Play::new(alloc, input.sets())?;
+    follow_all(&mut play, input, input.orders(), out)?;
+    push_closing(out, input, &play)
 }
 
 // Follows these orders.

@@ -1,7 +1,8 @@
 -- In how many sets a client waits.
 use Rattle.std.proofs.Common.{◌≡◌, ◌≢◌, ◌+◌, ◌<◌, ◌≤◌, ◌==◌, ◌||◌, ◌∙◌, Bool, true, false, ℕ, zero, suc, List, length, take, refl, sym, ap, arith, inl, inr, not, slice_index_or, if◌then◌else◌, eq-eqb, ne_eqb}
 use Rattle.std.proofs.Math.Bool.{or-false, or-true}
-use Rattle.std.proofs.lemmas.Bool.{cases_eq, cases_lt, cases_Bool}
+use Rattle.std.proofs.lemmas.Bool.{cases_eq, cases_lt, cases_Bool, eqb-true, not-true, not-false}
+use Rattle.std.proofs.lemmas.List.Folds.{list_any_more}
 use Rattle.std.proofs.lemmas.List.{get_or_default, get_or_past, get_or-take, length-take-le}
 use Rattle.lt_modes.specs.declared.ask.Ask.{Ask}
 use Rattle.lt_modes.specs.Fits.{has_client}
@@ -78,6 +79,97 @@ found_before asks j k before inside same =
     let within : j < length (take k asks) = omega (arith, before, length-take-le k asks (omega (arith, inside))) in
     let here = get_or-take k asks j ask before ∙ get_or_default asks j ask no_ask (omega (arith, before, inside)) in
     list_any-at (λ (a : Ask). a.client == client) (take k asks) ask (j, within, here) (eq-eqb ask.client client same)
+
+-- The next ask of a list, at place k.
+
+abbrev client_at : List Ask → ℕ → ℕ
+client_at asks k = (slice_index_or asks k no_ask).client
+
+-- no ask before it is of its client
+abbrev IsNew : List Ask → ℕ → Type 0
+IsNew asks k = not (has_client (client_at asks k) (take k asks)) ≡ true
+
+abbrev IsOld : List Ask → ℕ → Type 0
+IsOld asks k = not (has_client (client_at asks k) (take k asks)) ≡ false
+
+none_yet : (asks : List Ask) (k : ℕ) → IsNew asks k → asks_of (take k asks) (client_at asks k) ≡ 0
+none_yet asks k new = ap one_here (not-true _ new)
+
+asks_more : (asks : List Ask) (k client : ℕ) → k < length asks
+    → asks_of (take (k + 1) asks) client ≡ one_here (has_client client (take k asks) || (client_at asks k == client))
+asks_more asks k client inside = ap one_here (list_any_more (λ (a : Ask). a.client == client) asks k no_ask inside)
+
+-- it is of one client more
+new_more : (asks : List Ask) (k client : ℕ) → k < length asks → IsNew asks k
+    → asks_of (take (k + 1) asks) client ≡ asks_of (take k asks) client + (if client_at asks k == client then 1 else 0)
+new_more asks k client inside new = elim (cases_Bool (client_at asks k == client)) [
+  | inl same ↦
+      let none : asks_of (take k asks) client ≡ 0 = ap (asks_of (take k asks)) (sym (eqb-true _ _ same)) ∙ none_yet asks k new in
+      let more : asks_of (take (k + 1) asks) client ≡ 1 =
+      asks_more asks k client inside ∙ ap (λ (b : Bool). one_here (has_client client (take k asks) || b)) same ∙ ap one_here (or-true (has_client client (take k asks))) in
+      let one : one_here (client_at asks k == client) ≡ 1 = ap one_here same in
+      omega (arith, none, more, one)
+  | inr other ↦
+      let more : asks_of (take (k + 1) asks) client ≡ asks_of (take k asks) client =
+      asks_more asks k client inside ∙ ap (λ (b : Bool). one_here (has_client client (take k asks) || b)) other ∙ ap one_here (or-false (has_client client (take k asks))) in
+      let zero_here : one_here (client_at asks k == client) ≡ 0 = ap one_here other in
+      omega (arith, more, zero_here)
+]
+
+-- it is of one that was there
+old_more : (asks : List Ask) (k client : ℕ) → k < length asks → IsOld asks k
+    → asks_of (take (k + 1) asks) client ≡ asks_of (take k asks) client
+old_more asks k client inside old = asks_more asks k client inside ∙ elim (cases_Bool (client_at asks k == client)) [
+  | inl same ↦
+      let here : has_client client (take k asks) ≡ true = ap (λ (c : ℕ). has_client c (take k asks)) (sym (eqb-true _ _ same)) ∙ not-false _ old in
+      ap (λ (b : Bool). one_here (b || (client_at asks k == client))) here ∙ sym (ap one_here here)
+  | inr other ↦ ap (λ (b : Bool). one_here (has_client client (take k asks) || b)) other ∙ ap one_here (or-false (has_client client (take k asks)))
+]
+
+pub WaitMore_new : (asks : List Ask) (k : ℕ) (old mid new : List ℕ) → k < length asks → IsNew asks k → WaitMore (take k asks) old mid → length new ≡ length mid
+    → ((other : ℕ) → other < length mid → slice_index_or new other 0 ≡ slice_index_or mid other 0 + (if client_at asks k == other then 1 else 0))
+    → WaitMore (take (k + 1) asks) old new
+WaitMore_new asks k old mid new inside is_new more count each = record {
+  count = count ∙ more.count;
+  each = λ client within. omega (arith, each client (omega (arith, within, more.count)), more.each client within, new_more asks k client inside is_new);
+}
+
+pub WaitMore_old : (asks : List Ask) (k : ℕ) (old mid : List ℕ) → k < length asks → IsOld asks k → WaitMore (take k asks) old mid → WaitMore (take (k + 1) asks) old mid
+WaitMore_old asks k old mid inside is_old more = record {
+  count = more.count;
+  each = λ client within. more.each client within ∙ ap (λ (n : ℕ). slice_index_or old client 0 + n) (sym (old_more asks k client inside is_old));
+}
+
+pub WaitLess_new : (asks : List Ask) (k : ℕ) (old mid new : List ℕ) → k < length asks → IsNew asks k → WaitLess (take k asks) old mid → length new ≡ length mid
+    → ((other : ℕ) → other < length mid → slice_index_or new other 0 + (if client_at asks k == other then 1 else 0) ≡ slice_index_or mid other 0)
+    → WaitLess (take (k + 1) asks) old new
+WaitLess_new asks k old mid new inside is_new less count each = record {
+  count = count ∙ less.count;
+  each = λ client within. omega (arith, each client (omega (arith, within, less.count)), less.each client within, new_more asks k client inside is_new);
+}
+
+pub WaitLess_old : (asks : List Ask) (k : ℕ) (old mid : List ℕ) → k < length asks → IsOld asks k → WaitLess (take k asks) old mid → WaitLess (take (k + 1) asks) old mid
+WaitLess_old asks k old mid inside is_old less = record {
+  count = less.count;
+  each = λ client within. ap (λ (n : ℕ). slice_index_or mid client 0 + n) (old_more asks k client inside is_old) ∙ less.each client within;
+}
+
+-- its client's number is still as it was
+pub still_few : (asks : List Ask) (k : ℕ) (old mid : List ℕ) → IsNew asks k → WaitMore (take k asks) old mid → ((client : ℕ) → slice_index_or old client 0 ≤ MAX_SETS_OF_SERVICE)
+    → slice_index_or mid (client_at asks k) 0 ≤ MAX_SETS_OF_SERVICE
+still_few asks k old mid new more few = elim (cases_lt (client_at asks k) (length old)) [
+  | inl within ↦ omega (arith, few (client_at asks k), more.each (client_at asks k) within, none_yet asks k new)
+  | inr past ↦ omega (arith, get_or_past mid (client_at asks k) 0 (omega (arith, past, more.count)))
+]
+
+pub some_left : (asks : List Ask) (k : ℕ) (old mid : List ℕ) → k < length asks → IsNew asks k → WaitLess (take k asks) old mid
+    → ((client : ℕ) → client < length old → asks_of asks client ≤ slice_index_or old client 0) → client_at asks k < length mid
+    → 0 < slice_index_or mid (client_at asks k) 0
+some_left asks k old mid inside new less enough within =
+    let client = client_at asks k in
+    let in_old : client < length old = omega (arith, within, less.count) in
+    let one : asks_of asks client ≡ 1 = ap one_here (list_any-at (λ (a : Ask). a.client == client) asks (slice_index_or asks k no_ask) (k, inside, get_or_default asks k (slice_index_or asks k no_ask) no_ask inside) (eq-eqb client client refl)) in
+    omega (arith, enough client in_old, less.each client in_old, none_yet asks k new, one)
 
 -- The counts of a node's sets.
 

@@ -1,10 +1,11 @@
 -- A node at the start.
-use Rattle.std.proofs.Common.{◌≡◌, ◌+◌, ◌<◌, ◌==◌, ◌++◌, ℕ, List, [], ◌∷◌, length, map, take, arith, refl, sym, ap, subst, ◌∙◌, slice_index_or, if◌then◌else◌, inl, inr, ◌≢◌, Some, None, Bool, true, false, zero, suc, slice_get, slice_set, append-nil, take_all, eq-eqb, ne_eqb, get_or-set_same, get_or-set_other, length-set, filter_map}
+use Rattle.std.proofs.Common.{◌≡◌, ◌+◌, ◌-◌, ◌<◌, ◌==◌, ◌++◌, ℕ, List, [], ◌∷◌, length, map, take, arith, refl, sym, ap, subst, ◌∙◌, slice_index_or, if◌then◌else◌, inl, inr, ◌≢◌, Some, None, Bool, true, false, zero, suc, slice_get, slice_set, append-nil, take_all, eq-eqb, ne_eqb, get_or-set_same, get_or-set_other, length-set, filter_map}
 use Rattle.std.proofs.Math.Path.{fun_ext}
 use Rattle.std.proofs.lemmas.Bool.{cases_eq, cases_lt, cases_Bool}
 use Rattle.std.proofs.lemmas.Option.{slice_get-get_or}
 use Rattle.std.proofs.lemmas.List.{take_more, map-append, length-map, get_or_default, get_or_past}
-use Rattle.std.proofs.Math.ListN.{get_or-map as map_read}
+use Rattle.std.proofs.Math.ListN.{get_or-append, get_or-map as map_read}
+use Rattle.std.proofs.Math.Seq.{get_or-append_right}
 use Rattle.std.specs.List.{cons_option}
 use Rattle.std.proofs.lemmas.List.Elements.{filter_map-append}
 use Rattle.lt_modes.specs.Script.{ScriptData, ClientData, home_at, node_of_client}
@@ -20,6 +21,20 @@ use Rattle.lt_node.specs.Clients.{Progress, KnowsClients, homes_in, no_progress,
 
 abbrev no_client : ClientData
 no_client = record { name = []; node = 0 }
+
+-- one client more, with no command
+pub idle_more : (clients more : List Progress) (client : Progress) (k : ℕ) → more ≡ clients ++ client ∷ [] → client ≡ no_progress
+    → ((j : ℕ) → progress_of clients j ≡ no_progress) → progress_of more k ≡ no_progress
+idle_more clients more client k is new idle =
+    ap (λ (l : List Progress). progress_of l k) (is ∙ ap (λ (x : Progress). clients ++ x ∷ []) new)
+    ∙ elim (cases_lt k (length clients)) as (λ _. progress_of (clients ++ no_progress ∷ []) k ≡ no_progress) [
+      | inl inside ↦ get_or-append clients (no_progress ∷ []) no_progress k inside ∙ idle k
+      | inr past ↦ get_or-append_right clients (no_progress ∷ []) k no_progress past ∙ none (k - length clients)
+    ]
+  where
+    none : (j : ℕ) → progress_of (no_progress ∷ []) j ≡ no_progress
+    none zero = refl
+    none (suc j) = refl
 
 pub home_more : (clients : List ClientData) (k home : ℕ) (homes : List ℕ) → k < length clients → home ≡ home_at clients k → homes ≡ map (λ (client : ClientData). client.node) (take k clients)
     → homes ++ home ∷ [] ≡ map (λ (client : ClientData). client.node) (take (k + 1) clients)

@@ -1,5 +1,5 @@
 -- Memory in the sets that a move touches.
-use Rattle.std.proofs.Common.{◌≡◌, ◌<◌, ◌≤◌, ◌+◌, ◌∙◌, ◌==◌, ◌≢◌, ◌*◌, Result, Ok, Err, OnOk, ℕ, zero, suc, inl, inr, All, Bool, true, false, List, [], ◌∷◌, Some, IsTrue, length, arith, refl, sym, ap, subst, sum_by}
+use Rattle.std.proofs.Common.{◌≡◌, ◌<◌, ◌≤◌, ◌+◌, ◌∙◌, ◌==◌, ◌≢◌, ◌*◌, Result, Ok, Err, OnOk, ℕ, zero, suc, inl, inr, All, Bool, true, false, List, [], ◌∷◌, Some, IsTrue, length, arith, refl, sym, ap, subst, sum_by, ◌⊎◌}
 use Rattle.std.specs.List.{AllByRecursion}
 use Rattle.std.proofs.Math.Path.{fun_ext}
 use Rattle.std.proofs.lemmas.Bool.{cases_eq, cases_lt, and_parts}
@@ -9,6 +9,7 @@ use Rattle.std.proofs.lemmas.List.Sums.{sum_by-cons}
 use Rattle.lt_modes.specs.declared.command.Command.{Command}
 use Rattle.lt_modes.specs.declared.event.Event.{Event}
 use Rattle.lt_modes.specs.declared.command.Command.TheVariants as commands
+use Rattle.lt_modes.specs.declared.mode.Mode.{Mode}
 use Rattle.lt_modes.specs.Script.{ScriptData, SetData, ClientData, family_at}
 use Rattle.lt_modes.specs.Fits.{fits, numbers_of}
 use Rattle.lt_modes.specs.State.{SetState, Letter, Post, Body as RulesBody, AskBody, TellBody, CopyBody, TokenBody, FreezeBody}
@@ -140,6 +141,41 @@ reserved_sent script set sent old now to =
 
 pub one_of : (P : ℕ → Type 0) (s : ℕ) → All P (s ∷ []) → P s
 one_of P s h = (recursion_from_All P (s ∷ []) h).0
+
+pub all_one : (P : ℕ → Type 0) (s : ℕ) → P s → All P (s ∷ [])
+all_one P s here = All-from_recursion P (s ∷ []) (here, tt)
+
+pub sent_by_one : (sets : SetsData) (s : ℕ) → most_sent (core_in sets s) ≡ sent_by sets (s ∷ [])
+sent_by_one sets s = omega arith
+
+-- the command names this set, and touches it alone
+abbrev NamesOne : Command → ℕ → Type 0
+NamesOne command s =
+    ((m : Mode) × (command ≡ commands.Lock s m)) ⊎ (((m : Mode) × (command ≡ commands.Try s m)) ⊎ (((m : Mode) × (command ≡ commands.Unlock s m)) ⊎ ((g : Mode) × (m : Mode) × (command ≡ commands.Change s g m))))
+
+pub touches_one : (script : ScriptData) (command : Command) (s : ℕ) → NamesOne command s → touched_sets script command ≡ s ∷ []
+touches_one script command s names = elim names [
+  | inl h ↦ ap (touched_sets script) h.1
+  | inr more ↦ elim more [
+    | inl h ↦ ap (touched_sets script) h.1
+    | inr rest ↦ elim rest [
+      | inl h ↦ ap (touched_sets script) h.1
+      | inr h ↦ ap (touched_sets script) h.2
+    ]
+  ]
+]
+
+pub names_one : (command : Command) (s : ℕ) → NamesOne command s → named_set command ≡ s
+names_one command s names = elim names [
+  | inl h ↦ ap named_set h.1
+  | inr more ↦ elim more [
+    | inl h ↦ ap named_set h.1
+    | inr rest ↦ elim rest [
+      | inl h ↦ ap named_set h.1
+      | inr h ↦ ap named_set h.2
+    ]
+  ]
+]
 
 -- A node, and the storage of its sets.
 

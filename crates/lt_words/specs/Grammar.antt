@@ -64,13 +64,17 @@ needed id = record (new_rule id) { required = true; action = Some Set }
 abbrev pub plain_app : List ℕ → App
 plain_app name = record (new_app name) { top = record (new_app name).top { disable_help_flag = true } }
 
+-- a subcommand with one argument
+abbrev pub one_app : List ℕ → List ℕ → App
+one_app name id = with_rule (plain_app name) (needed id)
+
 -- `sim HOW`
 abbrev pub sim_app : App
-sim_app = with_rule (plain_app (codes "sim")) (needed (codes "how"))
+sim_app = one_app (codes "sim") (codes "how")
 
 -- `soak SEED`
 abbrev pub soak_app : App
-soak_app = with_rule (plain_app (codes "soak")) (needed (codes "seed"))
+soak_app = one_app (codes "soak") (codes "seed")
 
 -- `make NODES CLIENTS COMMANDS SEED`
 abbrev pub make_app : App
@@ -111,12 +115,16 @@ is_form words = has_verb words && list_all is_plain words
 abbrev pub text_at : List ℕ → List Row → List ℕ
 text_at id rows = unwrap_or (first_of id rows) []
 
+-- `make` with the texts that a parse found
+abbrev pub make_in : List Row → Option Command
+make_in rows = make_of (number (text_at (codes "nodes") rows)) (number (text_at (codes "clients") rows)) (number (text_at (codes "commands") rows)) (seed_of (text_at (codes "seed") rows))
+
 -- the command with this first word and these texts
 abbrev pub command_named : List ℕ → List Row → Option Command
 command_named name rows =
     if bytes_eq name (codes "sim") then sim_of (text_at (codes "how") rows)
     else if bytes_eq name (codes "soak") then soak_of (text_at (codes "seed") rows)
-    else if bytes_eq name (codes "make") then make_of (number (text_at (codes "nodes") rows)) (number (text_at (codes "clients") rows)) (number (text_at (codes "commands") rows)) (seed_of (text_at (codes "seed") rows))
+    else if bytes_eq name (codes "make") then make_in rows
     else one_word name
 
 -- the command that a parse found

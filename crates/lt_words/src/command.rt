@@ -3,7 +3,7 @@ ghost use Rattle.std.specs.List.{list_all};
 ghost use Rattle.std.specs.Str.{bytes_eq};
 ghost use Rattle.std.specs.String.{string_bytes};
 ghost use Rattle.clap.specs.Words.{rows_of, found_of, subcommand_rows_of};
-ghost use Rattle.lt_words.specs.Grammar.{command_of, one_word, two_words, sim_of, soak_of, five_words, text_at, command_in, is_form, has_verb, is_plain};
+ghost use Rattle.lt_words.specs.Grammar.{command_of, one_word, two_words, sim_of, soak_of, five_words, text_at, make_in, command_in, command_named, is_form, has_verb, is_plain};
 
 use crate::grammar::parse;
 use crate::numbers::{make_of, seed_of};
@@ -61,18 +61,32 @@ impl Command {
         ensures { result ≡ command_in (subcommand_rows_of matches.now) }
     {
         let (name, found) = matches.subcommand()?;
-        match name {
-            "sim" => sim(text_at(found, "how")),
-            "soak" => soak(text_at(found, "seed")),
-            "make" => make_of(
-                text_at(found, "nodes"),
-                text_at(found, "clients"),
-                text_at(found, "commands"),
-                text_at(found, "seed"),
-            ),
-            _ => one_word(name),
-        }
+        named(name, found)
     }
+}
+
+// The command with this first word, of which a parse found these texts.
+fn named(name: &str, found: &ArgMatches<'_>) -> Option<Command>
+    ensures { result ≡ command_named name.now (rows_of (found_of found.now)) }
+{
+    match name {
+        "sim" => sim(text_at(found, "how")),
+        "soak" => soak(text_at(found, "seed")),
+        "make" => make_in(found),
+        _ => one_word(name),
+    }
+}
+
+// The command `make` with the texts that a parse found.
+fn make_in(found: &ArgMatches<'_>) -> Option<Command>
+    ensures { result ≡ make_in (rows_of (found_of found.now)) }
+{
+    make_of(
+        text_at(found, "nodes"),
+        text_at(found, "clients"),
+        text_at(found, "commands"),
+        text_at(found, "seed"),
+    )
 }
 
 // Whether the words are a command, seen without memory.

@@ -3,9 +3,9 @@
 ghost use Rattle.std.specs.Prelude.{◌≡◌, true, false, map, IfOk, IfErr};
 ghost use Rattle.std.specs.String.{string_bytes};
 ghost use Rattle.clap.specs.Words.{app_of, rule_of, kind_of, subcommand_of, subcommand_rows_of};
-ghost use Rattle.clap.specs.declared.builder.command.Command.TheViews.{out-Command as fields_of};
 ghost use Rattle.clap.specs.declared.error.kind.ErrorKind.TheVariants.{OutOfMemory};
-ghost use Rattle.lt_words.specs.Grammar.{needed, plain_app, sim_app, soak_app, make_app, top_app, lockrun, is_form};
+ghost use Rattle.lt_words.specs.Grammar.{needed, plain_app, one_app, make_app, top_app, lockrun, is_form};
+ghost use Rattle.lt_words.specs.Apps.{IsApp, AddsRule, AddsApp};
 
 use clap::{Arg, ArgAction, ArgMatches, Command, Error};
 use std::alloc::{AllocError, Global};
@@ -25,19 +25,16 @@ pub fn parse<'a>(alloc: Global, words: &'a [String]) -> Result<ArgMatches<'a>, E
 fn commands<'a>(alloc: Global) -> Result<Command<'a>, AllocError>
     ensures { IfOk result (λ command. app_of command ≡ lockrun) }
 {
-    let top = top(alloc);
-    let with_run = top.subcommand(plain(alloc, "run"))?;
-    let with_check = with_run.subcommand(plain(alloc, "check"))?;
-    let with_sim = with_check.subcommand(sim(alloc)?)?;
-    let with_soak = with_sim.subcommand(soak(alloc)?)?;
-    let with_make = with_soak.subcommand(make(alloc)?)?;
-    let command = with_make.subcommand(plain(alloc, "order"))?;
-    Ok(command)
+    let with_run = add_plain(alloc, top(alloc), "run")?;
+    let with_check = add_plain(alloc, with_run, "check")?;
+    let with_sim = add_one(alloc, with_check, "sim", "how")?;
+    let with_soak = add_one(alloc, with_sim, "soak", "seed")?;
+    let with_make = add_make(alloc, with_soak)?;
+    add_plain(alloc, with_make, "order")
 }
 
 fn top<'a>(alloc: Global) -> Command<'a>
-    ensures app { app_of result ≡ top_app }
-    ensures local { (fields_of result).has_globals ≡ false }
+    ensures { IsApp result top_app }
 {
     Command::new(alloc, "lockrun")
         .disable_help_flag(true)
@@ -48,8 +45,7 @@ fn top<'a>(alloc: Global) -> Command<'a>
 
 // A subcommand without arguments.
 fn plain<'a>(alloc: Global, name: &'a str) -> Command<'a>
-    ensures app { app_of result ≡ plain_app name.entry.now }
-    ensures local { (fields_of result).has_globals ≡ false }
+    ensures { IsApp result (plain_app name.entry.now) }
 {
     Command::new(alloc, name).disable_help_flag(true)
 }
@@ -62,26 +58,61 @@ fn needed<'a>(alloc: Global, id: &'a str) -> Arg<'a>
     Arg::new(alloc, id).required(true).action(ArgAction::Set)
 }
 
-fn sim<'a>(alloc: Global) -> Result<Command<'a>, AllocError>
-    ensures { IfOk result (λ command. (app_of command ≡ sim_app) × ((fields_of command).has_globals ≡ false)) }
+// Adds a subcommand without arguments.
+fn add_plain<'a>(
+    alloc: Global,
+    program: Command<'a>,
+    name: &'a str,
+) -> Result<Command<'a>, AllocError>
+    ensures { IfOk result (λ command. AddsApp program.entry command (plain_app name.entry.now)) }
 {
-    let command = plain(alloc, "sim").arg(needed(alloc, "how"))?;
-    Ok(command)
+    program.subcommand(plain(alloc, name))
 }
 
-fn soak<'a>(alloc: Global) -> Result<Command<'a>, AllocError>
-    ensures { IfOk result (λ command. (app_of command ≡ soak_app) × ((fields_of command).has_globals ≡ false)) }
+// Adds a subcommand with one argument.
+fn add_one<'a>(
+    alloc: Global,
+    program: Command<'a>,
+    name: &'a str,
+    id: &'a str,
+) -> Result<Command<'a>, AllocError>
+    ensures { IfOk result (λ command. AddsApp program.entry command (one_app name.entry.now id.entry.now)) }
 {
-    let command = plain(alloc, "soak").arg(needed(alloc, "seed"))?;
-    Ok(command)
+    let one = one(alloc, name, id)?;
+    program.subcommand(one)
+}
+
+// Adds the subcommand `make`.
+fn add_make<'a>(alloc: Global, program: Command<'a>) -> Result<Command<'a>, AllocError>
+    ensures { IfOk result (λ command. AddsApp program.entry command make_app) }
+{
+    let make = make(alloc)?;
+    program.subcommand(make)
+}
+
+// A subcommand with one argument.
+fn one<'a>(alloc: Global, name: &'a str, id: &'a str) -> Result<Command<'a>, AllocError>
+    ensures { IfOk result (λ command. IsApp command (one_app name.entry.now id.entry.now)) }
+{
+    plain(alloc, name).arg(needed(alloc, id))
+}
+
+// Adds an argument to a subcommand.
+fn add_argument<'a>(
+    alloc: Global,
+    command: Command<'a>,
+    id: &'a str,
+) -> Result<Command<'a>, AllocError>
+    ensures { IfOk result (λ new. AddsRule command.entry new (needed id.entry.now)) }
+{
+    command.arg(needed(alloc, id))
 }
 
 fn make<'a>(alloc: Global) -> Result<Command<'a>, AllocError>
-    ensures { IfOk result (λ command. (app_of command ≡ make_app) × ((fields_of command).has_globals ≡ false)) }
+    ensures { IfOk result (λ command. IsApp command make_app) }
 {
-    let with_nodes = plain(alloc, "make").arg(needed(alloc, "nodes"))?;
-    let with_clients = with_nodes.arg(needed(alloc, "clients"))?;
-    let with_commands = with_clients.arg(needed(alloc, "commands"))?;
-    let command = with_commands.arg(needed(alloc, "seed"))?;
-    Ok(command)
+    let with_nodes = one(alloc, "make", "nodes")?;
+    let with_clients = add_argument(alloc, with_nodes, "clients")?;
+    let with_commands = add_argument(alloc, with_clients, "commands")?;
+    add_argument(alloc, with_commands, "seed")
 }

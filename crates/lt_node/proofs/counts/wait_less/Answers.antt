@@ -1,0 +1,20 @@
+use Rattle.std.proofs.Common.{◌∙◌, sym}
+use Rattle.lt_node.proofs.CountLemmas.{WaitLess_new, WaitLess_old, some_left}
+use Rattle.lt_node.proofs.counts.wait_less.Goals.{then-is_first, else-is_first}
+use Rattle.lt_node.proofs.counts.wait_less.Goals as goal
+
+pub count_less-requires : goal.count_less-requires
+count_less-requires c =
+    some_left c.args.asks.now c.loop-k.k c.args.counts.now.items c.loop-k.counts.items c.loop-k-test.true (sym c.is_first.ensures ∙ c.if-is_first.true) c.loop-k.invariant c.requires
+
+pub loop-k-preserved : goal.loop-k-preserved
+loop-k-preserved c = elim c.if-is_first.branch [
+  | then-is_first w ↦
+      rw w.counts-is (
+      WaitLess_new c.args.asks.now c.loop-k.k c.args.counts.now.items c.loop-k.counts.items w.count_less.new.counts.items c.loop-k-test.true
+      (sym c.is_first.ensures ∙ w.if-is_first.true) c.loop-k.invariant w.count_less.ensures.count w.count_less.ensures.each)
+  | else-is_first w ↦
+      rw w.counts-is (
+      WaitLess_old c.args.asks.now c.loop-k.k c.args.counts.now.items c.loop-k.counts.items c.loop-k-test.true
+      (sym c.is_first.ensures ∙ w.if-is_first.false) c.loop-k.invariant)
+]

@@ -1,0 +1,20 @@
+use Rattle.std.proofs.Common.{◌∙◌, sym}
+use Rattle.lt_node.proofs.CountLemmas.{WaitMore_new, WaitMore_old, still_few}
+use Rattle.lt_node.proofs.counts.wait_more.Goals.{then-is_first, else-is_first}
+use Rattle.lt_node.proofs.counts.wait_more.Goals as goal
+
+pub count_more-requires : goal.count_more-requires
+count_more-requires c =
+    still_few c.args.asks.now c.loop-k.k c.args.counts.now.items c.loop-k.counts.items (sym c.is_first.ensures ∙ c.if-is_first.true) c.loop-k.invariant c.requires
+
+pub loop-k-preserved : goal.loop-k-preserved
+loop-k-preserved c = elim c.if-is_first.branch [
+  | then-is_first w ↦
+      rw w.counts-is (
+      WaitMore_new c.args.asks.now c.loop-k.k c.args.counts.now.items c.loop-k.counts.items w.count_more.new.counts.items c.loop-k-test.true
+      (sym c.is_first.ensures ∙ w.if-is_first.true) c.loop-k.invariant w.count_more.ensures.count w.count_more.ensures.each)
+  | else-is_first w ↦
+      rw w.counts-is (
+      WaitMore_old c.args.asks.now c.loop-k.k c.args.counts.now.items c.loop-k.counts.items c.loop-k-test.true
+      (sym c.is_first.ensures ∙ w.if-is_first.false) c.loop-k.invariant)
+]
