@@ -59,7 +59,5 @@ pub(crate) fn first_related(script: &Script, set: u32) -> u32
     ensures earlier { result ≤ set }
     ensures first { (k : ℕ) → k < result → family_at script.now.sets k ≢ family_at script.now.sets set }
 {
-    // Asked for its clause `kept` alone: in a script no set is of the family of a later one.
-    let _ = script.version();
     script.family(set)
 }

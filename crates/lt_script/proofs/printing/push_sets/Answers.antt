@@ -1,4 +1,4 @@
-use Rattle.std.proofs.Common.{◌≡◌, ◌<◌, ◌∙◌, ap, sym, length, arith, refl, Some, slice_get}
+use Rattle.std.proofs.Common.{◌≡◌, ◌<◌, ◌∙◌, ap, length, arith, refl, Some, slice_get}
 use lib.ListN.{get_or}
 use Rattle.std.proofs.lemmas.Option.{slice_get_read}
 use Rattle.lt_modes.specs.Script.{family_at, family_of_set}
