@@ -32,9 +32,7 @@ pub fn write(
 {
     let mut text = Text::with_room(alloc, run.len() as usize * ROOM)?;
     first_lines(&mut text, script)?;
-    let wording = Wording::new(alloc, script)?;
-    let mut tally = Tally::new(alloc, script)?;
-    move_lines(&mut text, &mut tally, &wording, run)?;
+    let tally = tallied_moves(alloc, &mut text, script, run)?;
     push_closing(alloc, &mut text, script, &tally, run, cut)?;
     Ok(text.into_bytes())
 }
@@ -62,6 +60,22 @@ fn first_lines(text: &mut Text, script: &Script) -> Result<(), AllocError>
         return Ok(());
     }
     write_lines(text, script, &[Line::Version])
+}
+
+// Writes the lines of all moves, and gives what their events come to.
+fn tallied_moves(
+    alloc: Global,
+    text: &mut Text,
+    script: &Script,
+    run: &Run,
+) -> Result<Tally, AllocError>
+    ensures text { OnOk result (text.new ≡ text.old ++ lines_text script.now (moves_lines script.now.version run.now.entries)) }
+    ensures tally { IfOk result (λ tally. IsTallied script.now tally (lines_of run.now.entries)) }
+{
+    let wording = Wording::new(alloc, script)?;
+    let mut tally = Tally::new(alloc, script)?;
+    move_lines(text, &mut tally, &wording, run)?;
+    Ok(tally)
 }
 
 // Writes the lines of all moves, and takes their events into account.
