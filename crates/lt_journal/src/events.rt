@@ -40,35 +40,43 @@ pub fn words_of_move(
 pub fn words_of_event(text: &mut Text, script: &Script, event: Event) -> Result<(), AllocError>
     ensures { OnOk result (text.new ≡ text.old ++ spaced (event_words script.now event)) }
 {
-    match event {
-        Event::Grant { client, set, mode } => lock(text, script, b"grant", client, set, mode)?,
-        Event::Wait { client, set, mode } => lock(text, script, b"wait", client, set, mode)?,
+    first_words(text, script, &event)?;
+    further_words(text, script, event)
+}
+
+// Writes the words that name a lock, a drop or a letter, after which the further ones are left.
+fn first_words(text: &mut Text, script: &Script, event: &Event) -> Result<(), AllocError>
+    ensures { OnOk result (text.new ++ flat_map after_space (further_words script.now event.now)
+        ≡ text.old ++ spaced (event_words script.now event.now)) }
+{
+    match *event {
+        Event::Grant { client, set, mode } => lock(text, script, b"grant", client, set, mode),
+        Event::Wait { client, set, mode } => lock(text, script, b"wait", client, set, mode),
         Event::Try {
             client,
             set,
             mode,
             ..
-        } => lock(text, script, b"try", client, set, mode)?,
-        Event::Unlock { client, set, mode } => lock(text, script, b"unlock", client, set, mode)?,
-        Event::NotHeld { client, set, mode } => lock(text, script, b"not_held", client, set, mode)?,
+        } => lock(text, script, b"try", client, set, mode),
+        Event::Unlock { client, set, mode } => lock(text, script, b"unlock", client, set, mode),
+        Event::NotHeld { client, set, mode } => lock(text, script, b"not_held", client, set, mode),
         Event::Change {
             client,
             set,
             gives_up,
             ..
-        } => lock(text, script, b"change", client, set, gives_up)?,
+        } => lock(text, script, b"change", client, set, gives_up),
         Event::DropAll {
             client,
             other,
             set,
             ..
-        } => drop_words(text, script, "drop", client, other, set)?,
-        Event::Busy { client, other, set } => drop_words(text, script, "busy", client, other, set)?,
-        Event::Copy { set, to, .. } => letter(text, script, "copy", set, to)?,
-        Event::Freeze { set, to, .. } => letter(text, script, "freeze", set, to)?,
-        Event::Token { set, to, .. } => letter(text, script, "token", set, to)?,
+        } => drop_words(text, script, "drop", client, other, set),
+        Event::Busy { client, other, set } => drop_words(text, script, "busy", client, other, set),
+        Event::Copy { set, to, .. } => letter(text, script, "copy", set, to),
+        Event::Freeze { set, to, .. } => letter(text, script, "freeze", set, to),
+        Event::Token { set, to, .. } => letter(text, script, "token", set, to),
     }
-    further_words(text, script, event)
 }
 
 // Writes the words of an event's line after those that name a lock, a drop or a letter.
