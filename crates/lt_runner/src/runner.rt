@@ -174,7 +174,6 @@ impl Runner {
     }
 }
 
-#[tactic(auto, using(crate::proofs::KeptLemmas::kept_at_start))]
 fn begin(
     alloc: Global,
     script: &Script,
@@ -190,17 +189,31 @@ fn begin(
     ensures starts { IfOk result (StartsWith script.now node.me mail limit) }
     ensures commands_gone { IfOk result (λ parts. parts.node.gone ≡ node.gone) }
 {
-    Ok(Parts {
+    let log = first_log(alloc, script, limit)?;
+    Ok(with_log(alloc, node, mail, log, limit))
+}
+
+// The parts at the start, with a log that has no moves yet.
+fn with_log(alloc: Global, node: Node, mail: Mail, log: LongLog, limit: u64) -> Parts
+    requires node { node.me < node.script.nodes }
+    requires state { state_of node ≡ (start node.script).node node.me }
+    requires mail { IsFresh node.script.nodes node.me mail }
+    requires log { (log.entries ≡ []) × (log.gone ≡ 0) }
+    ensures kept { RunnerInvariant result }
+    ensures starts { StartsWith node.script node.me mail limit result }
+    ensures commands_gone { result.node.gone ≡ node.gone }
+{
+    Parts {
         node,
         mail,
-        log: first_log(alloc, script, limit)?,
+        log,
         out: Out::new(alloc),
         hand: None,
         limit,
         reached: 0,
         senders: u64::MAX,
         idle: false,
-    })
+    }
 }
 
 // A log with no moves yet, and room for as many as there are commands for each node, with two lines each; for no more
