@@ -96,7 +96,6 @@ impl Runner {
     }
 
     /// Makes one turn.
-    #[tactic(auto, using(crate::proofs::TurnLemmas::turn_grew, crate::proofs::TurnLemmas::grew_self))]
     pub fn turn<G: Gate>(&mut self, gate: &G) -> Turned
         ensures grew { Grew self.old self.new }
         ensures ends { TurnEnds result self.old self.new }
@@ -115,7 +114,7 @@ impl Runner {
     }
 
     /// The nodes that letters went to since this was last asked, bit q % 64 for node q: a hint where to look for moves.
-    #[tactic(auto, using(crate::proofs::KeptLemmas::kept_asked, crate::proofs::KeptLemmas::seen_asked))]
+    #[tactic(auto, using(crate::proofs::KeptLemmas::seen_asked))]
     pub fn reached(&mut self) -> u64
         ensures seen { AsSeen self.old self.new }
         ensures flushed { IsFlushed self.old → IsFlushed self.new }
@@ -128,7 +127,7 @@ impl Runner {
 
     /// From now on a letter is looked for in the ring in which letters may be known, then in those of these nodes, bit
     /// q for node q; where letters may be known in several, in all rings. At first these nodes are all.
-    #[tactic(auto, using(crate::proofs::KeptLemmas::kept_aimed, crate::proofs::KeptLemmas::seen_aimed))]
+    #[tactic(auto, using(crate::proofs::KeptLemmas::seen_aimed))]
     pub fn look_for(&mut self, senders: u64)
         ensures seen { AsSeen self.old self.new }
         ensures flushed { IsFlushed self.old → IsFlushed self.new }

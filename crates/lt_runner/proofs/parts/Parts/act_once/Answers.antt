@@ -1,5 +1,5 @@
 -- The client's command is made, or none can act.
-use Rattle.std.proofs.Common.{◌∙◌, sym, arith}
+use Rattle.std.proofs.Common.{◌∙◌, sym, arith, true≢false}
 use Rattle.lt_runner.proofs.KeptLemmas.{kept_resting}
 use Rattle.lt_runner.proofs.TurnLemmas.{grew_self, grew_resting, could_act_now}
 use Rattle.lt_runner.proofs.parts.Parts.act_once.Goals as goal
@@ -25,7 +25,7 @@ pub returns-in-Nothing-clause-grew : goal.returns-in-Nothing-clause-grew
 returns-in-Nothing-clause-grew g c = grew_resting c.args.self.now
 
 pub returns-in-Nothing-clause-moved : goal.returns-in-Nothing-clause-moved
-returns-in-Nothing-clause-moved g c = λ told. absurd (cc)
+returns-in-Nothing-clause-moved g c = λ told. absurd (true≢false (sym told))
 
 pub returns-in-Act-clause-kept : goal.returns-in-Act-clause-kept
 returns-in-Act-clause-kept g c = c.make_found.ensures.kept
@@ -43,7 +43,7 @@ pub returns-in_default-clause-grew : goal.returns-in_default-clause-grew
 returns-in_default-clause-grew g c = grew_self c.args.self.now
 
 pub returns-in_default-clause-moved : goal.returns-in_default-clause-moved
-returns-in_default-clause-moved g c = λ told. absurd (cc)
+returns-in_default-clause-moved g c = λ told. absurd (true≢false (sym told))
 
 pub returns-in_default-2-clause-kept : goal.returns-in_default-2-clause-kept
 returns-in_default-2-clause-kept g c = c.requires
@@ -52,4 +52,4 @@ pub returns-in_default-2-clause-grew : goal.returns-in_default-2-clause-grew
 returns-in_default-2-clause-grew g c = grew_self c.args.self.now
 
 pub returns-in_default-2-clause-moved : goal.returns-in_default-2-clause-moved
-returns-in_default-2-clause-moved g c = λ told. absurd (cc)
+returns-in_default-2-clause-moved g c = λ told. absurd (true≢false (sym told))

@@ -1,7 +1,7 @@
 -- A look, and then what is shown.
 use Rattle.std.proofs.Common.{◌∙◌, sym, arith}
 use Rattle.lt_runner.proofs.KeptLemmas.{kept_resting, seen_resting}
-use Rattle.lt_runner.proofs.TurnLemmas.{choice_lasts}
+use Rattle.lt_runner.proofs.TurnLemmas.{choice_lasts, full_found, move_found}
 use Rattle.lt_runner.proofs.parts.Parts.find.Goals as goal
 
 pub look-requires : goal.look-requires
@@ -32,7 +32,7 @@ returns-in_default c = record {
   seen = c.look.ensures.seen;
   flushed = c.look.ensures.flushed;
   ends = record { log = omega (arith, c.look.ensures.kept.bounded); choice = λ none. c.in_default.not-Nothing (c.choose.ensures ∙ none) };
-  shown = λ some same. absurd (cc);
+  shown = λ some. full_found;
 }
 
 pub returns-in_default-2 : goal.returns-in_default-2
@@ -41,5 +41,5 @@ returns-in_default-2 c = record {
   seen = c.look.ensures.seen;
   flushed = c.look.ensures.flushed;
   ends = (sym c.choose.ensures, record { place = omega arith; choice = λ none. c.in_default-2.not-Nothing (c.choose.ensures ∙ none) });
-  shown = λ some same. absurd (cc);
+  shown = λ some. move_found c.choose.result;
 }

@@ -1,5 +1,5 @@
 -- The move is made, or there is no memory for it.
-use Rattle.std.proofs.Common.{◌∙◌, sym, refl}
+use Rattle.std.proofs.Common.{◌∙◌, sym, refl, true≢false}
 use Rattle.lt_runner.proofs.TurnLemmas.{later_moved, later_grew, seen_grew, grew_self}
 use Rattle.lt_runner.proofs.ReadyLemmas.{no_error}
 use Rattle.lt_runner.proofs.parts.Parts.make_found.Goals as goal
@@ -47,7 +47,7 @@ returns-clause-moved g c =
     λ told. later_moved c.args.self.now c.reserve.new.self c.make.new.self c.reserve.ensures.seen c.make.ensures.moved
 
 pub returns-clause-none : goal.returns-clause-none
-returns-clause-none g c = λ none. absurd (cc)
+returns-clause-none g c = λ none. absurd (true≢false none)
 
 pub returns-clause-full : goal.returns-clause-full
 returns-clause-full g c = λ room. refl

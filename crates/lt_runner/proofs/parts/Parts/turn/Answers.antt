@@ -1,6 +1,6 @@
 -- The look, and then the move.
 use Rattle.lt_runner.specs.declared.turning.Turned.TheVariants.{Moved, NoMemory}
-use Rattle.lt_runner.proofs.TurnLemmas.{same_later, turn_later}
+use Rattle.lt_runner.proofs.TurnLemmas.{full_tells, moved_tells, no_memory_tells, same_later, turn_later}
 use Rattle.lt_runner.proofs.parts.Parts.turn.Goals as goal
 
 pub find-requires : goal.find-requires
@@ -31,7 +31,7 @@ pub returns-in-Full-clause-ends : goal.returns-in-Full-clause-ends
 returns-in-Full-clause-ends g c = (c.find.ensures.seen, c.in-Full.ensures.ends)
 
 pub returns-in-Full-clause-choice : goal.returns-in-Full-clause-choice
-returns-in-Full-clause-choice g c = λ some same. absurd (cc)
+returns-in-Full-clause-choice g c = λ some. full_tells
 
 pub returns-then-make_found-clause-kept : goal.returns-then-make_found-clause-kept
 returns-then-make_found-clause-kept g c = c.make_found.ensures.kept
@@ -46,7 +46,7 @@ returns-then-make_found-clause-ends g c =
     (c.make_found.ensures.moved c.if-make_found.true, c.in-Move.ensures.ends.1.place)
 
 pub returns-then-make_found-clause-choice : goal.returns-then-make_found-clause-choice
-returns-then-make_found-clause-choice g c = λ some same. absurd (cc)
+returns-then-make_found-clause-choice g c = λ some. moved_tells
 
 pub returns-else-make_found-clause-kept : goal.returns-else-make_found-clause-kept
 returns-else-make_found-clause-kept g c = c.make_found.ensures.kept
@@ -61,4 +61,4 @@ returns-else-make_found-clause-ends g c =
     (c.make_found.ensures.none c.if-make_found.false)
 
 pub returns-else-make_found-clause-choice : goal.returns-else-make_found-clause-choice
-returns-else-make_found-clause-choice g c = λ some same. absurd (cc)
+returns-else-make_found-clause-choice g c = λ some. no_memory_tells

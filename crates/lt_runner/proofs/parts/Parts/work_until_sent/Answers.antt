@@ -1,6 +1,6 @@
 -- Moves one after the other, and a flush, which is no move.
 use Rattle.std.proofs.Common.{arith}
-use Rattle.lt_runner.proofs.TurnLemmas.{seen_grew, grew_join, grew_self}
+use Rattle.lt_runner.proofs.TurnLemmas.{not_idle, seen_grew, grew_join, grew_self}
 use Rattle.lt_runner.proofs.parts.Parts.work_until_sent.Goals as goal
 
 pub loop-self-init : goal.loop-self-init
@@ -31,10 +31,10 @@ returns-then-not-move_and_act-clause-grew g c =
     (seen_grew c.args.self.now c.loop-self.self c.find.new.self c.loop-self.invariant.1 c.find.ensures.seen) c.move_and_act.ensures.grew
 
 pub returns-then-not-move_and_act-clause-ends : goal.returns-then-not-move_and_act-clause-ends
-returns-then-not-move_and_act-clause-ends g c = c.move_and_act.ensures.could (cc)
+returns-then-not-move_and_act-clause-ends g c = c.move_and_act.ensures.could c.if-not-move_and_act.true
 
 pub returns-then-not-move_and_act-clause-flushed : goal.returns-then-not-move_and_act-clause-flushed
-returns-then-not-move_and_act-clause-flushed g c = λ idle. absurd (cc)
+returns-then-not-move_and_act-clause-flushed g c = λ idle. absurd (not_idle idle)
 
 pub returns-clause-grew : goal.returns-clause-grew
 returns-clause-grew g c = seen_grew c.args.self.now c.loop-self.self _ c.loop-self.invariant.1 c.flush.ensures.seen
