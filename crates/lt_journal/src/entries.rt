@@ -3,7 +3,8 @@ ghost use Rattle.std.specs.Prelude.{◌≡◌, ◌≤◌, ◌++◌, [], ◌∷�
 ghost use Rattle.lt_journal.specs.declared.line.Line.TheVariants.{Move as MoveLine, Event as EventLine};
 ghost use Rattle.lt_modes.specs.declared.event.Event.{Event as AnyEvent};
 ghost use Rattle.lt_tally.specs.LockTable.{IsTallied};
-ghost use Rattle.lt_journal.specs.RunLines.{line_text, line_of_event};
+ghost use Rattle.lt_journal.specs.RunLines.{line_text, line_of_event, letter_words};
+ghost use Rattle.lt_text.specs.Text.{spaced};
 
 use crate::events::{shown_event, words_of_event, words_of_modes};
 use crate::text::Text;
@@ -128,9 +129,7 @@ fn other_line(text: &mut Text, wording: &Wording, event: Event) -> Result<(), Al
             client,
             mode,
         } => {
-            text.first_word("copy")?;
-            wording.set(text, set)?;
-            text.number(u64::from(to))?;
+            letter(text, wording, "copy", set, to)?;
             wording.client(text, client)?;
             text.word(mode.word().as_bytes())?;
         }
@@ -140,13 +139,27 @@ fn other_line(text: &mut Text, wording: &Wording, event: Event) -> Result<(), Al
             number,
             modes,
         } => {
-            text.first_word("freeze")?;
-            wording.set(text, set)?;
-            text.number(u64::from(to))?;
+            letter(text, wording, "freeze", set, to)?;
             text.number(number)?;
             words_of_modes(text, modes)?;
         }
         other => words_of_event(text, wording.script(), other)?,
     }
     text.end_line()
+}
+
+// Writes the words that say which letter about a set goes to which node.
+#[inline(always)]
+fn letter(
+    text: &mut Text,
+    wording: &Wording,
+    first: &str,
+    set: u32,
+    to: u8,
+) -> Result<(), AllocError>
+    ensures { OnOk result (text.new ≡ text.old ++ spaced (letter_words wording.now first.now set to)) }
+{
+    text.first_word(first)?;
+    wording.set(text, set)?;
+    text.number(u64::from(to))
 }

@@ -2,7 +2,7 @@ ghost use Rattle.std.specs.Prelude.{◌≡◌, ◌++◌, [], ◌∷◌, OnOk, if
 ghost use Rattle.std.specs.List.{flat_map};
 ghost use Rattle.lt_journal.specs.declared.line.Line.TheVariants.{Move as MoveLine};
 ghost use Rattle.lt_text.specs.Text.{after_space, spaced};
-ghost use Rattle.lt_journal.specs.RunLines.{line_words, lock_words, drop_words, letter_words, event_words, further_words, words_of_modes, member_words, shown_event};
+ghost use Rattle.lt_journal.specs.RunLines.{line_words, step_words, lock_words, drop_words, letter_words, event_words, further_words, words_of_modes, member_words, shown_event};
 ghost use Rattle.lt_modes.specs.FiveModes.{shown_in};
 
 use crate::names::{client_name, set_name};
@@ -24,6 +24,13 @@ pub fn words_of_move(
     text.first_word("move")?;
     text.number(clock)?;
     text.number(u64::from(node))?;
+    step_words(text, script, step)
+}
+
+// Writes the words that say what a move does.
+fn step_words(text: &mut Text, script: &Script, step: Step) -> Result<(), AllocError>
+    ensures { OnOk result (text.new ≡ text.old ++ flat_map after_space (step_words script.now step)) }
+{
     match step {
         Step::Act(client) => {
             text.word(b"act")?;
@@ -40,35 +47,43 @@ pub fn words_of_move(
 pub fn words_of_event(text: &mut Text, script: &Script, event: Event) -> Result<(), AllocError>
     ensures { OnOk result (text.new ≡ text.old ++ spaced (event_words script.now event)) }
 {
-    match event {
-        Event::Grant { client, set, mode } => lock(text, script, b"grant", client, set, mode)?,
-        Event::Wait { client, set, mode } => lock(text, script, b"wait", client, set, mode)?,
+    first_words(text, script, &event)?;
+    further_words(text, script, event)
+}
+
+// Writes the words that name a lock, a drop or a letter, after which the further ones are left.
+fn first_words(text: &mut Text, script: &Script, event: &Event) -> Result<(), AllocError>
+    ensures { OnOk result (text.new ++ flat_map after_space (further_words script.now event.now)
+        ≡ text.old ++ spaced (event_words script.now event.now)) }
+{
+    match *event {
+        Event::Grant { client, set, mode } => lock(text, script, b"grant", client, set, mode),
+        Event::Wait { client, set, mode } => lock(text, script, b"wait", client, set, mode),
         Event::Try {
             client,
             set,
             mode,
             ..
-        } => lock(text, script, b"try", client, set, mode)?,
-        Event::Unlock { client, set, mode } => lock(text, script, b"unlock", client, set, mode)?,
-        Event::NotHeld { client, set, mode } => lock(text, script, b"not_held", client, set, mode)?,
+        } => lock(text, script, b"try", client, set, mode),
+        Event::Unlock { client, set, mode } => lock(text, script, b"unlock", client, set, mode),
+        Event::NotHeld { client, set, mode } => lock(text, script, b"not_held", client, set, mode),
         Event::Change {
             client,
             set,
             gives_up,
             ..
-        } => lock(text, script, b"change", client, set, gives_up)?,
+        } => lock(text, script, b"change", client, set, gives_up),
         Event::DropAll {
             client,
             other,
             set,
             ..
-        } => drop_words(text, script, "drop", client, other, set)?,
-        Event::Busy { client, other, set } => drop_words(text, script, "busy", client, other, set)?,
-        Event::Copy { set, to, .. } => letter(text, script, "copy", set, to)?,
-        Event::Freeze { set, to, .. } => letter(text, script, "freeze", set, to)?,
-        Event::Token { set, to, .. } => letter(text, script, "token", set, to)?,
+        } => drop_words(text, script, "drop", client, other, set),
+        Event::Busy { client, other, set } => drop_words(text, script, "busy", client, other, set),
+        Event::Copy { set, to, .. } => set_and_node(text, script, "copy", set, to),
+        Event::Freeze { set, to, .. } => set_and_node(text, script, "freeze", set, to),
+        Event::Token { set, to, .. } => set_and_node(text, script, "token", set, to),
     }
-    further_words(text, script, event)
 }
 
 // Writes the words of an event's line after those that name a lock, a drop or a letter.
@@ -130,8 +145,14 @@ fn drop_words(
     text.word(set_name(script, set))
 }
 
-// Writes the words that say which letter goes to which node.
-fn letter(text: &mut Text, script: &Script, first: &str, set: u32, to: u8) -> Result<(), AllocError>
+/// Writes the words of a line that names a set and the node that its token, or a letter about it, goes to.
+pub(crate) fn set_and_node(
+    text: &mut Text,
+    script: &Script,
+    first: &str,
+    set: u32,
+    to: u8,
+) -> Result<(), AllocError>
     ensures { OnOk result (text.new ≡ text.old ++ spaced (letter_words script.now first.now set to)) }
 {
     text.first_word(first)?;

@@ -1,7 +1,7 @@
-ghost use Rattle.std.specs.Prelude.{◌≡◌, Some, unwrap_or};
+ghost use Rattle.std.specs.Prelude.{◌≡◌, ◌∷◌, Some, unwrap_or};
 ghost use Rattle.lt_text.specs.Text.{fields};
 ghost use Rattle.lt_journal.specs.declared.line.Line.TheVariants.{Bad};
-ghost use Rattle.lt_journal.specs.Grammar.{read_line, line_of_two, line_of_four, line_of_five, line_of_copy, line_of_freeze, lock_line, lock_and_line};
+ghost use Rattle.lt_journal.specs.Grammar.{read_line, line_of, line_of_two, line_of_four, line_of_five, line_of_copy, line_of_freeze, lock_line, lock_and_line};
 
 use crate::line::Line;
 use crate::meaning::{bool_of, lock, modes, node, step};
@@ -34,6 +34,14 @@ fn line_of(script: &Script, line: &[u8]) -> Option<Line>
     let Some(rest) = rest else {
         return line_of_two(script, word, a);
     };
+    line_of_more(script, word, a, rest)
+}
+
+// A line of three words or more: the first two, and what stands after them.
+#[inline(always)]
+fn line_of_more(script: &Script, word: &[u8], a: &[u8], rest: &[u8]) -> Option<Line>
+    ensures { unwrap_or result Bad ≡ line_of script.now (word.now ∷ a.now ∷ fields rest.now) }
+{
     let (b, rest) = next_field(rest);
     let (c, rest) = next_field(rest?);
     let Some(rest) = rest else {

@@ -32,10 +32,7 @@ pub fn write(
 {
     let mut text = Text::with_room(alloc, run.len() as usize * ROOM)?;
     first_lines(&mut text, script)?;
-    let wording = Wording::new(alloc, script)?;
-    let mut tally = Tally::new(alloc, script)?;
-    move_lines(&mut text, &mut tally, &wording, run)?;
-    push_closing(alloc, &mut text, script, &tally, run, cut)?;
+    later_lines(alloc, &mut text, script, run, cut)?;
     Ok(text.into_bytes())
 }
 
@@ -62,6 +59,38 @@ fn first_lines(text: &mut Text, script: &Script) -> Result<(), AllocError>
         return Ok(());
     }
     write_lines(text, script, &[Line::Version])
+}
+
+// Writes the lines of all moves, and those after them.
+fn later_lines(
+    alloc: Global,
+    text: &mut Text,
+    script: &Script,
+    run: &Run,
+    cut: Option<u8>,
+) -> Result<(), AllocError>
+    ensures { OnOk result (text.new ≡ text.old ++ lines_text script.now
+        (moves_lines script.now.version run.now.entries ++ closing_lines script.now run.now.entries cut)) }
+{
+    let mut tally = Tally::new(alloc, script)?;
+    named_moves(alloc, text, &mut tally, script, run)?;
+    push_closing(alloc, text, script, &tally, run, cut)
+}
+
+// Writes the lines of all moves with the names of the script, and takes their events into account.
+fn named_moves(
+    alloc: Global,
+    text: &mut Text,
+    tally: &mut Tally,
+    script: &Script,
+    run: &Run,
+) -> Result<(), AllocError>
+    requires { IsTallied script.now tally.old [] }
+    ensures text { OnOk result (text.new ≡ text.old ++ lines_text script.now (moves_lines script.now.version run.now.entries)) }
+    ensures tally { OnOk result (IsTallied script.now tally.new (lines_of run.now.entries)) }
+{
+    let wording = Wording::new(alloc, script)?;
+    move_lines(text, tally, &wording, run)
 }
 
 // Writes the lines of all moves, and takes their events into account.

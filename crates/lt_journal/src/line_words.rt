@@ -2,9 +2,8 @@ ghost use Rattle.std.specs.Prelude.{◌≡◌, ◌++◌, OnOk, IfOk};
 ghost use Rattle.lt_text.specs.Text.{spaced};
 ghost use Rattle.lt_journal.specs.RunLines.{line_words, lines_text};
 
-use crate::events::{lock, words_of_event, words_of_move};
+use crate::events::{lock, set_and_node, words_of_event, words_of_move};
 use crate::line::Line;
-use crate::names::set_name;
 use crate::text::Text;
 use lt_script::Script;
 use std::alloc::{AllocError, Global};
@@ -40,9 +39,7 @@ pub fn write_words(text: &mut Text, script: &Script, line: Line) -> Result<(), A
         }
         Line::Waiting { client, set, mode } => lock(text, script, b"waiting", client, set, mode),
         Line::Owner { set, node, epoch } => {
-            text.first_word("owner")?;
-            text.word(set_name(script, set))?;
-            text.number(u64::from(node))?;
+            set_and_node(text, script, "owner", set, node)?;
             text.number(epoch)
         }
         Line::End { count } => {

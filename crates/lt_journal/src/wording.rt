@@ -269,15 +269,26 @@ fn push_set(
 {
     let mut both = Text::new(alloc);
     for mode in &MODES {
-        both.clear();
-        both.word(set_name(script, set))?;
-        both.word(mode.word().as_bytes())?;
-        let words = Padded::new(both.bytes());
-        locks.push(LockWords {
-            set,
-            mode: *mode,
-            words,
-        })?;
+        push_mode(&mut both, locks, script, set, *mode)?;
     }
+    Ok(())
+}
+
+// Adds the words of the set with the mode, which it writes into the text.
+fn push_mode(
+    both: &mut Text,
+    locks: &mut Vec<LockWords>,
+    script: &Script,
+    set: u32,
+    mode: Mode,
+) -> Result<(), AllocError>
+    requires { AreLockWords script.now locks.old.items }
+    ensures { OnOk result (AreLockWords script.now locks.new.items) }
+{
+    both.clear();
+    both.word(set_name(script, set))?;
+    both.word(mode.word().as_bytes())?;
+    let words = Padded::new(both.bytes());
+    locks.push(LockWords { set, mode, words })?;
     Ok(())
 }

@@ -5,16 +5,17 @@ use Rattle.lt_modes.specs.State.{Letter}
 use Rattle.lt_modes.specs.Script.{ScriptData}
 use Rattle.lt_modes.specs.State as rules
 use Rattle.lt_mail.specs.declared.mail.Mail.{Mail}
-use Rattle.lt_mail.specs.Words.{sent_by, known, out_at, in_at, on_out, on_in, taken_from, known_from, Both, IsOpenLink, AreLinked, OutLane, Alike, SameOut, ins_count, SameEnds}
+use Rattle.lt_mail.specs.Words.{sent_to, sent_by, known, out_at, in_at, on_out, on_in, taken_from, known_from, Both, IsOpenLink, AreLinked, OutLane, Alike, SameOut, ins_count, SameEnds}
 use Rattle.lt_mail.proofs.LookLemmas.{ends_same, ends_join}
 use Rattle.lt_mail.specs.declared.lane.InLane.{InLane}
 use Rattle.lt_mail.specs.Opening.{IsFresh, Opened}
 use Rattle.lt_mail.proofs.FlushLemmas.{both_linked}
 use Rattle.lt_runner.specs.declared.parts.Hand.{Hand}
 use Rattle.lt_runner.specs.declared.parts.Parts.{Parts}
-use Rattle.lt_runner.specs.Kept.{in_hand, HandStays, RunnerInvariant, AreBeside, Knows, NoneKnown, Fetches, HasFetched, Grew}
+use Rattle.lt_runner.specs.Kept.{AsSeen, in_hand, IsFromPeer, HandStays, RunnerInvariant, AreBeside, Knows, NoneKnown, Fetches, HasFetched, Grew}
 use Rattle.lt_runner.specs.Ready.{StartsWith}
 use Rattle.lt_runner.specs.Polled.{Polled, Finds}
+use Rattle.lt_runner.proofs.KeptLemmas.{kept_still, holds_same}
 
 -- what node p knows after the look is what the runner then has
 abbrev pub KnowsOf : Parts → Mail → Option Hand → Type 0
@@ -50,6 +51,29 @@ fetched a b m hand empty k e = subst (λ (p : Parts). Fetches a p) (sym e) (reco
   none = λ none node. sym (k.known node ∙ ap (λ (o : Option Hand). in_hand node o ++ known_from m node) none);
 })
 
+-- the runner is one still
+pub fetched_kept : (a : Parts) (m : Mail) (hand : Option Hand) → RunnerInvariant a → a.hand ≡ None → KnowsOf a m hand
+    → RunnerInvariant (record a { mail = m; hand = hand })
+fetched_kept a m hand kept empty k =
+    kept_still a (record a { mail = m; hand = hand }) kept (fetched a (record a { mail = m; hand = hand }) m hand empty k refl).seen
+    (subst (λ (me : ℕ). IsFromPeer a.node.script.nodes me hand) kept.me k.from) kept.posts kept.events refl
+
+-- nothing was looked for
+pub fetches_nothing : (p : Parts) → Fetches p p
+fetches_nothing p = record {
+  seen = record {
+    same = record { script = refl; me = refl; limit = refl; gone = refl; commands_gone = refl; ends = ends_same p.mail };
+    state = refl;
+    log = refl;
+    sent = λ node. refl;
+    used = λ node letters e. e;
+    hand = holds_same p.hand;
+  };
+  outs = λ node. refl;
+  whole = λ node. refl;
+  none = λ none node. refl;
+}
+
 pub has_fetched : (a b : Parts) (m : Mail) (hand : Option Hand) → RunnerInvariant a → KnowsOf a m hand → b ≡ record a { mail = m; hand = hand } → HasFetched b
 has_fetched a b m hand kept k e =
     subst (λ (p : Parts). HasFetched p) (sym e) (λ none node other. elim (slice_get_cases m.ins node).1 [
@@ -58,6 +82,21 @@ has_fetched a b m hand kept k e =
           (λ same. absurd (other (same ∙ kept.me)))
       | inr past ↦ ap (on_in known) past.1
     ])
+
+-- a runner whose mail sent and took the same is one still
+pub kept_met : (a : Parts) (m : Mail) → RunnerInvariant a → SameEnds a.mail m → ((node : ℕ) → sent_to m node ≡ sent_to a.mail node)
+    → ((node : ℕ) → taken_from m node ≡ taken_from a.mail node) → RunnerInvariant (record a { mail = m })
+kept_met a m kept ends sent taken = kept_still a (record a { mail = m }) kept seen kept.hand kept.posts kept.events refl
+  where
+    seen : AsSeen a (record a { mail = m })
+    seen = record {
+      same = record { script = refl; me = refl; limit = refl; gone = refl; commands_gone = refl; ends = ends };
+      state = refl;
+      log = refl;
+      sent = sent;
+      used = λ node letters e. taken node ∙ e;
+      hand = holds_same a.hand;
+    }
 
 pub linked : (x y : Parts) → RunnerInvariant x → RunnerInvariant y → AreBeside x y → AreLinked x.mail y.mail
 linked x y k l h = subst (λ (m : ℕ). Both IsOpenLink (out_at x.mail m) (in_at y.mail x.mail.me)) (sym l.me)

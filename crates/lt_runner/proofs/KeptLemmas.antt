@@ -205,7 +205,7 @@ kept_aimed senders p h = record {
   idle = h.idle;
 }
 
-holds_same : (x : Option Hand) → HandStays x x
+pub holds_same : (x : Option Hand) → HandStays x x
 holds_same None = tt
 holds_same (Some x) = (refl, refl)
 

@@ -4,3 +4,4 @@ pub mod Fetched
 pub mod ChoiceLemmas
 pub mod TurnLemmas
 pub mod Forgotten
+pub mod ReadyLemmas

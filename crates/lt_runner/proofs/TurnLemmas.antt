@@ -8,7 +8,10 @@ use Rattle.lt_spec.specs.World.{Logged}
 use Rattle.lt_spec.specs.NodeMove.{NodeState}
 use Rattle.lt_node.specs.NodeData.{state_of}
 use Rattle.lt_mail.specs.Words.{outbox_letters, on_out, out_at, waiting_to, IsFullTo, OutLane}
+use Rattle.lt_runner.specs.declared.choice.Choice.{Choice}
 use Rattle.lt_runner.specs.declared.choice.Choice.TheVariants.{Nothing, Act, Take}
+use Rattle.lt_runner.specs.declared.turning.Found.TheVariants as found
+use Rattle.lt_runner.specs.declared.turning.Worked.TheVariants as worked
 use Rattle.lt_runner.specs.declared.turning.Turned.{Turned}
 use Rattle.lt_runner.specs.declared.turning.Turned.TheVariants.{Moved, Quiet, Full, NoMemory}
 use Rattle.lt_runner.specs.declared.parts.Hand.{Hand}
@@ -18,6 +21,28 @@ use Rattle.lt_runner.specs.Choices.{may_take, act_choice, choice_by, next_choice
 use Rattle.lt_runner.proofs.ChoiceLemmas.{act_takes_nothing}
 use Rattle.lt_mail.proofs.LookLemmas.{ends_same}
 use Rattle.lt_runner.proofs.KeptLemmas.{same_join, seen_join, resting}
+
+-- What is found or told is one thing alone.
+
+pub full_found : found.Full ≢ found.Quiet
+full_found same = absurd (cc)
+
+pub move_found : (choice : Choice) → found.Move choice ≢ found.Quiet
+move_found choice same = absurd (cc)
+
+pub not_idle : worked.NoMemory ≢ worked.Idle
+not_idle same = absurd (cc)
+
+pub full_tells : Full ≢ Quiet
+full_tells same = absurd (cc)
+
+pub moved_tells : Moved ≢ Quiet
+moved_tells same = absurd (cc)
+
+pub no_memory_tells : NoMemory ≢ Quiet
+no_memory_tells same = absurd (cc)
+
+-- Turns one after the other.
 
 pub same_later : (a b c : Parts) → AsSeen a b → SameRunner b c → SameRunner a c
 same_later a b c h k = same_join a b c h.same k

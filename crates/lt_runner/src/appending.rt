@@ -14,7 +14,6 @@ use std::alloc::{AllocError, Global};
 
 impl Runner {
     /// The command becomes the last one of the client's list, in this runner's copy of the script.
-    #[tactic(auto, using(crate::proofs::KeptLemmas::kept_appended))]
     pub fn append(&mut self, client: u16, command: Command) -> Result<(), AllocError>
         requires client { client < length self.old.node.script.clients }
         requires home { home self.old.node.script client ≡ self.old.node.me }

@@ -7,7 +7,6 @@ use std::alloc::{AllocError, Global};
 
 impl Runner {
     /// Forgets the moves that were made. Their memory is kept for further ones.
-    #[tactic(auto, using(crate::proofs::Forgotten::kept_forgotten))]
     pub fn forget_moves(&mut self)
         ensures rest { self.new ≡ record self.old { log = self.new.log } }
         ensures entries { self.new.log.entries ≡ self.old.log.entries }
@@ -19,7 +18,6 @@ impl Runner {
     }
 
     /// Forgets all commands of the script so far, apart from those that its clients are still to make.
-    #[tactic(auto, using(crate::proofs::Forgotten::kept_without))]
     pub fn forget_commands(&mut self, alloc: Global) -> Result<(), AllocError>
         ensures rest { self.new ≡ record self.old { node = record self.old.node { gone = self.new.node.gone } } }
         ensures gone { OnOk result (self.new.node.gone ≡ length self.old.node.script.commands) }

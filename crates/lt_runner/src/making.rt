@@ -37,7 +37,6 @@ impl Parts {
     }
 
     /// Takes the letter in hand.
-    #[tactic(auto, using(crate::proofs::ChoiceLemmas::hand_fits))]
     pub(crate) fn make_take(&mut self)
         requires kept { RunnerInvariant self.old }
         requires chosen { next_choice self.old ≡ choices.Take }

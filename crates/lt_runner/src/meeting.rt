@@ -2,7 +2,7 @@
 ghost use Rattle.std.specs.Prelude.{◌≡◌, ◌≢◌, ◌<◌, None, IfSome, IfNone, IsSome, length};
 ghost use Rattle.lt_mail.specs.Words.{ins_count, known_from};
 ghost use Rattle.lt_runner.specs.Choices.{next_choice};
-ghost use Rattle.lt_runner.specs.Kept.{AreBeside, HasMet, LooksTo, LooksFrom, HasFetched, Fetches, Knows, NoneKnown, is_move};
+ghost use Rattle.lt_runner.specs.Kept.{RunnerInvariant, AreBeside, HasMet, LooksTo, LooksFrom, HasFetched, Fetches, Knows, NoneKnown, is_move};
 ghost use Rattle.lt_spec.specs.NodeMove.{node_waits};
 ghost use Rattle.lt_node.specs.NodeData.{state_of};
 
@@ -29,17 +29,11 @@ impl Runner {
     }
 
     /// Takes a letter that is known to be in a ring, where none is in hand.
-    #[tactic(auto, using(crate::proofs::Fetched::fetched, crate::proofs::Fetched::has_fetched))]
     pub fn fetch(&mut self)
         ensures seen { Fetches self.old self.new }
         ensures hand { HasFetched self.new }
     {
-        let parts = self.parts.as_mut();
-        if parts.hand.is_none() {
-            let me = parts.mail.node();
-            let nodes = parts.nodes();
-            hold_known(&mut parts.mail, &mut parts.hand, me, nodes);
-        }
+        self.parts.as_mut().fetch();
     }
 
     /// Whether it shows a move.
@@ -67,6 +61,20 @@ impl Runner {
 }
 
 impl Parts {
+    // Takes a letter that is known to be in a ring, where none is in hand.
+    fn fetch(&mut self)
+        requires { RunnerInvariant self.old }
+        ensures kept { RunnerInvariant self.new }
+        ensures seen { Fetches self.old self.new }
+        ensures hand { HasFetched self.new }
+    {
+        if self.hand.is_none() {
+            let me = self.mail.node();
+            let nodes = self.nodes();
+            hold_known(&mut self.mail, &mut self.hand, me, nodes);
+        }
+    }
+
     // The number of nodes of the script.
     fn nodes(&self) -> u8
         ensures { result ≡ self.now.node.script.nodes }

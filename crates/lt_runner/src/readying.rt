@@ -58,7 +58,6 @@ impl Parts {
     }
 
     /// Makes room for the client's next command.
-    #[tactic(auto, using(crate::proofs::KeptLemmas::seen_join))]
     pub(crate) fn reserve_act(&mut self, client: u16) -> Result<(), AllocError>
         requires kept { RunnerInvariant self.old }
         requires chosen { next_choice self.old ≡ choices.Act client }
@@ -73,7 +72,6 @@ impl Parts {
     }
 
     /// Makes room to take the letter in hand.
-    #[tactic(auto, using(crate::proofs::ChoiceLemmas::take_fits, crate::proofs::KeptLemmas::seen_join))]
     pub(crate) fn reserve_take(&mut self) -> Result<(), AllocError>
         requires kept { RunnerInvariant self.old }
         requires chosen { next_choice self.old ≡ choices.Take }

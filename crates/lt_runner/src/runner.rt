@@ -96,7 +96,6 @@ impl Runner {
     }
 
     /// Makes one turn.
-    #[tactic(auto, using(crate::proofs::TurnLemmas::turn_grew, crate::proofs::TurnLemmas::grew_self))]
     pub fn turn<G: Gate>(&mut self, gate: &G) -> Turned
         ensures grew { Grew self.old self.new }
         ensures ends { TurnEnds result self.old self.new }
@@ -115,7 +114,7 @@ impl Runner {
     }
 
     /// The nodes that letters went to since this was last asked, bit q % 64 for node q: a hint where to look for moves.
-    #[tactic(auto, using(crate::proofs::KeptLemmas::kept_asked, crate::proofs::KeptLemmas::seen_asked))]
+    #[tactic(auto, using(crate::proofs::KeptLemmas::seen_asked))]
     pub fn reached(&mut self) -> u64
         ensures seen { AsSeen self.old self.new }
         ensures flushed { IsFlushed self.old → IsFlushed self.new }
@@ -128,7 +127,7 @@ impl Runner {
 
     /// From now on a letter is looked for in the ring in which letters may be known, then in those of these nodes, bit
     /// q for node q; where letters may be known in several, in all rings. At first these nodes are all.
-    #[tactic(auto, using(crate::proofs::KeptLemmas::kept_aimed, crate::proofs::KeptLemmas::seen_aimed))]
+    #[tactic(auto, using(crate::proofs::KeptLemmas::seen_aimed))]
     pub fn look_for(&mut self, senders: u64)
         ensures seen { AsSeen self.old self.new }
         ensures flushed { IsFlushed self.old → IsFlushed self.new }
@@ -174,7 +173,6 @@ impl Runner {
     }
 }
 
-#[tactic(auto, using(crate::proofs::KeptLemmas::kept_at_start))]
 fn begin(
     alloc: Global,
     script: &Script,
@@ -190,17 +188,31 @@ fn begin(
     ensures starts { IfOk result (StartsWith script.now node.me mail limit) }
     ensures commands_gone { IfOk result (λ parts. parts.node.gone ≡ node.gone) }
 {
-    Ok(Parts {
+    let log = first_log(alloc, script, limit)?;
+    Ok(with_log(alloc, node, mail, log, limit))
+}
+
+// The parts at the start, with a log that has no moves yet.
+fn with_log(alloc: Global, node: Node, mail: Mail, log: LongLog, limit: u64) -> Parts
+    requires node { node.me < node.script.nodes }
+    requires state { state_of node ≡ (start node.script).node node.me }
+    requires mail { IsFresh node.script.nodes node.me mail }
+    requires log { (log.entries ≡ []) × (log.gone ≡ 0) }
+    ensures kept { RunnerInvariant result }
+    ensures starts { StartsWith node.script node.me mail limit result }
+    ensures commands_gone { result.node.gone ≡ node.gone }
+{
+    Parts {
         node,
         mail,
-        log: first_log(alloc, script, limit)?,
+        log,
         out: Out::new(alloc),
         hand: None,
         limit,
         reached: 0,
         senders: u64::MAX,
         idle: false,
-    })
+    }
 }
 
 // A log with no moves yet, and room for as many as there are commands for each node, with two lines each; for no more

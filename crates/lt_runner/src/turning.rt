@@ -50,7 +50,6 @@ pub enum Worked {
 
 impl Parts {
     /// Gives the rings what waits in the outboxes, and looks for a letter and then for a client that can act.
-    #[tactic(auto, using(crate::proofs::TurnLemmas::choice_lasts, crate::proofs::KeptLemmas::kept_resting, crate::proofs::KeptLemmas::seen_resting))]
     pub fn find(&mut self) -> Found
         requires { RunnerInvariant self.old }
         ensures kept { RunnerInvariant self.new }
@@ -71,7 +70,6 @@ impl Parts {
     }
 
     /// Makes room for the move that was found.
-    #[tactic(auto, using(crate::proofs::TurnLemmas::choice_stays, crate::proofs::TurnLemmas::take_lasts, crate::proofs::TurnLemmas::could_act, crate::proofs::TurnLemmas::could_take))]
     pub fn reserve(&mut self, choice: Choice) -> Result<(), AllocError>
         requires kept { RunnerInvariant self.old }
         requires chosen { next_choice self.old ≡ choice }
@@ -108,7 +106,6 @@ impl Parts {
     }
 
     /// Sends what waits in the outboxes, looks for a move, and makes it.
-    #[tactic(auto, using(crate::proofs::TurnLemmas::turn_later, crate::proofs::TurnLemmas::same_later))]
     pub fn turn<G: Gate>(&mut self, gate: &G) -> Turned
         requires { RunnerInvariant self.old }
         ensures kept { RunnerInvariant self.new }
@@ -130,7 +127,6 @@ impl Parts {
     }
 
     // Makes the move that was found, if there is memory for it, and says whether there was.
-    #[tactic(auto, using(crate::proofs::TurnLemmas::later_moved, crate::proofs::TurnLemmas::later_grew, crate::proofs::TurnLemmas::seen_grew, crate::proofs::TurnLemmas::grew_self))]
     fn make_found<G: Gate>(&mut self, choice: Choice, gate: &G) -> bool
         requires kept { RunnerInvariant self.old }
         requires chosen { next_choice self.old ≡ choice }
@@ -152,7 +148,6 @@ impl Parts {
 
 impl Parts {
     /// Makes turns until `patience` of them, one after the other, found no move, or one can't make the move it found.
-    #[tactic(auto, using(crate::proofs::TurnLemmas::turn_grew, crate::proofs::TurnLemmas::grew_self))]
     pub fn work<G: Gate>(&mut self, patience: u32, gate: &G) -> Worked
         requires { RunnerInvariant self.old }
         ensures kept { RunnerInvariant self.new }
@@ -175,7 +170,6 @@ impl Parts {
     /// Makes turns until one makes no move or a letter was sent, and flushes the outboxes.
     ///
     /// After a command it makes further ones without a look at the rings, a few at a time.
-    #[tactic(auto, using(crate::proofs::TurnLemmas::seen_grew, crate::proofs::TurnLemmas::grew_join, crate::proofs::TurnLemmas::grew_self))]
     pub fn work_until_sent<G: Gate>(&mut self, gate: &G) -> Worked
         requires { RunnerInvariant self.old }
         ensures kept { RunnerInvariant self.new }
@@ -211,7 +205,6 @@ impl Parts {
     // Makes the move that was found, if there is memory for it, and says whether there was.
     //
     // After a command it makes further ones.
-    #[tactic(auto, using(crate::proofs::TurnLemmas::moved_more, crate::proofs::TurnLemmas::moved_longer, crate::proofs::TurnLemmas::grew_join))]
     fn move_and_act<G: Gate>(&mut self, choice: Choice, gate: &G) -> bool
         requires kept { RunnerInvariant self.old }
         requires chosen { next_choice self.old ≡ choice }
@@ -224,35 +217,45 @@ impl Parts {
         if !self.make_found(choice, gate) {
             return false;
         }
-        if let Choice::Act(_) = choice {
-            self.act_on(gate);
-        }
+        self.go_on(choice, gate);
         true
     }
 
+    // Makes further commands after a command.
+    fn go_on<G: Gate>(&mut self, made: Choice, gate: &G)
+        requires { RunnerInvariant self.old }
+        ensures kept { RunnerInvariant self.new }
+        ensures grew { Grew self.old self.new }
+    {
+        if let Choice::Act(_) = made {
+            self.act_on(gate);
+        }
+    }
+
     // Makes further commands, as long as no letter was sent: so many at most, and fewer where memory runs out.
-    #[tactic(auto, using(crate::proofs::TurnLemmas::grew_join, crate::proofs::TurnLemmas::grew_self))]
     fn act_on<G: Gate>(&mut self, gate: &G)
         requires { RunnerInvariant self.old }
         ensures kept { RunnerInvariant self.new }
         ensures grew { Grew self.old self.new }
     {
         for _ in 0..ACTS_A_LOOK {
-            if self.reached != 0 || !self.act_once(gate) {
+            if !self.act_once(gate) {
                 return;
             }
         }
     }
 
-    // Makes the command that is shown, where there is one, the log has a place for it, and there is memory, and says
-    // whether it did.
-    #[tactic(auto, using(crate::proofs::TurnLemmas::grew_self, crate::proofs::TurnLemmas::grew_resting, crate::proofs::TurnLemmas::could_act_now, crate::proofs::KeptLemmas::kept_resting))]
+    // Makes the command that is shown, where no letter was sent, there is one, the log has a place for it, and there is
+    // memory, and says whether it did.
     fn act_once<G: Gate>(&mut self, gate: &G) -> bool
         requires { RunnerInvariant self.old }
         ensures kept { RunnerInvariant self.new }
         ensures grew { Grew self.old self.new }
         ensures moved { IsTrue result → MovedOne self.old self.new }
     {
+        if self.reached != 0 {
+            return false;
+        }
         match choose(self) {
             Choice::Nothing => {
                 self.idle = true;

@@ -48,11 +48,10 @@ impl fmt::Display for Summary {
     ghost output = { λ summary. Some (summary_text summary) };
 
     fn fmt<W: fmt::Write>(&self, f: &mut fmt::Formatter<W>) -> fmt::Result {
-        writeln!(f, "nodes {}", self.nodes)?;
-        writeln!(f, "sets {}", self.sets)?;
-        writeln!(f, "clients {}", self.clients)?;
-        writeln!(f, "commands {}", self.commands)?;
-        writeln!(f, "held {}", self.held)?;
-        writeln!(f, "waiting {}", self.waiting)
+        writeln!(
+            f,
+            "nodes {}\nsets {}\nclients {}\ncommands {}\nheld {}\nwaiting {}",
+            self.nodes, self.sets, self.clients, self.commands, self.held, self.waiting,
+        )
     }
 }

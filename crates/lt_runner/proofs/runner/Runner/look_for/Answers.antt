@@ -1,7 +1,11 @@
 -- What is looked for isn't the mail.
 use Rattle.std.proofs.Common.{rules, ◌≡◌, subst}
 use Rattle.lt_runner.specs.Kept.{IsFlushed}
+use Rattle.lt_runner.proofs.KeptLemmas.{kept_aimed}
 use Rattle.lt_runner.proofs.runner.Runner.look_for.Goals as goal
+
+pub invariant_of-self : goal.invariant_of-self
+invariant_of-self c = kept_aimed c.args.senders c.as_mut-parts.result.now (rw c.as_mut-parts.ensures.value c.self.invariant)
 
 pub returns-clause-flushed : goal.returns-clause-flushed
 returns-clause-flushed c flushed =

@@ -1,5 +1,5 @@
-use Rattle.std.proofs.Common.{Bool, true, sym, subst, ap, ◌∙◌}
-use Rattle.lt_modes.specs.declared.event.Event.TheVariants.{Try, Unlock, DropAll}
+use Rattle.std.proofs.Common.{◌++◌, ◌∷◌, [], Bool, true, sym, subst, ap, ◌∙◌}
+use Rattle.lt_modes.specs.declared.event.Event.TheVariants.{Wait, Try, Unlock, DropAll, Token}
 use Rattle.lt_spec.specs.Holdings.{holdings}
 use Rattle.lt_tally.specs.LockTable.{Tally, IsTallied}
 use Rattle.lt_tally.proofs.Telling.{tells_next, tells_event}
@@ -37,3 +37,19 @@ returns-in-DropAll-clause-applied c = λ events tells.
     let now = tells_next script _ events (DropAll drop_all.client drop_all.other drop_all.set drop_all.count) c.drop_all.new.self before
     (c.drop_all.ensures (holdings script events) before.held) in
     tells_event script _ events c.args.event _ drop_all.is now
+
+pub returns-in-Wait-clause-applied : goal.returns-in-Wait-clause-applied
+returns-in-Wait-clause-applied c = λ events tells.
+    let script = c.args.script.now in
+    let wait = c.in-Wait in
+    let now = tells_next script _ events (Wait wait.client wait.set wait.mode) c.args.self.now.held tells tells.held in
+    subst (λ (tally : Tally). IsTallied script tally (events ++ c.args.event ∷ [])) (sym c.wait.ensures)
+    (tells_event script _ events c.args.event _ wait.is now)
+
+pub returns-in-Token-clause-applied : goal.returns-in-Token-clause-applied
+returns-in-Token-clause-applied c = λ events tells.
+    let script = c.args.script.now in
+    let token = c.in-Token in
+    let now = tells_next script _ events (Token token.set token.to token.epoch) c.args.self.now.held tells tells.held in
+    subst (λ (tally : Tally). IsTallied script tally (events ++ c.args.event ∷ [])) (sym c.own.ensures)
+    (tells_event script _ events c.args.event _ token.is now)
