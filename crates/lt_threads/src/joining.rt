@@ -34,7 +34,6 @@ impl From<AllocError> for JoinError {
 /// The script with the commands that each runner appended, and the run of it that they have made.
 ///
 /// A client's commands stand in it in the order in which its node appended them. After an error all is dropped.
-#[tactic(auto, using(crate::proofs::Shares::shared_run, crate::proofs::Whole::all_or_not))]
 pub fn finish_joined(alloc: Global, runners: Vec<Runner>) -> Result<(Script, Run), JoinError>
     requires { ShareScript runners.items }
     ensures run { IfOk result (λ made. IsSharedRun runners.items made.0 made.1.entries) }
