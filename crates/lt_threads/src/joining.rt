@@ -48,7 +48,7 @@ pub fn finish_joined(alloc: Global, runners: Vec<Runner>) -> Result<(Script, Run
 }
 
 /// The script with the commands that each runner appended, node by node: of it the runners are a crew.
-#[tactic(auto, using(crate::proofs::Shares::joined_all, crate::proofs::Shares::too_many, crate::proofs::Shares::many))]
+#[tactic(auto, using(crate::proofs::Shares::many))]
 pub fn join_scripts(alloc: Global, runners: &[Runner]) -> Result<Script, JoinError>
     requires { ShareScript runners.now }
     ensures joined { IfOk result (IsJoined runners.now) }
