@@ -100,11 +100,12 @@ pub record SameParts (bytes rest : List ℕ) : Type 0 where
   pub script : take (input_parts (bytes ++ rest)).script (bytes ++ rest) ≡ take (input_parts bytes).script bytes
   pub journal : drop (input_parts (bytes ++ rest)).journal (bytes ++ rest) ≡ drop (input_parts bytes).journal bytes ++ rest
 
-record AreWithin (bytes : List ℕ) : Type 0 where
-  script : (input_parts bytes).script ≤ length bytes
-  journal : (input_parts bytes).journal ≤ length bytes
+-- the parts end within the bytes
+pub record AreWithin (bytes : List ℕ) : Type 0 where
+  pub script : (input_parts bytes).script ≤ length bytes
+  pub journal : (input_parts bytes).journal ≤ length bytes
 
-within : (bytes : List ℕ) → AreWithin bytes
+pub within : (bytes : List ℕ) → AreWithin bytes
 within bytes = record { script = script_at (position is_journal_line (lines bytes)); journal = journal_at (position is_journal_line (lines bytes)) }
   where
     script_at : (o : Option ℕ) → (parts_at bytes o).script ≤ length bytes

@@ -19,7 +19,6 @@ use std::marker::Model;
 
 /// What the lines so far have told: the moves, the lines that must come before any further move, and how many lines
 /// were good.
-#[derive(Drop)]
 pub(crate) struct Reader {
     alloc: Global,
     // The script, with its names as a journal has them.
@@ -51,19 +50,34 @@ impl Model for Reader {
         × KeepsPlace r.bad r.wording r.world (due_lines r.wording r.world.run r.due.told r.due.later.items) };
 }
 
+// A reader is let go here, and not field by field wherever one is.
+impl Drop for Reader {
+    fn drop(self) {
+        let Reader {
+            alloc: _,
+            wording,
+            world,
+            due,
+            good: _,
+            bad: _,
+        } = self;
+        drop(wording);
+        drop(world);
+        drop(due);
+    }
+}
+
 impl Reader {
     /// Before the first line.
     pub(crate) fn new(alloc: Global, script: &Script) -> Result<Reader, AllocError>
         requires { IsShort script.now }
         ensures { IfOk result (λ reader. reader ≡ record { script = script.now; reader = first_reader script.now }) }
     {
-        let world = World::new(alloc, script, MAX_MOVES)?;
-        let mut later = VecDeque::new(alloc);
-        push_first(&mut later, script)?;
-        push_closing(alloc, &mut later, script, &world)?;
         let wording = Wording::new(alloc, script)?;
+        let world = World::new(alloc, script, MAX_MOVES)?;
+        let later = VecDeque::new(alloc);
         let words = Text::new(alloc);
-        Ok(Reader {
+        let mut reader = Reader {
             alloc,
             wording,
             world,
@@ -73,8 +87,13 @@ impl Reader {
                 words,
             },
             good: 0,
-            bad: false,
-        })
+            // It has no place until the first lines are due.
+            bad: true,
+        };
+        push_first(&mut reader.due.later, script)?;
+        push_closing(alloc, &mut reader.due.later, script, &reader.world)?;
+        reader.bad = false;
+        Ok(reader)
     }
 
     /// Whether a line was bad.
@@ -134,6 +153,16 @@ impl Reader {
                 line: self.good + 1,
             });
         }
-        Ok(self.world)
+        let Reader {
+            alloc: _,
+            wording,
+            world,
+            due,
+            good: _,
+            bad: _,
+        } = self;
+        drop(wording);
+        drop(due);
+        Ok(world)
     }
 }

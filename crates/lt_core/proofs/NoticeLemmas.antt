@@ -43,7 +43,7 @@ fits_begin set stamp s frozen number told x rest out fits =
       events = omega (arith, fits.events, ap (λ (o : OutData). length o.events) whole, length-append (out.events ++ first.events) others.events);
     }
 
-fits_same : (a b : Made) (out had : OutData) → out_after a out ≡ out_after b had → FitsOut b had → FitsOut a out
+pub fits_same : (a b : Made) (out had : OutData) → out_after a out ≡ out_after b had → FitsOut b had → FitsOut a out
 fits_same a b out had same fits = record {
   posts = omega (arith, fits.posts, ap (λ (o : OutData). length o.posts) same, ap (λ (o : OutData). o.post_room) same);
   events = omega (arith, fits.events, ap (λ (o : OutData). length o.events) same, ap (λ (o : OutData). o.event_room) same);

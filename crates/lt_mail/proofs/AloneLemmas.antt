@@ -110,11 +110,5 @@ alone_still alone at own me lanes e h said = subst (λ (n : ℕ). NoneKnownBut a
 -- what is known of one ring that is looked at
 pub ruleset looks_at_one = (look_starts, past_none, looked_one, saw_none)
 
--- of that where a letter was known, and the others after it
-pub ruleset looks_here = (found_here, none_here, looks_join)
-
--- of one where none was known
-pub ruleset looks_on = (found_other, none_other, look_starts, looks_join)
-
--- and of all then
+-- what is known once all are looked at
 pub ruleset looks_again = (alone_first, alone_none, alone_still)

@@ -38,5 +38,3 @@ one_gave only outs waiting ls zs rest to post one first at tried looks gives =
     all_passed only outs waiting zs rest none_held 0
     (gave_one only outs waiting outs ls zs waiting rest none_held 1 0 to post (at_first only outs waiting one) refl first at tried
     (none_marked 256 to) looks gives) refl
-
-pub ruleset one_passed = (one_left, one_kept, one_gave)

@@ -7,7 +7,7 @@ ghost use Rattle.lt_mail.specs.Passing.{OutChanges, InChanges};
 use crate::mail::Mail;
 
 // Looks at the ring from both of its ends, after which the taking end knows all letters in it.
-#[tactic(auto, using(crate::proofs::BothLemmas::linked_still, crate::proofs::BothLemmas::linked_ends, crate::proofs::BothLemmas::all_met))]
+#[tactic(auto, using(crate::proofs::BothLemmas::linked_still, crate::proofs::BothLemmas::linked_ends))]
 fn meet(out: &mut Mail, into: &mut Mail)
     requires link { AreLinked out.old into.old }
     ensures met { Both IsMet (out_at out.new into.old.me) (in_at into.new out.old.me) }

@@ -34,7 +34,7 @@ fn look_at(ins: &mut [InLane], from: usize) -> bool
 
 /// Looks at the ring at this place, and then at those of these senders, bit q for node q, but not at that from `me`,
 /// until a letter is in one, which is then known.
-#[tactic(auto, using(crate::proofs::AloneLemmas::looks_here))]
+#[tactic(auto, using(crate::proofs::AloneLemmas::none_here))]
 pub(crate) fn first_of(ins: &mut [InLane], me: usize, at: usize, senders: u64) -> Option<usize>
     requires { NoneKnownBut at me ins.old }
     ensures looked { LooksAtSome ins.old ins.new }
@@ -49,7 +49,7 @@ pub(crate) fn first_of(ins: &mut [InLane], me: usize, at: usize, senders: u64) -
 }
 
 // Looks at the rings of these senders.
-#[tactic(auto, using(crate::proofs::AloneLemmas::looks_on))]
+#[tactic(auto, using(crate::proofs::LookLemmas::look_starts))]
 fn first_sender(ins: &mut [InLane], me: usize, senders: u64) -> Option<usize>
     requires { NoneKnownBut me me ins.old }
     ensures looked { LooksAtSome ins.old ins.new }

@@ -31,7 +31,7 @@ fn pass_waiting(outs: &mut Vec<OutEnd>, waiting: &mut VecDeque<Post>, only: Opti
 }
 
 // Most often no letter or one waits, and then the marks aren't made.
-#[tactic(auto, using(crate::proofs::FlushLemmas::none_waits, crate::proofs::OneLemmas::one_passed))]
+#[tactic(auto, using(crate::proofs::FlushLemmas::none_waits))]
 fn pass_one(outs: &mut Vec<OutEnd>, waiting: &mut VecDeque<Post>, only: Option<u8>)
     requires { length waiting.old.items ≡ 1 }
     ensures { Passed only outs.old.items waiting.old.items outs.new.items waiting.new.items }
@@ -49,7 +49,7 @@ fn pass_one(outs: &mut Vec<OutEnd>, waiting: &mut VecDeque<Post>, only: Option<u
     }
 }
 
-#[tactic(auto, using(crate::proofs::PassLemmas::first_passed, crate::proofs::PassLemmas::left_one, crate::proofs::PassLemmas::kept_one, crate::proofs::PassLemmas::gave_one, crate::proofs::FlushLemmas::all_passed))]
+#[tactic(auto, using(crate::proofs::PassLemmas::first_passed, crate::proofs::FlushLemmas::all_passed))]
 #[inline(never)]
 fn pass_all(outs: &mut Vec<OutEnd>, waiting: &mut VecDeque<Post>, only: Option<u8>)
     ensures { Passed only outs.old.items waiting.old.items outs.new.items waiting.new.items }

@@ -34,7 +34,6 @@ impl From<AllocError> for JoinError {
 /// The script with the commands that each runner appended, and the run of it that they have made.
 ///
 /// A client's commands stand in it in the order in which its node appended them. After an error all is dropped.
-#[tactic(auto, using(crate::proofs::Shares::shared_run, crate::proofs::Whole::all_or_not))]
 pub fn finish_joined(alloc: Global, runners: Vec<Runner>) -> Result<(Script, Run), JoinError>
     requires { ShareScript runners.items }
     ensures run { IfOk result (λ made. IsSharedRun runners.items made.0 made.1.entries) }
@@ -49,7 +48,7 @@ pub fn finish_joined(alloc: Global, runners: Vec<Runner>) -> Result<(Script, Run
 }
 
 /// The script with the commands that each runner appended, node by node: of it the runners are a crew.
-#[tactic(auto, using(crate::proofs::Shares::joined_all, crate::proofs::Shares::too_many, crate::proofs::Shares::many))]
+#[tactic(auto, using(crate::proofs::Shares::many))]
 pub fn join_scripts(alloc: Global, runners: &[Runner]) -> Result<Script, JoinError>
     requires { ShareScript runners.now }
     ensures joined { IfOk result (IsJoined runners.now) }

@@ -56,15 +56,41 @@ fn share<R: Threads + Sync, G: Gate>(
 {
     let count = runners.len() as u8;
     let (pool, mut first) = Pool::new(alloc, runners)?;
-    let workers = workers.min(count).min(most_workers(count));
-    let workers = workers_with_room(alloc, workers);
-    let mut hands = engage(alloc, &pool, &mut first, workers)?;
-    work_all(rt, &pool, hands.as_mut_slice(), count, patience, gate);
-    dismiss(&pool, &mut first, hands);
+    let workers = workers_for(alloc, workers, count);
+    let hands = engage(alloc, &pool, &mut first, workers)?;
+    work_together(rt, &pool, &mut first, hands, count, patience, gate);
     match pool.close(first) {
         Ok(runners) => Ok(runners),
         Err(_) => Err(AllocError),
     }
+}
+
+// How many workers share so many nodes.
+fn workers_for(alloc: Global, workers: u8, count: u8) -> u8
+    requires { (0 < workers) × (0 < count) }
+    ensures { result ≤ workers }
+{
+    let most = workers.min(count).min(most_workers(count));
+    workers_with_room(alloc, most)
+}
+
+// Runs the workers, and takes their badges back.
+fn work_together<R: Threads + Sync, G: Gate>(
+    rt: &R,
+    pool: &Pool<Runner>,
+    first: &mut Badge<Runner>,
+    mut hands: Vec<Worker>,
+    count: u8,
+    patience: u32,
+    gate: &G,
+)
+    requires free { AreFree pool.now hands.items }
+    requires first { LeadsPool pool.now (length hands.items) first.old }
+    requires count { (count ≡ length pool.now.firsts) × (0 < count) }
+    ensures { LeadsPool pool.now 0 first.new }
+{
+    work_all(rt, pool, hands.as_mut_slice(), count, patience, gate);
+    dismiss(pool, first, hands);
 }
 
 // So many workers, each with a badge of its own, and each begins at a node of its own.

@@ -44,7 +44,7 @@ pub fn start_crew(
 }
 
 // The runner of the next node, with the first mail that is left.
-#[tactic(auto, using(crate::proofs::Starts::has_mail, crate::proofs::Starts::next_fresh, crate::proofs::Starts::one_more))]
+#[tactic(auto, using(crate::proofs::Starts::has_mail))]
 fn add_runner(
     alloc: Global,
     script: &Script,

@@ -12,7 +12,7 @@ use lt_runner::{Choice, Found, Gate, Runner, Turned, Worked};
 /// Lets the runner take letters until it finds none, or the log is full, or memory for the next one is wanting.
 ///
 /// It ends, since each letter that is taken is a move for which the log has a place left.
-#[tactic(auto, using(crate::proofs::Pushing::grew_join, crate::proofs::Taken::less_room))]
+#[tactic(auto, using(crate::proofs::Taken::less_room))]
 pub(crate) fn take_letters<G: Gate>(runner: &mut Runner, gate: &G) -> Worked
     ensures grew { Grew runner.old runner.new }
     ensures ends { WorkEnds result 0 runner.new }
@@ -41,7 +41,6 @@ fn turn_by_mail<G: Gate>(runner: &mut Runner, gate: &G) -> Turned
     }
 }
 
-#[tactic(auto, using(crate::proofs::Taken::taking))]
 fn take_in_hand<G: Gate>(runner: &mut Runner, gate: &G) -> Turned
     requires chosen { next_choice runner.old ≡ choices.Take }
     requires could { CouldMove runner.old }

@@ -121,7 +121,6 @@ fn work_counted<G: Gate>(runner: &mut Runner, by_mail: bool, gate: &G) -> Visit
 }
 
 // Lets the runner work, and tells to which nodes it sent letters.
-#[tactic(auto, using(crate::proofs::Taken::ends_later))]
 fn work<G: Gate>(runner: &mut Runner, by_mail: bool, gate: &G) -> (u64, Worked)
     ensures grew { Grew runner.old runner.new }
     ensures ends { WorkEnds result.1 0 runner.new }

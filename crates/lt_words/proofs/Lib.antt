@@ -1,2 +1,3 @@
 pub mod NoForm
 pub mod Forms
+pub mod Counted

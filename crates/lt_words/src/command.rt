@@ -96,9 +96,7 @@ fn is_command(words: &[String]) -> bool
     match words {
         [word] => one_word(word).is_some(),
         [verb, word] => are_command(verb, word),
-        [verb, nodes, clients, commands, seed] => {
-            verb.as_str() == "make" && make_of(nodes, clients, commands, seed).is_some()
-        }
+        [verb, nodes, clients, commands, seed] => is_make(verb, nodes, clients, commands, seed),
         _ => false,
     }
 }
@@ -111,6 +109,12 @@ fn are_command(verb: &str, word: &str) -> bool
         "soak" => soak(word).is_some(),
         _ => false,
     }
+}
+
+fn is_make(verb: &str, nodes: &str, clients: &str, commands: &str, seed: &str) -> bool
+    ensures { result ≡ is_some (five_words verb.now nodes.now clients.now commands.now seed.now) }
+{
+    verb == "make" && make_of(nodes, clients, commands, seed).is_some()
 }
 
 // Whether the words begin as a command does, are as many as it has, and none of them begins with a hyphen.

@@ -1,11 +1,11 @@
-use Rattle.std.proofs.Common.{rules, ◌≡◌, ◌∙◌, ◌*◌, ◌≤◌, ◌++◌, ℕ, List, length, Ok, take, drop, ap, sym, subst}
+use Rattle.std.proofs.Common.{rules, ◌≡◌, ◌∙◌, ◌*◌, ◌≤◌, ◌++◌, ℕ, List, length, Ok, take, drop, ap, sym, subst, length-take-le}
 use Rattle.lt_text.specs.Text.{lines}
 use Rattle.lt_script.specs.Reading.{read_of}
 use Rattle.lt_journal.specs.declared.splitting.Parts.{Parts}
 use Rattle.lt_journal.specs.Split.{input_parts}
 use Rattle.lt_checker.specs.Heads.{IsJournalAnswer}
 use Rattle.lt_checker.specs.declared.limits.TheConstants.{MAX_JOURNAL}
-use Rattle.lt_checker.proofs.Moving.{journal_few, line_within, lines_few, same_parts}
+use Rattle.lt_checker.proofs.Moving.{journal_few, line_within, lines_few, same_parts, within}
 use Rattle.lt_checker.proofs.input.judged.Goals as goal
 
 pub returns-clause-answer : goal.returns-clause-answer
@@ -35,3 +35,21 @@ answered-requires-clause-line g c =
     let few = journal_few c.args.bytes.now heard.0 c.split_from-parts.result.journal c.args.room _ _ c.requires.few c.requires.room heard.2 in
     line_within c.in-Ok.script (c.split_at.result.1.now ++ heard.0) c.in_ok-told.told (2 * MAX_JOURNAL) heard.1.answer
     (subst (λ (first : List ℕ). length (first ++ heard.0) ≤ 2 * MAX_JOURNAL) (sym c.split_at.ensures.back) few)
+
+pub returns-in-Err-Fault-clause-answer : goal.returns-in-Err-Fault-clause-answer
+returns-in-Err-Fault-clause-answer g c =
+    let bytes = c.args.bytes.now in
+    let left = c.in_ok-skip_rest-in-Err-Fault.ensures.rest in
+    let rest = left.0 in
+    let same = same_parts bytes rest c.args.room _ _ c.requires.cut left.1 in
+    let parts : c.split_from-parts.result ≡ input_parts bytes = c.split_from-parts.ensures in
+    (rest, ap read_of same.script ∙ (search rules), left.1)
+
+pub slice_bounds-read-end : goal.slice_bounds-read-end
+slice_bounds-read-end g c =
+    let bytes = c.args.bytes.now in
+    sym (length-take-le c.split_from-parts.result.script bytes (subst (λ (p : Parts). p.script ≤ length bytes) (sym c.split_from-parts.ensures) (within bytes).script))
+
+pub split_at-requires : goal.split_at-requires
+split_at-requires g c =
+    subst (λ (p : Parts). p.journal ≤ length c.args.bytes.now) (sym c.split_from-parts.ensures) (within c.args.bytes.now).journal

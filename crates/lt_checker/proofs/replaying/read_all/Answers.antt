@@ -1,9 +1,27 @@
-use Rattle.std.proofs.Common.{◌≡◌, ◌+◌, ◌∙◌, ℕ, List, map, fold, drop, ap, ap₂, sym}
+use Rattle.std.proofs.Common.{◌≡◌, ◌+◌, ◌∙◌, ℕ, List, [], map, fold, drop, ap, ap₂, sym, arith}
+use Rattle.std.proofs.lemmas.List.{drop_all}
 use Rattle.lt_modes.specs.Script.{ScriptData}
 use Rattle.lt_journal.specs.declared.line.Line.{Line}
 use Rattle.lt_law_journals.specs.Checking.{Reader, written, read_on}
+use Rattle.lt_checker.specs.Checker.{ReaderData}
 use Rattle.lt_checker.proofs.LeftLines.{drop_get}
 use Rattle.lt_checker.proofs.replaying.read_all.Goals as goal
+
+pub loop-k-init : goal.loop-k-init
+loop-k-init c =
+    let script = c.args.script.now in
+    let begun = c.in_ok-reader.ensures in
+    record {
+      script = ap (λ (r : ReaderData). r.script) begun;
+      reader = ap (λ (r : ReaderData). fold (read_on script) r.reader (map (written script) c.args.journal.now)) begun;
+    }
+
+pub returns-clause-reader : goal.returns-clause-reader
+returns-clause-reader c =
+    let script = c.args.script.now in
+    let journal = c.args.journal.now in
+    let none : drop c.loop-k.k journal ≡ [] = drop_all c.loop-k.k journal (omega (arith, c.loop-k-test.false, c.len-k-end.ensures)) in
+    sym (ap (λ (left : List Line). fold (read_on script) c.loop-k.reader.reader (map (written script) left)) none) ∙ c.loop-k.invariant.reader
 
 pub loop-k-preserved : goal.loop-k-preserved
 loop-k-preserved c =

@@ -10,8 +10,14 @@ use Rattle.lt_law_journals.proofs.Places.{first_begins}
 use Rattle.lt_checker.specs.Due.{due_lines}
 use Rattle.lt_checker.proofs.reader.Reader.new.Goals as goal
 
-pub invariant_of-result : goal.invariant_of-result
-invariant_of-result c =
+pub invariant_of-reader : goal.invariant_of-reader
+invariant_of-reader c = rw c.in_ok-wording.ensures (c.in_err-push_first.ensures.is_script, c.requires, omega arith, tt)
+
+pub invariant_of-reader-in_err-push_closing : goal.invariant_of-reader-in_err-push_closing
+invariant_of-reader-in_err-push_closing c = rw c.in_ok-wording.ensures (c.in_ok-push_first.ensures.is_script, c.requires, omega arith, tt)
+
+pub invariant_of-reader-2 : goal.invariant_of-reader-2
+invariant_of-reader-2 c =
     let script = c.args.script.now in
     let world = c.in_ok-world.world in
     let short : IsShort script = c.requires in

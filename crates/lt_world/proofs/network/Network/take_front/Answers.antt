@@ -3,7 +3,7 @@ use Rattle.lt_modes.specs.declared.moves.Step.TheVariants.{Take}
 use Rattle.lt_spec.specs.World.{Logged}
 use Rattle.lt_desk.specs.LetterSeen.{letter_seen}
 use Rattle.lt_world.specs.Fields.{run_with}
-use Rattle.lt_world.proofs.Taking.{opened_same, InHand, take_opened, mail_is, takes_now, front_same}
+use Rattle.lt_world.proofs.Taking.{opened_same, InHand, take_opened, mail_is, takes_now, take_left, front_same}
 use Rattle.lt_world.proofs.network.Network.take_front.Goals as goal
 
 pub reserve_letter-requires-clause-takes : goal.reserve_letter-requires-clause-takes
@@ -51,3 +51,24 @@ take-requires c =
 pub returns-clause-ok : goal.returns-clause-ok
 returns-clause-ok c =
     c.take.ensures.entries ∙ ap (λ (run : List Logged). run_with c.args.script.now run c.args.node (Take c.args.sender)) c.in_default.ensures.entries
+
+pub returns-in-Err-clause-holds : goal.returns-in-Err-clause-holds
+returns-in-Err-clause-holds c =
+    let n = c.args.self.now in
+    let popped = c.pop_front-letter.new.self in
+    let letter = letter_seen c.pop_front-letter.result in
+    let hand : InHand c.args.script.now c.args.node c.args.sender letter n.nodes.items n.inboxes popped n.out n.run.entries = record {
+      holds = c.requires.holds;
+      enabled = c.requires.enabled;
+      few = c.requires.few;
+      taken = c.pop_front-letter.ensures;
+    } in
+    let opened = take_opened c.args.script.now c.args.node c.args.sender letter n.nodes.items n.inboxes popped n.out n.run.entries hand in
+    let front = mail_is c.args.script.now c.args.node c.args.sender letter n.nodes.items n.inboxes popped n.out n.run.entries hand in
+    let new = c.reserve_letter.new.self in
+    let did = c.reserve_letter.ensures in
+    take_left c.args.script.now c.args.node c.args.sender (letter_seen c.reserve_letter.new.letter) new.nodes.items new.inboxes c.put_front.new.self new.out new.run.entries
+    (opened_same c.args.script.now c.args.node (Take c.args.sender) n.nodes.items new.nodes.items popped new.inboxes n.out new.out n.run.entries new.run.entries
+    opened did.nodes did.letters did.out did.entries)
+    (front_same c.args.script.now c.args.node c.args.sender letter (letter_seen c.reserve_letter.new.letter) popped new.inboxes n.run.entries new.run.entries
+    front did.letters did.letter did.entries) c.put_front.ensures

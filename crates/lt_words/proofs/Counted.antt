@@ -1,0 +1,34 @@
+-- What is told of so many words, text by text.
+use Rattle.std.proofs.Common.{◌≡◌, ◌<◌, ◌≤◌, List, [], ◌∷◌, ℕ, length, map, arith, string_bytes, String, Global, get_or}
+
+module _ {A : Type 0} (F : List (List ℕ) → A) where
+  pub of_one : (xs : List (String Global)) (a : String Global) (t0 : List ℕ)
+      → a ≡ get_or xs 0 a → t0 ≡ string_bytes a
+      → 1 ≤ length xs → length xs < 2 → F (t0 ∷ []) ≡ F (map string_bytes xs)
+  of_one [] a t0 e0 f0 least most = absurd (omega (arith, least))
+  of_one (x0 ∷ []) a t0 e0 f0 least most = cc
+  of_one (x0 ∷ y ∷ rest) a t0 e0 f0 least most = absurd (omega (arith, most))
+
+  pub of_two : (xs : List (String Global)) (a b : String Global) (t0 t1 : List ℕ)
+      → a ≡ get_or xs 0 a → t0 ≡ string_bytes a
+      → b ≡ get_or xs 1 b → t1 ≡ string_bytes b
+      → 2 ≤ length xs → length xs < 3 → F (t0 ∷ t1 ∷ []) ≡ F (map string_bytes xs)
+  of_two [] a b t0 t1 e0 f0 e1 f1 least most = absurd (omega (arith, least))
+  of_two (x0 ∷ []) a b t0 t1 e0 f0 e1 f1 least most = absurd (omega (arith, least))
+  of_two (x0 ∷ x1 ∷ []) a b t0 t1 e0 f0 e1 f1 least most = cc
+  of_two (x0 ∷ x1 ∷ y ∷ rest) a b t0 t1 e0 f0 e1 f1 least most = absurd (omega (arith, most))
+
+  pub of_five : (xs : List (String Global)) (a b c d e : String Global) (t0 t1 t2 t3 t4 : List ℕ)
+      → a ≡ get_or xs 0 a → t0 ≡ string_bytes a
+      → b ≡ get_or xs 1 b → t1 ≡ string_bytes b
+      → c ≡ get_or xs 2 c → t2 ≡ string_bytes c
+      → d ≡ get_or xs 3 d → t3 ≡ string_bytes d
+      → e ≡ get_or xs 4 e → t4 ≡ string_bytes e
+      → 5 ≤ length xs → length xs < 6 → F (t0 ∷ t1 ∷ t2 ∷ t3 ∷ t4 ∷ []) ≡ F (map string_bytes xs)
+  of_five [] a b c d e t0 t1 t2 t3 t4 e0 f0 e1 f1 e2 f2 e3 f3 e4 f4 least most = absurd (omega (arith, least))
+  of_five (x0 ∷ []) a b c d e t0 t1 t2 t3 t4 e0 f0 e1 f1 e2 f2 e3 f3 e4 f4 least most = absurd (omega (arith, least))
+  of_five (x0 ∷ x1 ∷ []) a b c d e t0 t1 t2 t3 t4 e0 f0 e1 f1 e2 f2 e3 f3 e4 f4 least most = absurd (omega (arith, least))
+  of_five (x0 ∷ x1 ∷ x2 ∷ []) a b c d e t0 t1 t2 t3 t4 e0 f0 e1 f1 e2 f2 e3 f3 e4 f4 least most = absurd (omega (arith, least))
+  of_five (x0 ∷ x1 ∷ x2 ∷ x3 ∷ []) a b c d e t0 t1 t2 t3 t4 e0 f0 e1 f1 e2 f2 e3 f3 e4 f4 least most = absurd (omega (arith, least))
+  of_five (x0 ∷ x1 ∷ x2 ∷ x3 ∷ x4 ∷ []) a b c d e t0 t1 t2 t3 t4 e0 f0 e1 f1 e2 f2 e3 f3 e4 f4 least most = cc
+  of_five (x0 ∷ x1 ∷ x2 ∷ x3 ∷ x4 ∷ y ∷ rest) a b c d e t0 t1 t2 t3 t4 e0 f0 e1 f1 e2 f2 e3 f3 e4 f4 least most = absurd (omega (arith, most))

@@ -1,0 +1,24 @@
+use Rattle.std.proofs.Common.{◌∙◌, ap, is_some}
+use Rattle.lt_words.specs.Grammar.{command_of}
+use Rattle.lt_words.proofs.Counted.{of_one, of_two, of_five}
+use Rattle.lt_words.proofs.command.is_command.Goals as goal
+
+pub returns-in-len1 : goal.returns-in-len1
+returns-in-len1 c =
+    c.is_some.ensures
+    ∙ ap is_some c.one_word.ensures
+    ∙ of_one (λ words. is_some (command_of words)) c.args.words.now c.word-item.result c.deref.result.now c.word-item.is c.deref.ensures c.in-len1.len_at_least c.in-len1.len_below
+
+pub returns-in-len2 : goal.returns-in-len2
+returns-in-len2 c =
+    c.are_command.ensures
+    ∙ of_two (λ words. is_some (command_of words)) c.args.words.now c.verb-item.result c.word-item-then-words-lt3.result c.deref-in-len2.result.now c.deref-in-len2-2.result.now
+    c.verb-item.is c.deref-in-len2.ensures c.word-item-then-words-lt3.is c.deref-in-len2-2.ensures c.in-len2.len_at_least c.in-len2.len_below
+
+pub returns-in-len5 : goal.returns-in-len5
+returns-in-len5 c =
+    c.is_make.ensures
+    ∙ of_five (λ words. is_some (command_of words)) c.args.words.now c.verb-item-then-words-lt6.result c.nodes-item.result c.clients-item.result c.commands-item.result c.seed-item.result
+    c.deref-in-len5.result.now c.deref-in-len5-2.result.now c.deref-in-len5-3.result.now c.deref-in-len5-4.result.now c.deref-in-len5-5.result.now
+    c.verb-item-then-words-lt6.is c.deref-in-len5.ensures c.nodes-item.is c.deref-in-len5-2.ensures c.clients-item.is c.deref-in-len5-3.ensures
+    c.commands-item.is c.deref-in-len5-4.ensures c.seed-item.is c.deref-in-len5-5.ensures c.in-len5.len_at_least c.in-len5.len_below
