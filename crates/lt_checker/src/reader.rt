@@ -50,7 +50,7 @@ impl Model for Reader {
         × KeepsPlace r.bad r.wording r.world (due_lines r.wording r.world.run r.due.told r.due.later.items) };
 }
 
-// A reader is let go here, and not field by field wherever one is.
+// Written out, so that all places which let a reader go call this.
 impl Drop for Reader {
     fn drop(self) {
         let Reader {
