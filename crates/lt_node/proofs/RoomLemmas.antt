@@ -138,7 +138,6 @@ reserved_sent script set sent old now to =
     omega (arith, to.left, ap (λ (l : List ℕ). sent_by old l) (related_none script set (length script.sets) (omega arith)), same_sent old now (related script set) to.same)
 
 -- one set
-
 pub one_of : (P : ℕ → Type 0) (s : ℕ) → All P (s ∷ []) → P s
 one_of P s h = (recursion_from_All P (s ∷ []) h).0
 
@@ -177,9 +176,7 @@ names_one command s names = elim names [
   ]
 ]
 
--- A node, and the storage of its sets.
-
--- commands that were forgotten change no set
+-- a node, and the storage of its sets: commands that were forgotten change no set
 touched_same : (script : ScriptData) (gone : ℕ) (command : Command) → touched_sets (without_first gone script) command ≡ touched_sets script command
 touched_same script gone (commands.Lock s mode) = refl
 touched_same script gone (commands.Try s mode) = refl
