@@ -1,12 +1,12 @@
 -- A client's commands in order, one request of the script after the other.
-use Rattle.std.proofs.Common.{◌≡◌, ℕ, zero, suc, ◌+◌, ◌<◌, List, [], ◌∷◌, length, Option, Some, None, Bool, true, false, refl, sym, ap, arith, ◌∙◌, drop, ◌==◌, ◌&&◌, filter_map, is_some, not, IsTrue, inl, inr, slice_index_or, if◌then◌else◌}
+use Rattle.std.proofs.Common.{◌≡◌, ℕ, zero, suc, ◌+◌, ◌<◌, List, [], ◌∷◌, length, Option, Some, None, Bool, true, false, refl, sym, ap, arith, ◌∙◌, drop, ◌==◌, ◌&&◌, filter_map, is_some, not, IsTrue, inl, inr, slice_index_or, if◌then◌else◌, ne_eqb}
 use Rattle.std.specs.List.{cons_option}
 use Rattle.std.proofs.lemmas.Bool.{cases_order, false≢true}
 use Rattle.lt_modes.specs.declared.command.Command.{Command}
 use Rattle.lt_modes.specs.Script.{ScriptData}
 use Rattle.lt_spec.specs.NodeMove.{command_if}
 use Rattle.lt_spec.specs.Holdings.{Holding}
-use Rattle.lt_spec.specs.Script.{keeps_order, may_hold_after, is_orderly_from, is_orderly, first_bad}
+use Rattle.lt_spec.specs.Script.{holds_none, keeps_order, may_hold_after, is_orderly_from, is_orderly, first_bad}
 use Rattle.lt_spec.proofs.FirstBad.{first_bad_is_exact}
 
 drop_first : {X : Type 0} (i : ℕ) (xs : List X) (d : X) → i < length xs → drop i xs ≡ slice_index_or xs i d ∷ drop (i + 1) xs
@@ -80,3 +80,8 @@ none_is (Some x) false e h = cc
 pub none_told : {X : Type 0} (o : Option X) (t : Bool) → is_some o ≡ not t → o ≡ None → t ≡ true
 none_told o true e h = refl
 none_told o false e h = absurd (false≢true (sym (ap is_some h) ∙ e))
+
+-- no lock is held where their number is 0
+pub none_by_count : (n : ℕ) (locks : List Holding) → n ≡ length locks → (n == 0) ≡ holds_none locks
+none_by_count n [] e = ap (λ (k : ℕ). k == 0) e
+none_by_count n (lock ∷ rest) e = ne_eqb n 0 (λ none. omega (arith, e, none))

@@ -28,7 +28,9 @@ impl Work for Reasons {
             Ok(ended) => ended,
             Err(error) => return Err(Answer::from(error)),
         };
-        match why(alloc, &ended.script, &ended.world) {
+        let told = why(alloc, &ended.script, &ended.world);
+        drop(ended);
+        match told {
             Ok(text) => Ok(text),
             Err(_) => Err(Answer::NoMemory),
         }

@@ -31,7 +31,9 @@ impl Work for Waits {
         };
         law_waiting();
         law_reports();
-        match report(alloc, &ended.script, &ended.world) {
+        let told = report(alloc, &ended.script, &ended.world);
+        drop(ended);
+        match told {
             Ok(text) => Ok(text),
             Err(_) => Err(Answer::NoMemory),
         }

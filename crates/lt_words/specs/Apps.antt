@@ -3,6 +3,7 @@ use Rattle.std.specs.Prelude.{◌≡◌, false}
 use Rattle.clap.specs.Words.{App, Rule, app_of, with_rule, with_subcommand}
 use Rattle.clap.specs.declared.builder.command.Command.{Command}
 use Rattle.clap.specs.declared.builder.command.Command.TheViews.{out-Command}
+use Rattle.lt_words.specs.Grammar.{lockrun}
 
 -- `clap` knows the command as this one, and none of its arguments is global
 pub record IsApp (command : Command) (app : App) : Type 0 where
@@ -17,3 +18,7 @@ pub record AddsRule (old new : Command) (rule : Rule) : Type 0 where
 -- `new` is `old` with one more subcommand
 pub record AddsApp (old new : Command) (app : App) : Type 0 where
   pub is : app_of new ≡ with_subcommand (app_of old) app.top
+
+-- `clap` knows the command as the program with all its subcommands
+pub record IsLockrun (command : Command) : Type 0 where
+  pub is : app_of command ≡ lockrun

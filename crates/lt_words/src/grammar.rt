@@ -2,10 +2,10 @@
 
 ghost use Rattle.std.specs.Prelude.{◌≡◌, true, false, map, IfOk, IfErr};
 ghost use Rattle.std.specs.String.{string_bytes};
-ghost use Rattle.clap.specs.Words.{app_of, rule_of, kind_of, subcommand_of, subcommand_rows_of};
+ghost use Rattle.clap.specs.Words.{rule_of, kind_of, subcommand_of, subcommand_rows_of};
 ghost use Rattle.clap.specs.declared.error.kind.ErrorKind.TheVariants.{OutOfMemory};
 ghost use Rattle.lt_words.specs.Grammar.{needed, plain_app, one_app, make_app, top_app, lockrun, is_form};
-ghost use Rattle.lt_words.specs.Apps.{IsApp, AddsRule, AddsApp};
+ghost use Rattle.lt_words.specs.Apps.{IsApp, IsLockrun, AddsRule, AddsApp};
 
 use clap::{Arg, ArgAction, ArgMatches, Command, Error};
 use std::alloc::{AllocError, Global};
@@ -23,7 +23,7 @@ pub fn parse<'a>(alloc: Global, words: &'a [String]) -> Result<ArgMatches<'a>, E
 
 // The program with all its subcommands.
 fn commands<'a>(alloc: Global) -> Result<Command<'a>, AllocError>
-    ensures { IfOk result (λ command. app_of command ≡ lockrun) }
+    ensures { IfOk result IsLockrun }
 {
     let with_run = add_plain(alloc, top(alloc), "run")?;
     let with_check = add_plain(alloc, with_run, "check")?;

@@ -97,9 +97,7 @@ fn no_marks(alloc: Global, clients: u16) -> Result<Vec<bool>, AllocError>
     ensures count { IfOk result (λ marks. length marks.items ≡ clients) }
     ensures none { IfOk result (λ marks. (client : ℕ) → slice_index_or marks.items client false ≡ false) }
 {
-    let mut marks = Vec::with_capacity(alloc, usize::from(clients))?;
-    for _ in 0..clients {
-        marks.push(false)?;
-    }
+    let mut marks = Vec::new(alloc);
+    marks.resize(usize::from(clients), false)?;
     Ok(marks)
 }

@@ -1,8 +1,8 @@
-use Rattle.std.proofs.Common.{rules, ◌≡◌, ◌≢◌, ◌≤◌, ◌<◌, ◌+◌, ◌-◌, ◌++◌, ◌∙◌, ℕ, List, length, take, ap, sym, subst, vec_len, arith, length-take, length-append}
+use Rattle.std.proofs.Common.{rules, append-nil, [], ◌≡◌, ◌≢◌, ◌≤◌, ◌<◌, ◌+◌, ◌-◌, ◌++◌, ◌∙◌, ℕ, List, length, take, ap, sym, subst, vec_len, arith, length-take, length-append}
 use Rattle.std.proofs.Math.Seq.{take-length}
 use Rattle.std.proofs.lemmas.List.{take-append-le}
-use Rattle.lt_io.proofs.Pieces.{nothing_read, read_more, fails_later, gives_up}
-use Rattle.lt_io.specs.Streams.{ReadsOn}
+use Rattle.lt_io.proofs.Pieces.{nothing_read, read_more, read_out, fails_later, gives_up}
+use Rattle.lt_io.specs.Streams.{ReadsOn, ReadsOut}
 use Rattle.lt_text.specs.Text.{lines}
 use Rattle.lt_law_journals.proofs.Inputs.{no_lines}
 use Rattle.lt_checker.proofs.Passed.{last_passed}
@@ -28,6 +28,9 @@ within place seen old new size all inside seen_is grown all_is = (omega arith, o
 
 fewer_left : (old new size count : ℕ) → new ≡ old + size → size ≡ count → count ≢ 0 → new ≤ MAX_JOURNAL → MAX_JOURNAL - new < MAX_JOURNAL - old
 fewer_left old new size count grown size_is some few = omega (arith, some)
+
+room_left : (all len room_len : ℕ) → len ≡ all → room_len ≡ len → len ≤ MAX_JOURNAL → all + (MAX_JOURNAL - room_len) ≡ MAX_JOURNAL
+room_left all len room_len len_is room_is few = omega arith
 
 -- the bytes that were seen before
 seen_bytes : (old piece new all : List ℕ) (seen len : ℕ) → seen ≡ len → len ≡ length old → new ≡ old ++ piece → all ≡ new → take seen all ≡ old
@@ -138,6 +141,30 @@ pub returns-then-has_come-clause-passed : goal.returns-then-has_come-clause-pass
 returns-then-has_come-clause-passed g c =
     let next = c.last_line-has_come.result.0 in
     subst (λ (b : List ℕ). ArePassed b next.place next.before) c.deref.ensures.value c.last_line-has_come.ensures.passed
+
+pub returns-then-has_come-clause-head : goal.returns-then-has_come-clause-head
+returns-then-has_come-clause-head g c =
+    let before = g.S.Source.state c.args.source.now in
+    let after = g.S.Source.state c.read_piece.new.source in
+    let old = c.loop-bytes.bytes in
+    let new = c.extend_from_slice.new.self in
+    let count = c.in_ok-count.count in
+    let few = few_bytes (vec_len old) (vec_len new) _ count _ c.in_ok-extend_from_slice.ensures.len (taken count c.read_piece.new.buf) c.in_ok-count.ensures.within.0 c.len.ensures c.loop-bytes.invariant.no_longer in
+    let more = read_more old.items (take count c.read_piece.new.buf) _ _ _ c.loop-bytes.invariant.read (c.in_ok-count.ensures.piece (omega (arith, c.if-count-eq0.false))) in (
+      room_left (length new.items) (vec_len new) c.len-room.result new.ok.0 c.len-room.ensures few,
+      subst (λ (b : List ℕ). ReadsOn b before after) (sym c.in_ok-extend_from_slice.ensures.items) more,
+    )
+
+pub returns-then-count-eq0-clause-few : goal.returns-then-count-eq0-clause-few
+returns-then-count-eq0-clause-few g c =
+    subst (λ (n : ℕ). n ≤ MAX_JOURNAL) c.loop-bytes.bytes.ok.0 c.loop-bytes.invariant.no_longer
+
+pub returns-then-count-eq0-clause-head : goal.returns-then-count-eq0-clause-head
+returns-then-count-eq0-clause-head g c =
+    let before = g.S.Source.state c.args.source.now in
+    let after = g.S.Source.state c.read_piece.new.source in
+    let items = c.loop-bytes.bytes.items in
+    subst (λ (b : List ℕ). ReadsOut b before after) (append-nil items) (read_out items [] _ _ _ c.loop-bytes.invariant.read (c.in_ok-count.ensures.end c.if-count-eq0.true))
 
 pub loop-bytes-smaller : goal.loop-bytes-smaller
 loop-bytes-smaller g c =

@@ -1,6 +1,7 @@
 use Rattle.std.proofs.Common.{rules, ◌≡◌, ◌∙◌, ◌==◌, ◌<◌, ◌≤◌, false, ℕ, zero, suc, List, length, vec_len, sym, subst, arith}
 use Rattle.lt_checker.specs.declared.limits.TheConstants.{MAX_JOURNAL}
-use Rattle.lt_checker.specs.Heads.{IsReadTo}
+use Rattle.lt_journal.specs.Split.{ArePassed}
+use Rattle.lt_checker.specs.Heads.{IsHeadCut, IsReadTo}
 use Rattle.lt_checker.proofs.Inputs.{fails_empty, told_ok, whole_ok, wants_ok}
 use Rattle.lt_checker.proofs.input.check_input.Goals as goal
 
@@ -47,3 +48,25 @@ returns-clause-memory g c =
     let answer = c.in_ok-judged.ensures.answer in
     wants_ok first answer.0 room before read (g.S.Source.state c.judged.new.source) c.in_ok-judged.field-0 some head answer.2
     c.in_ok-judged.ensures.kept c.in_ok-judged.ensures.short answer.1
+
+pub judged-requires-clause-few : goal.judged-requires-clause-few
+judged-requires-clause-few g c =
+    subst (λ (b : List ℕ). length b ≤ MAX_JOURNAL) (sym c.deref.ensures.value) c.in_ok-head.ensures.few
+
+pub judged-requires-clause-cut : goal.judged-requires-clause-cut
+judged-requires-clause-cut g c =
+    subst (λ (b : List ℕ). IsHeadCut b c.in_ok-head.head.room) (sym c.deref.ensures.value) c.in_ok-head.ensures.cut
+
+pub judged-requires-clause-passed : goal.judged-requires-clause-passed
+judged-requires-clause-passed g c =
+    let last = c.in_ok-head.head.last in
+    subst (λ (b : List ℕ). ArePassed b last.place last.before) (sym c.deref.ensures.value) c.in_ok-head.ensures.passed
+
+pub judged-requires-clause-room : goal.judged-requires-clause-room
+judged-requires-clause-room g c = c.in_ok-head.ensures.room
+
+pub returns-clause-kept : goal.returns-clause-kept
+returns-clause-kept g c = c.in_ok-judged.ensures.kept
+
+pub returns-clause-short : goal.returns-clause-short
+returns-clause-short g c = c.in_ok-judged.ensures.short

@@ -1,12 +1,22 @@
-use Rattle.std.proofs.Common.{rules, ◌≡◌, ◌∙◌, ◌*◌, ◌≤◌, ◌++◌, ℕ, List, length, Ok, take, drop, ap, sym, subst, length-take-le}
+use Rattle.std.proofs.Common.{rules, ◌≡◌, ◌∙◌, ◌*◌, ◌≤◌, ◌++◌, ℕ, List, length, Result, Ok, Err, IfOk, take, drop, ap, sym, subst, length-take-le}
+use Rattle.lt_modes.specs.Script.{ScriptData}
+use Rattle.lt_spec.specs.Script.{IsScript, IsShort}
 use Rattle.lt_text.specs.Text.{lines}
 use Rattle.lt_script.specs.Reading.{read_of}
 use Rattle.lt_journal.specs.declared.splitting.Parts.{Parts}
 use Rattle.lt_journal.specs.Split.{input_parts}
+use Rattle.lt_checker.specs.declared.input.EndedRun.{EndedRun}
+use Rattle.lt_checker.specs.declared.error.InputError.{InputError}
 use Rattle.lt_checker.specs.Heads.{IsJournalAnswer}
 use Rattle.lt_checker.specs.declared.limits.TheConstants.{MAX_JOURNAL}
 use Rattle.lt_checker.proofs.Moving.{journal_few, line_within, lines_few, same_parts, within}
 use Rattle.lt_checker.proofs.input.judged.Goals as goal
+
+-- what holds of the script holds of the one in the answer
+of_answer : (P : ScriptData → Type 0) (answer : Result EndedRun InputError) (script : ScriptData) → IfOk answer (λ ended. ended.script ≡ script) → P script
+    → IfOk answer (λ ended. P ended.script)
+of_answer P (Ok ended) script is holds = subst P (sym is) holds
+of_answer P (Err error) script is holds = tt
 
 pub returns-clause-answer : goal.returns-clause-answer
 returns-clause-answer g c =
@@ -53,3 +63,17 @@ slice_bounds-read-end g c =
 pub split_at-requires : goal.split_at-requires
 split_at-requires g c =
     subst (λ (p : Parts). p.journal ≤ length c.args.bytes.now) (sym c.split_from-parts.ensures) (within c.args.bytes.now).journal
+
+pub checked_journal-requires : goal.checked_journal-requires
+checked_journal-requires g c = c.in-Ok.ensures.short
+
+pub answered-requires-clause-short : goal.answered-requires-clause-short
+answered-requires-clause-short g c = c.in-Ok.ensures.short
+
+pub returns-clause-kept : goal.returns-clause-kept
+returns-clause-kept g c =
+    let is_script : IsScript c.in-Ok.script = search rules in
+    of_answer IsScript c.answered.result c.in-Ok.script c.answered.ensures.script is_script
+
+pub returns-clause-short : goal.returns-clause-short
+returns-clause-short g c = of_answer IsShort c.answered.result c.in-Ok.script c.answered.ensures.script c.in-Ok.ensures.short

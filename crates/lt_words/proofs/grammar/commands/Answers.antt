@@ -14,4 +14,4 @@ returns c =
     let with_soak = c.in_ok-with_soak.ensures.is ∙ ap (more soak_app) with_sim in
     let with_make = c.in_ok-with_make.ensures.is ∙ ap (more make_app) with_soak in
     IfOk-weaker c.add_plain-3.result (λ new. AddsApp c.in_ok-with_make.with_make new (plain_app (codes "order"))) _
-    (λ new adds. adds.is ∙ ap (more (plain_app (codes "order"))) with_make) c.add_plain-3.ensures
+    (λ new adds. record { is = adds.is ∙ ap (more (plain_app (codes "order"))) with_make }) c.add_plain-3.ensures

@@ -13,10 +13,10 @@ pub returns-in-Err-clause-memory : goal.returns-in-Err-clause-memory
 returns-in-Err-clause-memory g c =
     unfit_wants c.from.result c.in-Err.error (g.S.Source.state c.args.source.now) (g.S.Source.state c.check_input.new.source) c.from.ensures c.in-Err.ensures.err
 
-pub why-requires : goal.why-requires
-why-requires g c = c.in-Ok.ensures.told.script_is
+pub why-told-requires : goal.why-told-requires
+why-told-requires g c = c.in-Ok.ensures.told.script_is
 
-pub returns-in-Ok-why-clause-text : goal.returns-in-Ok-why-clause-text
-returns-in-Ok-why-clause-text g c =
+pub returns-in-Ok-told-clause-text : goal.returns-in-Ok-told-clause-text
+returns-in-Ok-told-clause-text g c =
     let ended = c.in-Ok.ended in
-    said_why (g.S.Source.state c.args.source.now).left ended.script ended.world c.in-Ok-why.text.items c.in-Ok.ensures.told c.in-Ok-why.ensures
+    said_why (g.S.Source.state c.args.source.now).left ended.script ended.world c.in-Ok-told.text.items c.in-Ok.ensures.told c.in-Ok-told.ensures

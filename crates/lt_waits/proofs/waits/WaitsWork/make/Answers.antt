@@ -14,13 +14,13 @@ pub returns-in-Err-clause-memory : goal.returns-in-Err-clause-memory
 returns-in-Err-clause-memory g c =
     unfit_wants c.from.result c.in-Err.error (g.S.Source.state c.args.source.now) (g.S.Source.state c.check_input.new.source) c.from.ensures c.in-Err.ensures.err
 
-pub report-requires : goal.report-requires
-report-requires g c = c.in-Ok.ensures.told.script_is
+pub report-told-requires : goal.report-told-requires
+report-told-requires g c = c.in-Ok.ensures.told.script_is
 
-pub returns-in-Ok-report-clause-text : goal.returns-in-Ok-report-clause-text
-returns-in-Ok-report-clause-text g c =
+pub returns-in-Ok-told-clause-text : goal.returns-in-Ok-told-clause-text
+returns-in-Ok-told-clause-text g c =
     let ended = c.in-Ok.ended in
     let told = c.in-Ok.ensures.told in
     let why = explained ended.script ended.world.run c.law_waiting.ensures.some c.law_reports.ensures.cycles c.law_reports.ensures.rings
     c.law_waiting.ensures.ends c.law_waiting.ensures.all c.in-Ok.ensures.kept told.finished in
-    reported (g.S.Source.state c.args.source.now).left ended.script ended.world c.in-Ok-report.text.items told why c.in-Ok-report.ensures
+    reported (g.S.Source.state c.args.source.now).left ended.script ended.world c.in-Ok-told.text.items told why c.in-Ok-told.ensures
