@@ -184,9 +184,7 @@ fn no_moves(alloc: Global, nodes: u8) -> Result<Vec<u32>, AllocError>
     ensures none { IfOk result (λ moves. (q : ℕ) → slice_index_or moves.items q 0 ≡ 0) }
 {
     let mut moves = Vec::new(alloc);
-    for _ in 0..nodes {
-        moves.push(0)?;
-    }
+    moves.resize(usize::from(nodes), 0)?;
     Ok(moves)
 }
 

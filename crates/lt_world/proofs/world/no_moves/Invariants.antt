@@ -1,8 +1,0 @@
-use Rattle.std.proofs.Common.{◌≡◌, ℕ, length, slice_index_or}
-use Rattle.lt_world.proofs.world.no_moves.Given as goal
-
-abbrev pub invariant-loop : goal.invariant-loop
-invariant-loop l = record {
-  count : length l.moves.items ≡ l.counter;
-  none : (q : ℕ) → slice_index_or l.moves.items q 0 ≡ 0;
-}
