@@ -25,13 +25,28 @@ use lt_script::Script;
 use std::alloc::{AllocError, Global};
 
 /// The nodes of a script, the letters on their way to each of them, and the moves made.
-#[derive(Drop)]
 pub(crate) struct Network {
     pub(crate) nodes: Vec<Node>,
     pub(crate) inboxes: Inboxes,
     // What a move sends out, on its way to the inboxes and into the run; nothing between moves.
     pub(crate) out: Out,
     pub(crate) run: Run,
+}
+
+// Written out, so that all places which let a network go call this.
+impl Drop for Network {
+    fn drop(self) {
+        let Network {
+            nodes,
+            inboxes,
+            out,
+            run,
+        } = self;
+        drop(nodes);
+        drop(inboxes);
+        drop(out);
+        drop(run);
+    }
 }
 
 impl Network {
@@ -48,6 +63,22 @@ impl Network {
             out: Out::new(alloc),
             run: first_run(alloc, script)?,
         })
+    }
+
+    /// The moves made, without the rest.
+    pub(crate) fn into_run(self) -> Run
+        ensures { result ≡ self.run }
+    {
+        let Network {
+            nodes,
+            inboxes,
+            out,
+            run,
+        } = self;
+        drop(nodes);
+        drop(inboxes);
+        drop(out);
+        run
     }
 
     /// Makes the move. Where memory is refused, all stand as they did.

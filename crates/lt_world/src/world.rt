@@ -25,7 +25,6 @@ use std::marker::Model;
 use turns::{note_turns, turns_of};
 
 /// The nodes of a script, the letters on their way, and the run so far, with a copy of the script.
-#[derive(Drop)]
 pub struct World {
     script: Script,
     limit: u32,
@@ -46,6 +45,24 @@ impl Model for World {
     ghost view = { λ w. record { script = w.script; limit = w.limit; run = w.network.run.entries } };
 
     ghost invariant = { λ w. Stands w.script w.limit w.most w.network.nodes.items w.network.inboxes w.moves.items w.turns w.network.out w.network.run.entries };
+}
+
+// Written out, so that all places which let a world go call this.
+impl Drop for World {
+    fn drop(self) {
+        let World {
+            script,
+            limit: _,
+            network,
+            moves,
+            turns,
+            most: _,
+        } = self;
+        drop(script);
+        drop(network);
+        drop(moves);
+        drop(turns);
+    }
 }
 
 impl World {
@@ -146,8 +163,18 @@ impl World {
         ensures run { result.entries ≡ self.run }
         ensures is_run { IsRun self.script self.run }
     {
-        let network = self.network;
-        network.run
+        let World {
+            script,
+            limit: _,
+            network,
+            moves,
+            turns,
+            most: _,
+        } = self;
+        drop(script);
+        drop(moves);
+        drop(turns);
+        network.into_run()
     }
 
     // Whether the client doesn't wait and has a command left.

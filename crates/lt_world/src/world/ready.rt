@@ -53,7 +53,7 @@ impl World {
         ensures ok { IfOk result (λ ready. ready ≡ record { world = self; choice = choice }) }
         ensures err { IfErr result (λ world. world ≡ self) }
     {
-        let mut parts = Parts::of(self);
+        let mut parts = self.into_parts();
         match parts.network.reserve(&parts.script, choice) {
             Ok(reserved) => Ok(Ready {
                 parts,
@@ -61,6 +61,28 @@ impl World {
                 reserved,
             }),
             Err(_) => Err(parts.whole()),
+        }
+    }
+
+    fn into_parts(self) -> Parts
+        ensures whole { AreWorldParts result }
+        ensures same { world_with result ≡ self }
+    {
+        let World {
+            script,
+            limit,
+            network,
+            moves,
+            turns,
+            most,
+        } = self;
+        Parts {
+            script,
+            limit,
+            network,
+            moves,
+            turns,
+            most,
         }
     }
 }
@@ -96,29 +118,6 @@ impl Ready {
 }
 
 impl Parts {
-    // Takes a world apart.
-    fn of(world: World) -> Parts
-        ensures whole { AreWorldParts result }
-        ensures same { world_with result ≡ world }
-    {
-        let World {
-            script,
-            limit,
-            network,
-            moves,
-            turns,
-            most,
-        } = world;
-        Parts {
-            script,
-            limit,
-            network,
-            moves,
-            turns,
-            most,
-        }
-    }
-
     // Puts them together again.
     fn whole(self) -> World
         requires { AreWorldParts self }
