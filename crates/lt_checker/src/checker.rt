@@ -22,7 +22,6 @@ use std::marker::Model;
 ///
 /// It keeps the world, the lines that must come next, the number of good lines, and at most 201 bytes of a line
 /// that isn't whole: no good line is so long.
-#[derive(Drop)]
 pub struct Checker {
     script: Script,
     // What the whole lines have told; none once memory was refused.
@@ -38,6 +37,20 @@ impl Model for Checker {
     ghost view = { λ c. record { script = c.script; feed = feed_of c.reader c.rest.items } };
 
     ghost invariant = { λ c. IsOfScript c.script c.reader };
+}
+
+// Written out, so that all places which let a checker go call this.
+impl Drop for Checker {
+    fn drop(self) {
+        let Checker {
+            script,
+            reader,
+            rest,
+        } = self;
+        drop(script);
+        drop(reader);
+        drop(rest);
+    }
 }
 
 impl Checker {
@@ -104,10 +117,11 @@ impl Checker {
             → AreGoodToLast self.script (lines bytes) }
     {
         let Checker {
+            script,
             reader,
             mut rest,
-            ..
         } = self;
+        drop(script);
         let Some(reader) = reader else {
             return Err(ReplayError::Memory);
         };

@@ -19,7 +19,6 @@ use std::collections::VecDeque;
 use std::marker::Model;
 
 /// One lock set at one node.
-#[derive(Drop)]
 pub struct Core {
     pub(crate) set: u32,
     pub(crate) held: Held,
@@ -65,6 +64,29 @@ impl Model for Core {
       parked_room = deque_capacity c.parked - deque_len c.parked;
       tell_room = tells_by c.spare;
     } };
+}
+
+// Written out, so that all places which let a core go call this.
+impl Drop for Core {
+    fn drop(self) {
+        let Core {
+            set: _,
+            held,
+            charge: _,
+            frozen: _,
+            number: _,
+            links: _,
+            pending,
+            parked,
+            desk,
+            spare,
+        } = self;
+        drop(held);
+        drop(pending);
+        drop(parked);
+        drop(desk);
+        drop(spare);
+    }
 }
 
 impl Core {

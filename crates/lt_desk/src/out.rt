@@ -9,7 +9,6 @@ use std::collections::VecDeque;
 use std::marker::Model;
 
 /// What a move sends out: letters and event lines, in order.
-#[derive(Drop)]
 pub struct Out {
     posts: VecDeque<Post>,
     events: VecDeque<Event>,
@@ -29,6 +28,15 @@ impl Model for Out {
       post_room = deque_capacity o.posts;
       event_room = deque_capacity o.events;
     } };
+}
+
+// Written out, so that all places which let what is sent and told go call this.
+impl Drop for Out {
+    fn drop(self) {
+        let Out { posts, events } = self;
+        drop(posts);
+        drop(events);
+    }
 }
 
 impl Out {

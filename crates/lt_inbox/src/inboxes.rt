@@ -14,7 +14,6 @@ use std::collections::VecDeque;
 use std::marker::Model;
 
 /// The letters that are on their way between nodes, with one room for all of them.
-#[derive(Drop)]
 pub struct Inboxes {
     // The oldest first: few are on their way at a time, so the first one from a sender to a receiver is soon found.
     sent: VecDeque<Sent>,
@@ -36,6 +35,15 @@ impl Model for Inboxes {
     } };
 
     ghost invariant = { λ i. AreMarked i.pairs i.sent.items };
+}
+
+// Written out, so that all places which let the inboxes go call this.
+impl Drop for Inboxes {
+    fn drop(self) {
+        let Inboxes { sent, pairs } = self;
+        drop(sent);
+        drop(pairs);
+    }
 }
 
 impl Inboxes {

@@ -9,7 +9,7 @@ use std::alloc::{AllocError, Global};
 use std::marker::Model;
 
 /// A text that is being written: lines of words with one space between them.
-#[derive(Debug, Drop)]
+#[derive(Debug)]
 pub struct Text {
     page: Page,
 }
@@ -20,6 +20,14 @@ impl Model for Text {
     ghost Value = { List ℕ };
 
     ghost view = { λ t. t.page.text };
+}
+
+// Written out, so that all places which let a text go call this.
+impl Drop for Text {
+    fn drop(self) {
+        let Text { page } = self;
+        drop(page);
+    }
 }
 
 impl Text {
@@ -197,6 +205,7 @@ impl Text {
     pub fn into_bytes(self) -> Vec<u8>
         ensures { result.items ≡ self }
     {
-        self.page.into_bytes()
+        let Text { page } = self;
+        page.into_bytes()
     }
 }

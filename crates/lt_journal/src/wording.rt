@@ -42,7 +42,6 @@ pub(crate) struct LockWords {
 
 /// A script with its names as a journal has them, so that they are written fast. Each entry says what it is of: one
 /// that stands at another place is passed over, and the name is taken from the script.
-#[derive(Drop)]
 pub struct Wording {
     script: Script,
     clients: Vec<ClientWord>,
@@ -60,6 +59,22 @@ impl Model for Wording {
 
     ghost invariant = { λ s. AreClientWords s.script s.clients.items × AreSetWords s.script s.sets.items
         × AreLockWords s.script s.locks.items };
+}
+
+// Written out, so that all places which let a wording go call this.
+impl Drop for Wording {
+    fn drop(self) {
+        let Wording {
+            script,
+            clients,
+            sets,
+            locks,
+        } = self;
+        drop(script);
+        drop(clients);
+        drop(sets);
+        drop(locks);
+    }
 }
 
 impl Wording {

@@ -8,7 +8,6 @@ use rtrb::{Consumer, Producer};
 use std::collections::VecDeque;
 
 /// A caller's end: it submits the commands of one client, and polls for their replies.
-#[derive(Drop)]
 pub struct Session {
     pub(crate) script: Script,
     pub(crate) client: u16,
@@ -26,6 +25,25 @@ pub struct Session {
     pub(crate) ghost roomy: { producer_capacity commands ≤ known_free commands + length (sent commands) },
     pub(crate) ghost spent: { length (sent commands) + left ≡ share },
     pub(crate) ghost counted: { answered ≡ min share (length (received replies)) },
+}
+
+// Written out, so that all places which let a session go call this.
+impl Drop for Session {
+    fn drop(self) {
+        let Session {
+            script,
+            client: _,
+            place: _,
+            share: _,
+            left: _,
+            answered: _,
+            commands,
+            replies,
+        } = self;
+        drop(script);
+        drop(commands);
+        drop(replies);
+    }
 }
 
 /// A station's end of a session.

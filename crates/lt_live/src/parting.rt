@@ -7,15 +7,6 @@ use crate::station::Station;
 use lt_runner::Runner;
 
 impl Station {
-    /// The runner, and the ends of the sessions.
-    pub fn into_parts(self) -> (Runner, Vec<Seat>)
-        ensures runner { result.0 ≡ self.runner }
-        ensures seats { result.1.items ≡ self.seats }
-        ensures kept { IsStation self.runner self.seats }
-    {
-        (self.runner, self.seats)
-    }
-
     /// What a station keeps.
     pub fn kept(&self)
         ensures { IsStation self.now.runner self.now.seats }

@@ -2,7 +2,7 @@ ghost use Rattle.std.specs.Prelude.{◌≡◌, [], ◌∷◌, ◌++◌, length, 
 ghost use Rattle.lt_spec.specs.NodeMove.{AreAt, node_waits};
 ghost use Rattle.lt_spec.specs.Script.{IsScript};
 ghost use Rattle.lt_node.specs.NodeData.{state_of, kept_script};
-ghost use Rattle.lt_live.specs.Stations.{AreOthers, IsSeatOf, IsSeated, StaySeated, SeatLooks, StationTurns};
+ghost use Rattle.lt_live.specs.Stations.{AreOthers, IsStation, IsSeatOf, IsSeated, StaySeated, SeatLooks, StationTurns};
 ghost use Rattle.lt_live.specs.Live.{GoesOn, ServedBy};
 
 use crate::ends::{Seat, Session};
@@ -14,7 +14,6 @@ use std::alloc::{AllocError, Global};
 use std::marker::Model;
 
 /// What serves the sessions of a node's clients: the node's runner, and its ends of their rings.
-#[derive(Drop)]
 pub struct Station {
     pub(crate) runner: Runner,
     pub(crate) seats: Vec<Seat>,
@@ -28,6 +27,15 @@ impl Model for Station {
     ghost view = { λ s. record { runner = s.runner; seats = s.seats.items } };
 
     ghost invariant = { λ s. IsStation s.runner s.seats.items };
+}
+
+// Written out, so that all places which let a station go call this.
+impl Drop for Station {
+    fn drop(self) {
+        let Station { runner, seats } = self;
+        drop(runner);
+        drop(seats);
+    }
 }
 
 impl Station {
@@ -103,11 +111,23 @@ impl Station {
         self.runner.commands()
     }
 
+    /// The runner, and the ends of the sessions.
+    pub fn into_parts(self) -> (Runner, Vec<Seat>)
+        ensures runner { result.0 ≡ self.runner }
+        ensures seats { result.1.items ≡ self.seats }
+        ensures kept { IsStation self.runner self.seats }
+    {
+        let Station { runner, seats } = self;
+        (runner, seats)
+    }
+
     /// The runner alone; the seats are dropped, so that sessions have no other ends any more.
     pub(crate) fn into_runner(self) -> Runner
         ensures { result ≡ self.runner }
     {
-        self.runner
+        let Station { runner, seats } = self;
+        drop(seats);
+        runner
     }
 
     /// Whether the client waits at this station's node.

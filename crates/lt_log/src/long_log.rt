@@ -9,7 +9,6 @@ use std::marker::Model;
 
 /// The moves that one node made, in order, each with its events. The first ones can be forgotten: then only proofs know
 /// them.
-#[derive(Drop)]
 pub struct LongLog {
     // The runs that were dropped.
     past: History<Run>,
@@ -32,6 +31,19 @@ impl Model for LongLog {
     } };
 
     ghost invariant = { λ l. CountsForgotten (past_of l.past.items) l.kept.entries l.gone };
+}
+
+// Written out, so that all places which let a log go call this.
+impl Drop for LongLog {
+    fn drop(self) {
+        let LongLog {
+            past,
+            gone: _,
+            kept,
+        } = self;
+        drop(past);
+        drop(kept);
+    }
 }
 
 impl LongLog {
@@ -90,11 +102,9 @@ impl LongLog {
         ensures all { self.gone ≡ 0 → IsSome result }
         ensures forgotten { IfNone result (0 < self.gone) }
     {
-        if self.gone == 0 {
-            Some(self.kept)
-        } else {
-            None
-        }
+        let LongLog { past, gone, kept } = self;
+        drop(past);
+        if gone == 0 { Some(kept) } else { None }
     }
 
     /// Makes room for one further move with so many events, if that makes fewer than 2^32 moves that are kept, and

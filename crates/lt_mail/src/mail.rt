@@ -13,7 +13,6 @@ use std::alloc::AllocError;
 use std::collections::VecDeque;
 
 /// The letters that one node sends and takes: an end of a ring for each node, its own included, which stays unused.
-#[derive(Drop)]
 pub struct Mail {
     pub(crate) me: u8,
     pub(crate) outs: Vec<OutEnd>,
@@ -21,6 +20,21 @@ pub struct Mail {
     // The letters that wait for a place in a ring, in the order in which they were put: the outbox to a node has those
     // of them that are for the node.
     pub(crate) waiting: VecDeque<Post>,
+}
+
+// Written out, so that all places which let the mail go call this.
+impl Drop for Mail {
+    fn drop(self) {
+        let Mail {
+            me: _,
+            outs,
+            ins,
+            waiting,
+        } = self;
+        drop(outs);
+        drop(ins);
+        drop(waiting);
+    }
 }
 
 // How many places a new list has for so many letters: few sizes, so that the memory of one list serves another, and that

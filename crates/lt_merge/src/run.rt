@@ -54,10 +54,19 @@ impl Mark {
 }
 
 /// The moves of all nodes, in order, each with its events.
-#[derive(Debug, Drop)]
+#[derive(Debug)]
 pub struct Run {
     moves: Vec<Mark>,
     events: Vec<Event>,
+}
+
+// Written out, so that all places which let a run go call this.
+impl Drop for Run {
+    fn drop(self) {
+        let Run { moves, events } = self;
+        drop(moves);
+        drop(events);
+    }
 }
 
 /// The moves that one node made, in order, each with its events. They are kept as those of a run are.

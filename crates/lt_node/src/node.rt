@@ -21,7 +21,6 @@ use std::alloc::{AllocError, Global};
 use std::marker::Model;
 
 /// One node of a script, of which it has a copy: all its sets and its clients.
-#[derive(Drop)]
 pub struct Node {
     pub(crate) script: LongScript,
     pub(crate) me: u8,
@@ -62,6 +61,26 @@ impl Model for Node {
     }) × KnowsClients n.script.whole n.me n.homes.items n.clients.items
         × AreSetsOf n.script.whole n.me n.sets
         × AreOwn n.script.whole.clients n.me 0 (length n.script.whole.clients) n.own.items };
+}
+
+// Written out, so that all places which let a node go call this.
+impl Drop for Node {
+    fn drop(self) {
+        let Node {
+            script,
+            me: _,
+            clock: _,
+            homes,
+            clients,
+            own,
+            sets,
+        } = self;
+        drop(script);
+        drop(homes);
+        drop(clients);
+        drop(own);
+        drop(sets);
+    }
 }
 
 impl Node {

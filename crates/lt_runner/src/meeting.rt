@@ -1,5 +1,5 @@
 // What runners of one script do together, while none of them is at work.
-ghost use Rattle.std.specs.Prelude.{◌≡◌, ◌≢◌, ◌<◌, None, IfSome, IfNone, IsSome, length};
+ghost use Rattle.std.specs.Prelude.{◌≡◌, ◌≢◌, ◌<◌, None, IfSome, IfNone, length};
 ghost use Rattle.lt_mail.specs.Words.{ins_count, known_from};
 ghost use Rattle.lt_runner.specs.Choices.{next_choice};
 ghost use Rattle.lt_runner.specs.Kept.{RunnerInvariant, AreBeside, HasMet, LooksTo, LooksFrom, HasFetched, Fetches, Knows, NoneKnown, is_move};
@@ -11,7 +11,6 @@ use crate::parts::{Hand, Parts};
 use crate::readying::hold_next;
 use crate::runner::Runner;
 use lt_mail::{Mail, beside};
-use lt_merge::Log;
 
 impl Runner {
     /// Looks at the ring to another runner from both of its ends.
@@ -48,15 +47,6 @@ impl Runner {
         ensures { result ≡ node_waits self.now.node.script (state_of self.now.node) client }
     {
         self.parts.node.waits(client)
-    }
-
-    /// The moves that its node has made, where none is forgotten.
-    pub fn into_log(self) -> Option<Log>
-        ensures log { IfSome result (λ log. log.entries ≡ self.log.entries) }
-        ensures all { self.log.gone ≡ 0 → IsSome result }
-        ensures forgotten { IfNone result (0 < self.log.gone) }
-    {
-        Box::into_inner(self.parts).log.into_run()
     }
 }
 

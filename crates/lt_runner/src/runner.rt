@@ -1,4 +1,4 @@
-ghost use Rattle.std.specs.Prelude.{◌≡◌, ◌≢◌, ◌<◌, ◌≤◌, ◌==◌, [], length, IfOk, IsTrue};
+ghost use Rattle.std.specs.Prelude.{◌≡◌, ◌≢◌, ◌<◌, ◌≤◌, ◌==◌, [], length, IfOk, IfSome, IfNone, IsSome, IsTrue};
 ghost use Rattle.lt_spec.specs.World.{start};
 ghost use Rattle.lt_spec.specs.declared.moves.TheConstants.{MAX_MOVES_OF_SERVICE};
 ghost use Rattle.lt_node.specs.NodeData.{state_of};
@@ -16,13 +16,13 @@ use crate::turning::{Turned, Worked};
 use lt_desk::Out;
 use lt_log::LongLog;
 use lt_mail::Mail;
+use lt_merge::Log;
 use lt_node::Node;
 use lt_script::{MAX_COMMANDS, Script};
 use std::alloc::{AllocError, Global};
 use std::marker::Model;
 
 /// What runs a node: its state, its mail and its log.
-#[derive(Drop)]
 pub struct Runner {
     // In a box, so that a runner that is claimed or given back is moved as one pointer.
     pub(crate) parts: Box<Parts>,
@@ -37,6 +37,14 @@ impl Model for Runner {
     ghost view = { λ r. r.parts.value };
 
     ghost invariant = { λ r. RunnerInvariant r.parts.value };
+}
+
+// Written out, so that all places which let a runner go call this.
+impl Drop for Runner {
+    fn drop(self) {
+        let Runner { parts } = self;
+        drop(parts);
+    }
 }
 
 impl Runner {
@@ -82,6 +90,16 @@ impl Runner {
         Ok(Runner {
             parts: Box::new(alloc, parts)?,
         })
+    }
+
+    /// The moves that its node has made, where none is forgotten.
+    pub fn into_log(self) -> Option<Log>
+        ensures log { IfSome result (λ log. log.entries ≡ self.log.entries) }
+        ensures all { self.log.gone ≡ 0 → IsSome result }
+        ensures forgotten { IfNone result (0 < self.log.gone) }
+    {
+        let Runner { parts } = self;
+        Box::into_inner(parts).log.into_run()
     }
 
     /// Makes turns until `patience` of them, one after the other, found no move, or one can't make the move it found.

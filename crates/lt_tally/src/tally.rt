@@ -15,7 +15,7 @@ use std::marker::Model;
 
 /// What events come to: how many locks are held, what each client waits for, and where each set's token went
 /// last.
-#[derive(Debug, Drop)]
+#[derive(Debug)]
 pub struct Tally {
     held: Table,
     waiting: Vec<Option<Holding>>,
@@ -28,6 +28,20 @@ impl Model for Tally {
     ghost Value = { TallyData };
 
     ghost view = { λ t. record { held = t.held; waiting = t.waiting.items; owners = t.owners.items } };
+}
+
+// Written out, so that all places which let a tally go call this.
+impl Drop for Tally {
+    fn drop(self) {
+        let Tally {
+            held,
+            waiting,
+            owners,
+        } = self;
+        drop(held);
+        drop(waiting);
+        drop(owners);
+    }
 }
 
 impl Tally {

@@ -7,7 +7,6 @@ use std::marker::Model;
 
 /// For each of a fixed number of players the number of its next turn, where it can act. The player with the least number
 /// is the first one, and of two with the same number the lesser player.
-#[derive(Drop)]
 pub struct Turns {
     numbers: Vec<Option<u64>>,
     // A tree over the players: node 1 is the root, nodes 2k and 2k + 1 stand below node k, and from the number of players
@@ -26,6 +25,19 @@ impl Model for Turns {
     ghost view = { λ t. t.numbers.items };
 
     ghost invariant = { λ t. IsTree t.numbers.items t.ranks.items t.count };
+}
+
+// Written out, so that all places which let the turns go call this.
+impl Drop for Turns {
+    fn drop(self) {
+        let Turns {
+            numbers,
+            ranks,
+            count: _,
+        } = self;
+        drop(numbers);
+        drop(ranks);
+    }
 }
 
 impl Turns {
