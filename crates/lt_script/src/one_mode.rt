@@ -12,7 +12,7 @@ use lt_spec::MAX_COMMANDS;
 use lt_text::next_word;
 
 /// A verb that asks for one mode in one set.
-#[derive(Clone, Copy, Debug)]
+#[derive(Clone, Copy)]
 pub enum Verb {
     Lock,
     Try,
@@ -20,7 +20,7 @@ pub enum Verb {
 }
 
 /// What such a command asks for.
-#[derive(Clone, Copy, Debug)]
+#[derive(Clone, Copy)]
 pub struct OneMode<'a> {
     verb: Verb,
     set: &'a [u8],
