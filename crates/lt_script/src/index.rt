@@ -28,7 +28,7 @@ const SPOTS: usize = 512;
 ///
 /// Each name has one of the spots, of which there are no fewer than items. The items of a spot are chained: the spot
 /// knows the last of them, and each of them the one before it. So a look-up compares a name or two.
-#[derive(Debug, Drop)]
+#[derive(Drop)]
 pub(crate) struct Index<T: Named> {
     items: Vec<T>,
     // For each spot one more than the place of its last item; 0 where it has none.

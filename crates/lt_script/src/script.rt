@@ -23,7 +23,7 @@ use std::sync::Arc;
 /// Sets and clients have numbers from 0, as they are declared. A client's commands are its own among all, in order.
 /// A copy shares its declarations and its commands with the script that it was made of, each until one of the two adds
 /// to them.
-#[derive(Debug, Drop)]
+#[derive(Drop)]
 pub struct Script {
     version: u8,
     nodes: u8,

@@ -10,7 +10,7 @@ use std::alloc::{AllocError, Global};
 use std::marker::Model;
 
 /// The sets of a script, found by their names. Those of a family are chained, each to the next one.
-#[derive(Debug, Drop)]
+#[derive(Drop)]
 pub(crate) struct DeclaredSets {
     index: Index<SetDecl>,
     // For each family one more than its last set; 0 for the number of a set that isn't the first of its family.
