@@ -28,7 +28,6 @@ const SPOTS: usize = 512;
 ///
 /// Each name has one of the spots, of which there are no fewer than items. The items of a spot are chained: the spot
 /// knows the last of them, and each of them the one before it. So a look-up compares a name or two.
-#[derive(Drop)]
 pub(crate) struct Index<T: Named> {
     items: Vec<T>,
     // For each spot one more than the place of its last item; 0 where it has none.
@@ -47,6 +46,20 @@ impl<T: Named> Model for Index<T> {
     ghost view = { λ x. x.items.items };
 
     ghost invariant = { λ x. IsIndex T.name_of x.items.items x.lasts.items x.befores.items };
+}
+
+// Written out, so that all places which let an index go call this.
+impl<T: Named> Drop for Index<T> {
+    fn drop(self) {
+        let Index {
+            items,
+            lasts,
+            befores,
+        } = self;
+        drop(items);
+        drop(lasts);
+        drop(befores);
+    }
 }
 
 impl<T: Named> Index<T> {

@@ -10,7 +10,6 @@ use std::alloc::{AllocError, Global};
 use std::marker::Model;
 
 /// The sets of a script, found by their names. Those of a family are chained, each to the next one.
-#[derive(Drop)]
 pub(crate) struct DeclaredSets {
     index: Index<SetDecl>,
     // For each family one more than its last set; 0 for the number of a set that isn't the first of its family.
@@ -29,6 +28,20 @@ impl Model for DeclaredSets {
     ghost view = { λ s. s.index };
 
     ghost invariant = { λ s. AreChained (family_at s.index) (length s.index) s.lasts.items s.nexts.items };
+}
+
+// Written out, so that all places which let the sets go call this.
+impl Drop for DeclaredSets {
+    fn drop(self) {
+        let DeclaredSets {
+            index,
+            lasts,
+            nexts,
+        } = self;
+        drop(index);
+        drop(lasts);
+        drop(nexts);
+    }
 }
 
 impl DeclaredSets {
