@@ -1,11 +1,12 @@
-ghost use Rattle.std.specs.Prelude.{◌≡◌, ◌<◌, ◌^◌, ◌++◌, ◌∷◌, [], ℕ, None, List, length, position, IfOk, IfSome, OnOk, OnErr};
+ghost use Rattle.std.specs.Prelude.{◌≡◌, ◌<◌, ◌≤◌, ◌+◌, ◌^◌, ◌++◌, ◌∷◌, [], ℕ, None, List, length, position, IfOk, IfSome, OnOk, OnErr};
 ghost use Rattle.std.specs.Str.{bytes_eq};
+ghost use Rattle.std.specs.Vec.{vec_len, vec_capacity};
 ghost use Rattle.lt_script.specs.Index.{hash_of};
 
 mod chains;
 
 pub(crate) use crate::index::chains::hash;
-use crate::index::chains::{copied, linked, place_of, spot};
+use crate::index::chains::{copied, link_last, linked, place_of};
 use std::alloc::{AllocError, Global};
 use std::marker::Model;
 
@@ -111,9 +112,7 @@ impl<T: Named> Index<T> {
         if count > self.lasts.len() {
             self.link_by(count.next_power_of_two())?;
         }
-        self.items.reserve(more)?;
-        self.befores.reserve(more)?;
-        Ok(())
+        reserve_both(&mut self.items, &mut self.befores, more)
     }
 
     /// Adds a last item, whose name has this hash.
@@ -125,15 +124,9 @@ impl<T: Named> Index<T> {
         ensures unchanged { OnErr result (self.new ≡ self.old) }
     {
         self.grow()?;
-        let place = self.items.len();
-        let spot = spot(hash, self.lasts.len());
-        self.items.reserve(1)?;
-        self.befores.push(self.lasts[spot])?;
-        match self.items.push(item) {
-            Ok(()) => {}
-            Err(_) => unreachable!(),
-        }
-        self.lasts[spot] = place as u32 + 1;
+        reserve_both(&mut self.items, &mut self.befores, 1)?;
+        link_last(&mut self.lasts, &mut self.befores, hash);
+        self.items.push_reserved(item);
         Ok(())
     }
 
@@ -159,4 +152,19 @@ impl<T: Named> Index<T> {
         self.lasts = lasts;
         Ok(())
     }
+}
+
+/// Makes room for so many further items in both.
+pub(crate) fn reserve_both<T, U>(
+    items: &mut Vec<T>,
+    others: &mut Vec<U>,
+    more: usize,
+) -> Result<(), AllocError>
+    ensures items { items.new.items ≡ items.old.items }
+    ensures others { others.new.items ≡ others.old.items }
+    ensures items_room { OnOk result (vec_len items.new + more ≤ vec_capacity items.new) }
+    ensures others_room { OnOk result (vec_len others.new + more ≤ vec_capacity others.new) }
+{
+    items.reserve(more)?;
+    others.reserve(more)
 }

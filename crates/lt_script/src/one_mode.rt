@@ -84,9 +84,9 @@ pub fn request_of_one_mode(
     Ok((client, command_of(asked.verb, set, asked.mode)))
 }
 
-// The command with this verb.
+/// The command with this verb.
 #[inline(always)]
-fn command_of(verb: Verb, set: u32, mode: Mode) -> Command
+pub fn command_of(verb: Verb, set: u32, mode: Mode) -> Command
     ensures { result ≡ one_mode_command verb set mode }
 {
     match verb {

@@ -5,7 +5,7 @@ ghost use Rattle.lt_script.specs.Index.{hash_of};
 ghost use Rattle.lt_script.specs.Families.{ComesNext, linked_to};
 
 use crate::declarations::SetDecl;
-use crate::index::Index;
+use crate::index::{Index, reserve_both};
 use std::alloc::{AllocError, Global};
 use std::marker::Model;
 
@@ -97,9 +97,7 @@ impl DeclaredSets {
         ensures { self.new ≡ self.old }
     {
         self.index.reserve(more)?;
-        self.lasts.reserve(more as usize)?;
-        self.nexts.reserve(more as usize)?;
-        Ok(())
+        reserve_both(&mut self.lasts, &mut self.nexts, more as usize)
     }
 
     /// Adds a last set, whose name has this hash.
@@ -112,8 +110,7 @@ impl DeclaredSets {
         ensures unchanged { OnErr result (self.new ≡ self.old) }
     {
         let family = set.family() as usize;
-        self.lasts.reserve(1)?;
-        self.nexts.reserve(1)?;
+        reserve_both(&mut self.lasts, &mut self.nexts, 1)?;
         self.index.push(set, hash)?;
         self.lasts.push_reserved(0);
         self.nexts.push_reserved(0);
