@@ -1,5 +1,5 @@
 -- The sets of a family, chained each to the next one.
-use Rattle.std.proofs.Common.{◌≡◌, ◌∙◌, ℕ, zero, suc, ◌+◌, ◌-◌, ◌<◌, ◌≤◌, List, [], ◌∷◌, ◌++◌, length, slice_index, slice_set, refl, sym, ap, subst, inl, inr, arith}
+use Rattle.std.proofs.Common.{◌≡◌, ◌∙◌, ℕ, zero, suc, ◌+◌, ◌-◌, ◌^◌, ◌<◌, ◌≤◌, List, [], ◌∷◌, ◌++◌, length, slice_index, slice_set, refl, sym, ap, subst, inl, inr, arith}
 use Rattle.std.proofs.lemmas.Bool.{cases_eq, cases_lt}
 use Rattle.std.proofs.lemmas.Grind.{get_or-set_at}
 use Rattle.std.proofs.lemmas.List.{length_push, length-set, get_or_append_left, get_or_push, get_or-set_other}
@@ -142,6 +142,25 @@ chained_more at count lasts nexts fits h = record {
             ];
           })
     ]
+
+-- a family with a further place is among those, and what it is linked to stands before that place
+pub family_inside : (set_family family count : ℕ) (lasts more : List ℕ) → family ≡ set_family → set_family ≤ count → length lasts ≡ count → more ≡ lasts ++ 0 ∷ [] → family < length more
+family_inside set_family family count lasts more same fits all is = subst (λ (l : List ℕ). family < length l) (sym is) (omega (arith, same, fits, all, length_push lasts 0))
+
+pub link_inside : (at : ℕ → ℕ) (family count : ℕ) (lasts nexts more_lasts more_nexts : List ℕ) → family ≤ count → AreChained at count lasts nexts → more_lasts ≡ lasts ++ 0 ∷ [] → more_nexts ≡ nexts ++ 0 ∷ []
+    → slice_index more_lasts family < length more_nexts
+link_inside at family count lasts nexts more_lasts more_nexts fits h of_lasts of_nexts =
+    let all : length more_nexts ≡ count + 1 = ap length of_nexts ∙ length_push nexts 0 ∙ ap (λ n. n + 1) h.places in
+    subst (λ (l : List ℕ). slice_index l family < length more_nexts) (sym of_lasts) (elim (cases_lt family count) [
+      | inl below ↦
+          subst (λ (n : ℕ). n < length more_nexts) (sym (get_or_append_left lasts (0 ∷ []) 0 family (omega (arith, below, h.families))))
+          (omega (arith, all, (h.of_families family below).within))
+      | inr last ↦ subst (λ (n : ℕ). n < length more_nexts) (sym (get_or_push lasts 0 0 family (omega (arith, h.families, fits, last)))) (omega (arith, all))
+    ])
+
+-- few places are few with a further one
+pub few_places : (count : ℕ) (nexts more : List ℕ) → count < 2 ^ 31 → length nexts ≡ count → more ≡ nexts ++ 0 ∷ [] → length more < 2 ^ 32
+few_places count nexts more few all is = subst (λ (l : List ℕ). length l < 2 ^ 32) (sym is) (omega (arith, few, all, length_push nexts 0))
 
 -- a last set is chained to its family
 pub set_chained : (sets : List SetData) (x : SetData) (lasts nexts : List ℕ) → x.family ≤ length sets → AreChained (family_at sets) (length sets) lasts nexts

@@ -12,7 +12,7 @@ use Rattle.lt_script.specs.declared.fault.Fault.{Fault}
 use Rattle.lt_script.specs.declared.fault.Fault.TheVariants as faults
 use Rattle.lt_script.specs.Fault.{number_of}
 use Rattle.lt_script.specs.Forms.{FormData, form_of, CommandForm, asked_of}
-use Rattle.lt_script.specs.Faults.{is_plain_byte, first_true, fault_by_form, line_fault, form_fault}
+use Rattle.lt_script.specs.Faults.{is_plain_byte, declared, first_true, fault_by_form, line_fault, form_fault, after_form}
 use Rattle.lt_script.specs.Reading.{has_fault_by, IsLeastFault, LeastIsTold, LimitsAre, reserved, ReservedAre, NumbersAre, FormsAre, is_skipped, line_step, unless, script_after, go_on, read_from, script_body, has_fault, IsFirstFault, LacksNodes, FirstIsTold}
 use Rattle.lt_script.specs.declared.fault.ScriptFault.{ScriptFault}
 use Rattle.lt_script.specs.Steps.{begins_comment, begins_declaration, is_plain_line, form_step, step_by_form, words_step}
@@ -286,3 +286,7 @@ later_line_step v st s line word rest is e other plain short =
 -- a form with a fault is told by it
 pub told_step : (v : ℕ) (st : Option ScriptData) (form : FormData) (fault : Fault) → form_fault v st form ≡ Some fault → form_step v st form ≡ Err fault
 told_step v st form fault e = rw e refl
+
+-- a form without a fault leads to the script after it
+pub clean_step : (v : ℕ) (st : Option ScriptData) (form : FormData) (s : ScriptData) → form_fault v st form ≡ None → s ≡ after_form (declared v st) form → form_step v st form ≡ Ok (Some s)
+clean_step v st form s clean is = rw (clean, is) refl

@@ -1,8 +1,8 @@
 -- Items that are chained by the spots of their names: what is added, and what is found.
-use Rattle.std.proofs.Common.{◌≡◌, ◌∙◌, ℕ, ◌+◌, ◌-◌, ◌^◌, ◌<◌, ◌≤◌, true, false, List, [], ◌∷◌, ◌++◌, length, replicate, slice_get, slice_index, slice_set, Option, Some, None, position, refl, sym, ap, subst, inl, inr, arith, bytes_eq}
+use Rattle.std.proofs.Common.{◌≡◌, ◌∙◌, ℕ, ◌+◌, ◌-◌, ◌^◌, ◌<◌, ◌≤◌, true, false, List, [], ◌∷◌, ◌++◌, length, replicate, take, get_or, slice_get, slice_index, slice_set, Option, Some, None, position, refl, sym, ap, subst, inl, inr, arith, bit_and, bytes_eq}
 use Rattle.std.proofs.lemmas.Bool.{cases_eq, cases_lt, false≢true}
 use Rattle.std.proofs.lemmas.Grind.{get_or-set_at}
-use Rattle.std.proofs.lemmas.List.{length_push, length-replicate, length-set, get_or_append_left, get_or_past, get_or_push, get_or-replicate, get_or-set_other}
+use Rattle.std.proofs.lemmas.List.{length_push, length-replicate, length-set, get_or_append_left, get_or_past, get_or_push, get_or-replicate, get_or-set_other, take_more}
 use Rattle.std.proofs.lemmas.List.Quantifiers.{position-Some}
 use Rattle.std.proofs.lemmas.Option.{slice_get_within, get_or_from_slice_get, same_Some}
 use Rattle.std.proofs.lemmas.Slice.Eq.{bytes_eq-Decides}
@@ -85,6 +85,15 @@ linked_more at place lasts befores more inside earlier here h = record { of_spot
           (subst (λ (link : ℕ). IsLink at (at place) place link) (sym here) (h.of_spots (at place) inside))
     ]
 
+-- one more item is copied
+pub copied_more : {T : Type 0} (items copy next : List T) (k : ℕ) (x y : T) → next ≡ copy ++ y ∷ [] → copy ≡ take k items → y ≡ x → x ≡ get_or items k x → k < length items → next ≡ take (k + 1) items
+copied_more {T} items copy next k x y more so_far same is inside =
+    more ∙ ap (λ (l : List T). l ++ y ∷ []) so_far ∙ ap (λ (z : T). take k items ++ z ∷ []) (same ∙ is) ∙ sym (take_more items k x inside)
+
+-- what is 0 everywhere is so as long as it is
+pub all_zero : (l : List ℕ) (count : ℕ) → l ≡ replicate count 0 → l ≡ replicate (length l) 0
+all_zero l count is = is ∙ ap (λ (n : ℕ). replicate n 0) (sym (ap length is ∙ length-replicate {A = ℕ} count 0))
+
 module _ {T : Type 0} (name_of : T → List ℕ) where
   -- the items so far have their spots as before
   spot_front : (items : List T) (x : T) (spots k : ℕ) → k < length items → spot_at name_of (items ++ x ∷ []) spots k ≡ spot_at name_of items spots k
@@ -155,6 +164,35 @@ module _ {T : Type 0} (name_of : T → List ℕ) where
             (links_stay (spot_at name_of items spots) at (length items) lasts befores (spot_front items x spots) h.linked))));
         apart = apart_more items x h.apart new;
       }
+
+  -- the same by what became of the items and the links
+  pub index_pushed_so : (items more_items : List T) (x : T) (lasts more_lasts befores reserved more_befores : List ℕ) (hash : ℕ) → IsIndex name_of items lasts befores
+      → position (λ y. bytes_eq (name_of y) (name_of x)) items ≡ None → length items < 2 ^ 31 → hash ≡ hash_of (name_of x) → more_items ≡ items ++ x ∷ [] → reserved ≡ befores
+      → more_lasts ≡ slice_set lasts (bit_and hash (length lasts - 1)) (length reserved + 1) → more_befores ≡ reserved ++ slice_index lasts (bit_and hash (length lasts - 1)) ∷ []
+      → IsIndex name_of more_items more_lasts more_befores
+  index_pushed_so items more_items x lasts more_lasts befores reserved more_befores hash h new few hashed of_items same of_lasts of_befores =
+      let spot = spot_of (length lasts) (name_of x) in
+      let here : bit_and hash (length lasts - 1) ≡ spot = ap (λ (n : ℕ). bit_and n (length lasts - 1)) hashed in
+      let set : more_lasts ≡ slice_set lasts spot (length items + 1) =
+      of_lasts ∙ ap (λ (n : ℕ). slice_set lasts n (length reserved + 1)) here ∙ ap (λ (n : ℕ). slice_set lasts spot (n + 1)) (ap length same ∙ h.count) in
+      let pushed : more_befores ≡ befores ++ slice_index lasts spot ∷ [] =
+      of_befores ∙ ap (λ (l : List ℕ). l ++ slice_index lasts (bit_and hash (length lasts - 1)) ∷ []) same ∙ ap (λ (n : ℕ). befores ++ slice_index lasts n ∷ []) here in
+      rw (of_items, set, pushed) (index_pushed items x lasts befores h new few)
+
+  -- a further item is linked where the items are linked anew
+  pub linked_step : (items : List T) (x : T) (place spots spot hash : ℕ) (lasts befores name : List ℕ) → slice_get items place ≡ Some x → place < length befores → name ≡ name_of x
+      → hash ≡ hash_of name → spot ≡ bit_and hash (length lasts - 1) → spot < length lasts → length lasts ≡ spots → AreLinked (spot_at name_of items spots) place lasts befores
+      → AreLinked (spot_at name_of items spots) (place + 1) (slice_set lasts spot (place + 1)) (slice_set befores place (slice_index lasts spot))
+  linked_step items x place spots spot hash lasts befores name there inside named hashed of_hash within all h =
+      let at : ℕ → ℕ = spot_at name_of items spots in
+      let here : at place ≡ spot =
+      spot_here items x spots place there ∙ ap (λ (n : List ℕ). bit_and (hash_of n) (spots - 1)) (sym named)
+      ∙ ap (λ (h : ℕ). bit_and h (spots - 1)) (sym hashed) ∙ ap (λ (n : ℕ). bit_and hash (n - 1)) (sym all) ∙ sym of_hash in
+      let link : ℕ = slice_index lasts (at place) in
+      subst (λ (s : ℕ). AreLinked at (place + 1) (slice_set lasts s (place + 1)) (slice_set befores place (slice_index lasts s))) here
+      (linked_more at place lasts befores (slice_set befores place link) (subst (λ (s : ℕ). s < length lasts) (sym here) within)
+      (λ k below. get_or-set_other befores place k link 0 (omega (arith, below)))
+      (get_or-set_at befores place place link 0 refl inside) h)
 
   -- a look-up has come to this link: whoever has the name stands before it
   pub record IsSought (items : List T) (spots : ℕ) (name : List ℕ) (link : ℕ) : Type 0 where

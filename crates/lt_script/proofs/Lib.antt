@@ -7,5 +7,6 @@ pub mod OneModeLemmas
 pub mod FaultOrder
 pub mod ShortScripts
 pub mod PrintedLines
+pub mod PrintedSoFar
 pub mod RoundTrips
 pub mod RoundTrip

@@ -1,9 +1,10 @@
 -- What is added to a script leaves a script.
-use Rattle.std.proofs.Common.{◌≡◌, ℕ, zero, suc, ◌+◌, ◌<◌, ◌≤◌, ◌==◌, ◌⊎◌, cond, List, [], ◌∷◌, ◌++◌, length, Some, true, false, slice_get, refl, sym, ap, subst, ◌∙◌, inl, inr, arith, eq-eqb, ne_eqb, if◌then◌else◌, bytes_eq}
+use Rattle.std.proofs.Common.{◌≡◌, ◌≢◌, ℕ, zero, suc, ◌+◌, ◌^◌, ◌<◌, ◌≤◌, ◌==◌, ◌⊎◌, cond, List, [], ◌∷◌, ◌++◌, length, Some, true, false, slice_get, get_or, refl, sym, ap, subst, ◌∙◌, inl, inr, arith, eq-eqb, ne_eqb, if◌then◌else◌, bytes_eq}
 use Rattle.std.proofs.lemmas.Bool.{cases_eq, cases_lt}
 use Rattle.std.proofs.lemmas.List.{length_push}
 use Rattle.std.proofs.lemmas.List.Elements.{All-nil, All-push}
 use Rattle.std.proofs.lemmas.List.Sums.{sum_by-append}
+use Rattle.std.proofs.lemmas.Option.{slice_get_read}
 use Rattle.lt_modes.specs.declared.command.Command.{Command}
 use Rattle.lt_modes.specs.declared.command.Command.TheVariants.{Lock, Try, Unlock, Change, DropAll}
 use Rattle.lt_modes.specs.Script.{ScriptData, SetData, ClientData, family_at, home_at, name_of_set, family_of_set, name_of_client, node_of_client}
@@ -70,7 +71,7 @@ more_clients sets clients x client (Change set gives_up mode) inside h = h
 more_clients sets clients x client (DropAll other set) inside h =
     (h.0, omega (arith, length_push clients x), home_front clients x other h.1 ∙ h.2 ∙ sym (home_front clients x client inside))
 
-family_not_later : (sets : List SetData) (family : ℕ) → IsFamilyOfNext sets family → family ≤ length sets
+pub family_not_later : (sets : List SetData) (family : ℕ) → IsFamilyOfNext sets family → family ≤ length sets
 family_not_later sets family h = elim h [ inl own ↦ omega arith | inr earlier ↦ omega arith ]
 
 pub set_added : (s : ScriptData) (x : SetData) → IsScript s → is_name x.name ≡ true → is_declared s x.name ≡ false → length s.sets < MAX_SETS_OF_SERVICE → IsFamilyOfNext s.sets x.family
@@ -140,6 +141,23 @@ most_within version = elim (version == 1) as (λ t. (if t then MAX_CLIENTS_OF_FI
   | true ↦ omega arith
   | false ↦ omega arith
 ]
+
+-- what is read of a set's family
+pub family_read : (sets read : List SetData) (set family : ℕ) (x : SetData) → read ≡ sets → set < length sets → x ≡ get_or read set x → family ≡ x.family → family ≡ family_at sets set
+family_read sets read set family x same inside is told =
+    let there : slice_get sets set ≡ Some x = slice_get_read sets (length sets) set x refl inside (is ∙ ap (λ (l : List SetData). get_or l set x) same) in
+    told ∙ sym (ap family_of_set there)
+
+-- no set before the first one of a family is of it
+pub none_earlier : (s : ScriptData) (set family k : ℕ) → IsScript s → set < length s.sets → family ≤ set → k < family → family_at s.sets k ≢ family
+none_earlier s set family k good inside earlier before = λ same. omega (arith, before, same, good.families_not_later k (omega (arith, before, earlier, inside)))
+
+-- there are few sets and clients for their numbers
+pub few_sets : (count : ℕ) → count < MAX_SETS_OF_SERVICE → count < 2 ^ 31
+few_sets count room = omega (arith, room)
+
+pub few_clients : (version count : ℕ) → count < most_clients version → count < 2 ^ 31
+few_clients version count room = omega (arith, room, most_within version)
 
 pub client_added : (s : ScriptData) (x : ClientData) → IsScript s → is_name x.name ≡ true → is_declared s x.name ≡ false → length s.clients < most_clients s.version → x.node < s.nodes → load_of s.clients x.node < MAX_CLIENTS_OF_NODE
     → IsScript (record s { clients = s.clients ++ x ∷ [] })

@@ -6,7 +6,7 @@ use crate::name::Name;
 use std::marker::Model;
 
 /// A lock set as a script declares it.
-#[derive(Debug, Drop)]
+#[derive(Drop)]
 pub struct SetDecl {
     name: Name,
     family: u32,
@@ -55,7 +55,7 @@ impl SetDecl {
 }
 
 /// A client as a script declares it.
-#[derive(Debug, Drop)]
+#[derive(Drop)]
 pub struct ClientDecl {
     name: Name,
     node: u8,

@@ -6,7 +6,7 @@ ghost use Rattle.lt_script.specs.Steps.{begins_declaration};
 use lt_text::{is, next_word};
 
 /// What a client asks for, in the words of its line.
-#[derive(Clone, Copy, Debug)]
+#[derive(Clone, Copy)]
 pub enum CommandWords<'a> {
     Lock {
         set: &'a [u8],
@@ -32,7 +32,7 @@ pub enum CommandWords<'a> {
 }
 
 /// A line of a script by its form, with its words.
-#[derive(Clone, Copy, Debug)]
+#[derive(Clone, Copy)]
 pub enum Form<'a> {
     /// The line `version 2`.
     Version,

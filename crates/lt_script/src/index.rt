@@ -1,11 +1,12 @@
-ghost use Rattle.std.specs.Prelude.{◌≡◌, ◌<◌, ◌^◌, ◌++◌, ◌∷◌, [], ℕ, None, List, length, position, IfOk, IfSome, OnOk, OnErr};
+ghost use Rattle.std.specs.Prelude.{◌≡◌, ◌<◌, ◌≤◌, ◌+◌, ◌^◌, ◌++◌, ◌∷◌, [], ℕ, None, List, length, position, IfOk, IfSome, OnOk, OnErr};
 ghost use Rattle.std.specs.Str.{bytes_eq};
+ghost use Rattle.std.specs.Vec.{vec_len, vec_capacity};
 ghost use Rattle.lt_script.specs.Index.{hash_of};
 
 mod chains;
 
 pub(crate) use crate::index::chains::hash;
-use crate::index::chains::{copied, linked, place_of, spot};
+use crate::index::chains::{copied, link_last, linked, place_of};
 use std::alloc::{AllocError, Global};
 use std::marker::Model;
 
@@ -28,7 +29,6 @@ const SPOTS: usize = 512;
 ///
 /// Each name has one of the spots, of which there are no fewer than items. The items of a spot are chained: the spot
 /// knows the last of them, and each of them the one before it. So a look-up compares a name or two.
-#[derive(Debug, Drop)]
 pub(crate) struct Index<T: Named> {
     items: Vec<T>,
     // For each spot one more than the place of its last item; 0 where it has none.
@@ -47,6 +47,20 @@ impl<T: Named> Model for Index<T> {
     ghost view = { λ x. x.items.items };
 
     ghost invariant = { λ x. IsIndex T.name_of x.items.items x.lasts.items x.befores.items };
+}
+
+// Written out, so that all places which let an index go call this.
+impl<T: Named> Drop for Index<T> {
+    fn drop(self) {
+        let Index {
+            items,
+            lasts,
+            befores,
+        } = self;
+        drop(items);
+        drop(lasts);
+        drop(befores);
+    }
 }
 
 impl<T: Named> Index<T> {
@@ -98,9 +112,7 @@ impl<T: Named> Index<T> {
         if count > self.lasts.len() {
             self.link_by(count.next_power_of_two())?;
         }
-        self.items.reserve(more)?;
-        self.befores.reserve(more)?;
-        Ok(())
+        reserve_both(&mut self.items, &mut self.befores, more)
     }
 
     /// Adds a last item, whose name has this hash.
@@ -112,15 +124,9 @@ impl<T: Named> Index<T> {
         ensures unchanged { OnErr result (self.new ≡ self.old) }
     {
         self.grow()?;
-        let place = self.items.len();
-        let spot = spot(hash, self.lasts.len());
-        self.items.reserve(1)?;
-        self.befores.push(self.lasts[spot])?;
-        match self.items.push(item) {
-            Ok(()) => {}
-            Err(_) => unreachable!(),
-        }
-        self.lasts[spot] = place as u32 + 1;
+        reserve_both(&mut self.items, &mut self.befores, 1)?;
+        link_last(&mut self.lasts, &mut self.befores, hash);
+        self.items.push_reserved(item);
         Ok(())
     }
 
@@ -146,4 +152,19 @@ impl<T: Named> Index<T> {
         self.lasts = lasts;
         Ok(())
     }
+}
+
+/// Makes room for so many further items in both.
+pub(crate) fn reserve_both<T, U>(
+    items: &mut Vec<T>,
+    others: &mut Vec<U>,
+    more: usize,
+) -> Result<(), AllocError>
+    ensures items { items.new.items ≡ items.old.items }
+    ensures others { others.new.items ≡ others.old.items }
+    ensures items_room { OnOk result (vec_len items.new + more ≤ vec_capacity items.new) }
+    ensures others_room { OnOk result (vec_len others.new + more ≤ vec_capacity others.new) }
+{
+    items.reserve(more)?;
+    others.reserve(more)
 }

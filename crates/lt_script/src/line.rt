@@ -2,7 +2,9 @@ ghost use Rattle.std.specs.Prelude.{◌≡◌, ◌<◌, None, Some, length, IfSo
 ghost use Rattle.std.specs.List.{list_all};
 ghost use Rattle.lt_modes.specs.Modes.{mode_of};
 ghost use Rattle.lt_modes.specs.FiveModes.{is_of_version};
-ghost use Rattle.lt_script.specs.Forms.{form_seen, asked_seen, NodesForm, SetForm, SetWithForm, ClientForm, CommandForm};
+ghost use Rattle.lt_script.specs.Forms.{form_seen, asked_seen, NodesForm, SetForm, SetWithForm, ClientForm, CommandForm, ChangeWords, DropWords};
+ghost use Rattle.lt_spec.specs.Script.{client_number};
+ghost use Rattle.lt_script.specs.OneMode.{verb_words};
 ghost use Rattle.lt_script.specs.Faults.{form_fault, is_plain_byte, mode_in};
 ghost use Rattle.lt_script.specs.Steps.{is_text_byte, is_plain_line, Resolves, FindsSetAndMode, FindsDrop};
 
@@ -10,6 +12,7 @@ use crate::fault::Fault;
 use crate::form::{CommandWords, Form};
 use crate::limits::{most_clients, most_nodes};
 use crate::name::is_name;
+use crate::one_mode::{Verb, command_of};
 use crate::script::Script;
 use lt_modes::{Command, Mode};
 use lt_spec::{MAX_CLIENTS_OF_NODE, MAX_COMMANDS, MAX_SETS};
@@ -108,43 +111,91 @@ pub fn request_of(
 ) -> Result<(u16, Command), Fault>
     ensures { Resolves script.now (CommandForm client.now (asked_seen asked.entry)) result }
 {
-    let Some(client) = script.client_number(client) else {
+    let Some(number) = script.client_number(client) else {
         return Err(Fault::Unknown);
     };
-    let command = match asked {
+    match asked {
         CommandWords::Lock { set, mode } => {
-            let (set, mode) = set_and_mode(script, set, mode)?;
-            Command::Lock { set, mode }
+            request_with(script, client, number, Verb::Lock, set, mode)
         }
         CommandWords::Try { set, mode } => {
-            let (set, mode) = set_and_mode(script, set, mode)?;
-            Command::Try { set, mode }
+            request_with(script, client, number, Verb::Try, set, mode)
         }
         CommandWords::Unlock { set, mode } => {
-            let (set, mode) = set_and_mode(script, set, mode)?;
-            Command::Unlock { set, mode }
+            request_with(script, client, number, Verb::Unlock, set, mode)
         }
         CommandWords::Change {
             set,
             gives_up,
             mode,
-        } => {
-            let (set, gives_up) = set_and_mode(script, set, gives_up)?;
-            let Some(mode) = mode_in(script.version(), mode) else {
-                return Err(Fault::Mode);
-            };
-            Command::Change {
-                set,
-                gives_up,
-                mode,
-            }
-        }
+        } => change(script, client, number, set, gives_up, mode),
         CommandWords::Drop { client: other, set } => {
-            let (client, set) = client_and_set(script, client, other, set)?;
-            Command::DropAll { client, set }
+            drop_all(script, client, number, other, set)
         }
+    }
+}
+
+// The same of a line with this verb, a set and a mode; `_name` is the client's.
+fn request_with(
+    script: &Script,
+    _name: &[u8],
+    client: u16,
+    verb: Verb,
+    set: &[u8],
+    mode: &[u8],
+) -> Result<(u16, Command), Fault>
+    requires client { client_number script.now _name.now ≡ Some client }
+    requires inside { client < length script.now.clients }
+    ensures { Resolves script.now (CommandForm _name.now (verb_words verb set.now mode.now)) result }
+{
+    match set_and_mode(script, set, mode) {
+        Ok((set, mode)) => Ok((client, command_of(verb, set, mode))),
+        Err(fault) => Err(fault),
+    }
+}
+
+// The same of a line `change`; `_name` is the client's.
+fn change(
+    script: &Script,
+    _name: &[u8],
+    client: u16,
+    set: &[u8],
+    gives_up: &[u8],
+    mode: &[u8],
+) -> Result<(u16, Command), Fault>
+    requires client { client_number script.now _name.now ≡ Some client }
+    requires inside { client < length script.now.clients }
+    ensures { Resolves script.now
+        (CommandForm _name.now (ChangeWords set.now gives_up.now mode.now)) result }
+{
+    let (set, gives_up) = set_and_mode(script, set, gives_up)?;
+    let Some(mode) = mode_in(script.version(), mode) else {
+        return Err(Fault::Mode);
+    };
+    let command = Command::Change {
+        set,
+        gives_up,
+        mode,
     };
     Ok((client, command))
+}
+
+// The same of a line `drop`; `_name` is the client's.
+fn drop_all(
+    script: &Script,
+    _name: &[u8],
+    client: u16,
+    other: &[u8],
+    set: &[u8],
+) -> Result<(u16, Command), Fault>
+    requires client { client_number script.now _name.now ≡ Some client }
+    requires inside { client < length script.now.clients }
+    ensures { Resolves script.now (CommandForm _name.now (DropWords other.now set.now)) result }
+{
+    match client_and_set(script, client, other, set) {
+        Ok((other, set)) => Ok((client, Command::DropAll { client: other, set })),
+        Err(fault) => Err(fault),
+    }
 }
 
 // The set and the mode with these names, or the first fault of a command that names them.

@@ -9,7 +9,7 @@ use lt_text::is;
 use std::marker::Model;
 
 /// The name of a set or a client, which takes no memory elsewhere.
-#[derive(Debug, Drop)]
+#[derive(Drop)]
 pub struct Name {
     bytes: [u8; MAX_NAME],
     length: u8,

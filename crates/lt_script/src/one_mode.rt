@@ -12,7 +12,7 @@ use lt_spec::MAX_COMMANDS;
 use lt_text::next_word;
 
 /// A verb that asks for one mode in one set.
-#[derive(Clone, Copy, Debug)]
+#[derive(Clone, Copy)]
 pub enum Verb {
     Lock,
     Try,
@@ -20,7 +20,7 @@ pub enum Verb {
 }
 
 /// What such a command asks for.
-#[derive(Clone, Copy, Debug)]
+#[derive(Clone, Copy)]
 pub struct OneMode<'a> {
     verb: Verb,
     set: &'a [u8],
@@ -84,9 +84,9 @@ pub fn request_of_one_mode(
     Ok((client, command_of(asked.verb, set, asked.mode)))
 }
 
-// The command with this verb.
+/// The command with this verb.
 #[inline(always)]
-fn command_of(verb: Verb, set: u32, mode: Mode) -> Command
+pub fn command_of(verb: Verb, set: u32, mode: Mode) -> Command
     ensures { result ≡ one_mode_command verb set mode }
 {
     match verb {

@@ -54,7 +54,7 @@ pub fn read(alloc: Global, bytes: &[u8]) -> Result<Script, ReadError>
 
 // What a script is read from: its version, and the lines behind the line `version 2`, where there is one, with the
 // number of the first of them.
-#[derive(Clone, Copy, Debug)]
+#[derive(Clone, Copy)]
 struct Body<'a> {
     version: u8,
     number: u32,

@@ -23,7 +23,6 @@ use std::sync::Arc;
 /// Sets and clients have numbers from 0, as they are declared. A client's commands are its own among all, in order.
 /// A copy shares its declarations and its commands with the script that it was made of, each until one of the two adds
 /// to them.
-#[derive(Debug, Drop)]
 pub struct Script {
     version: u8,
     nodes: u8,
@@ -42,6 +41,20 @@ impl Model for Script {
     ghost view = { script_data };
 
     ghost invariant = { λ s. IsScript (script_data s) };
+}
+
+// Written out, so that all places which let a script go call this.
+impl Drop for Script {
+    fn drop(self) {
+        let Script {
+            version: _,
+            nodes: _,
+            parts,
+            commands,
+        } = self;
+        drop(parts);
+        drop(commands);
+    }
 }
 
 impl Script {

@@ -5,12 +5,11 @@ ghost use Rattle.lt_script.specs.Index.{hash_of};
 ghost use Rattle.lt_script.specs.Families.{ComesNext, linked_to};
 
 use crate::declarations::SetDecl;
-use crate::index::Index;
+use crate::index::{Index, reserve_both};
 use std::alloc::{AllocError, Global};
 use std::marker::Model;
 
 /// The sets of a script, found by their names. Those of a family are chained, each to the next one.
-#[derive(Debug, Drop)]
 pub(crate) struct DeclaredSets {
     index: Index<SetDecl>,
     // For each family one more than its last set; 0 for the number of a set that isn't the first of its family.
@@ -29,6 +28,20 @@ impl Model for DeclaredSets {
     ghost view = { λ s. s.index };
 
     ghost invariant = { λ s. AreChained (family_at s.index) (length s.index) s.lasts.items s.nexts.items };
+}
+
+// Written out, so that all places which let the sets go call this.
+impl Drop for DeclaredSets {
+    fn drop(self) {
+        let DeclaredSets {
+            index,
+            lasts,
+            nexts,
+        } = self;
+        drop(index);
+        drop(lasts);
+        drop(nexts);
+    }
 }
 
 impl DeclaredSets {
@@ -84,9 +97,7 @@ impl DeclaredSets {
         ensures { self.new ≡ self.old }
     {
         self.index.reserve(more)?;
-        self.lasts.reserve(more as usize)?;
-        self.nexts.reserve(more as usize)?;
-        Ok(())
+        reserve_both(&mut self.lasts, &mut self.nexts, more as usize)
     }
 
     /// Adds a last set, whose name has this hash.
@@ -99,8 +110,7 @@ impl DeclaredSets {
         ensures unchanged { OnErr result (self.new ≡ self.old) }
     {
         let family = set.family() as usize;
-        self.lasts.reserve(1)?;
-        self.nexts.reserve(1)?;
+        reserve_both(&mut self.lasts, &mut self.nexts, 1)?;
         self.index.push(set, hash)?;
         self.lasts.push_reserved(0);
         self.nexts.push_reserved(0);

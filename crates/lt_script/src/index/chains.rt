@@ -1,5 +1,6 @@
 // How the items of an index are chained by the spots of their names.
-ghost use Rattle.std.specs.Prelude.{◌≡◌, ◌<◌, ◌≤◌, ◌^◌, ◌-◌, length, position, replicate, bit_and, IfOk, IfSome};
+ghost use Rattle.std.specs.Prelude.{◌≡◌, ◌<◌, ◌≤◌, ◌+◌, ◌^◌, ◌-◌, ◌++◌, ◌∷◌, [], length, position, replicate, slice_index, slice_set, bit_and, IfOk, IfSome};
+ghost use Rattle.std.specs.Vec.{vec_len, vec_capacity};
 ghost use Rattle.std.specs.Str.{bytes_eq};
 ghost use Rattle.lt_script.specs.Index.{hash_of, spot_at, AreLinked, IsIndex};
 
@@ -70,6 +71,22 @@ pub(super) fn linked<T: Named>(items: &[T], lasts: &mut [u32], befores: &mut [u3
         befores[place] = lasts[spot];
         lasts[spot] = place as u32 + 1;
     }
+}
+
+/// Links a last place, whose name has this hash, to the place before it that has its spot, and the spot to it.
+pub(super) fn link_last(lasts: &mut Vec<u32>, befores: &mut Vec<u32>, hash: u32)
+    requires some { 0 < length lasts.old.items }
+    requires room { vec_len befores.old < vec_capacity befores.old }
+    requires few { length befores.old.items < 2 ^ 31 }
+    ensures lasts { lasts.new.items ≡ slice_set lasts.old.items (bit_and hash (length lasts.old.items - 1))
+        (length befores.old.items + 1) }
+    ensures befores { befores.new.items
+        ≡ befores.old.items ++ slice_index lasts.old.items (bit_and hash (length lasts.old.items - 1)) ∷ [] }
+{
+    let place = befores.len() as u32;
+    let spot = spot(hash, lasts.len());
+    befores.push_reserved(lasts[spot]);
+    lasts[spot] = place + 1;
 }
 
 /// The items once more.

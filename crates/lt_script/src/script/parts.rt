@@ -10,7 +10,7 @@ use lt_spec::MAX_COMMANDS;
 use std::alloc::{AllocError, Global};
 
 /// What a script and its copies declare: the sets and the clients.
-#[derive(Debug, Drop)]
+#[derive(Drop)]
 pub(crate) struct Parts {
     pub(crate) sets: DeclaredSets,
     pub(crate) clients: Index<ClientDecl>,

@@ -1,20 +1,30 @@
-use Rattle.std.proofs.Common.{◌≡◌, ◌<◌, ◌∙◌, List, Some, slice_get, length, refl, sym, ap, subst, arith}
-use Rattle.std.proofs.lemmas.Option.{slice_get_read}
-use lib.ListN.{get_or}
-use Rattle.lt_modes.specs.Script.{ScriptData, SetData, family_at, family_of_set}
+use Rattle.std.proofs.Common.{◌∙◌, ◌<◌, ◌≤◌, ℕ, List, length, sym, ap, subst}
+use Rattle.lt_modes.specs.Script.{ScriptData, SetData, family_at}
 use Rattle.lt_spec.specs.Script.{IsScript}
+use Rattle.lt_script.proofs.ScriptLemmas.{family_read, none_earlier}
 use Rattle.lt_script.proofs.script.Script.family.Goals as goal
 
+pub bounds-items-set : goal.bounds-items-set
+bounds-items-set c =
+    let sets = c.items.ensures ∙ ap (λ p. p.sets) c.deref.ensures ∙ ap (λ (s : ScriptData). s.sets) c.self.view_is in
+    subst (λ (l : List SetData). c.args.set < length l) (sym sets) c.requires
+
+pub returns-clause-family : goal.returns-clause-family
+returns-clause-family c =
+    let sets = c.items.ensures ∙ ap (λ p. p.sets) c.deref.ensures ∙ ap (λ (s : ScriptData). s.sets) c.self.view_is in
+    family_read c.args.self.now.sets c.items.result.now c.args.set c.family.result c.index-items-set.result sets c.requires c.index-items-set.is c.family.ensures
+
+pub returns-clause-earlier : goal.returns-clause-earlier
+returns-clause-earlier c =
+    let kept : IsScript c.args.self.now = subst IsScript c.self.view_is c.self.invariant in
+    subst (λ (n : ℕ). n ≤ c.args.set) (sym (returns-clause-family c)) (kept.families_not_later c.args.set c.requires)
+
+pub returns-clause-first : goal.returns-clause-first
+returns-clause-first c =
+    let kept : IsScript c.args.self.now = subst IsScript c.self.view_is c.self.invariant in
+    ap (family_at c.args.self.now.sets) (returns-clause-family c) ∙ kept.families_first c.args.set c.requires ∙ sym (returns-clause-family c)
+
 pub returns-clause-none_before : goal.returns-clause-none_before
-returns-clause-none_before c = λ k before same.
-    let script = c.args.self.now in
-    let set = c.args.set in
-    let item : SetData = c.index-items-set.result in
-    let sets : c.items.result.now ≡ script.sets = c.items.ensures ∙ ap (λ p. p.sets) c.deref.ensures ∙ ap (λ (s : ScriptData). s.sets) c.self.view_is in
-    let there : slice_get script.sets set ≡ Some item =
-    slice_get_read script.sets (length script.sets) set item refl c.requires (c.index-items-set.is ∙ ap (λ (sets : List SetData). get_or sets set item) sets) in
-    let family : family_at script.sets set ≡ c.family.result = ap family_of_set there ∙ sym c.family.ensures in
-    let kept : IsScript script = subst IsScript c.self.view_is c.self.invariant in
-    let earlier = kept.families_not_later set c.requires in
-    let inside : k < length script.sets = omega (arith, before, family, earlier, c.requires) in
-    omega (arith, before, same, kept.families_not_later k inside)
+returns-clause-none_before c = λ k before.
+    let kept : IsScript c.args.self.now = subst IsScript c.self.view_is c.self.invariant in
+    none_earlier c.args.self.now c.args.set c.family.result k kept c.requires (returns-clause-earlier c) before
