@@ -1,13 +1,13 @@
 -- What is left where a step leaves places for asks, letters and lines.
-use Rattle.std.proofs.Common.{◌≡◌, ◌∙◌, ℕ, ◌+◌, ◌≤◌, ◌<◌, Bool, true, false, List, [], ◌∷◌, ◌++◌, length, sym, ap, subst, refl, arith, length-append, Option, Some, None, if◌then◌else◌, filter_map, ◌&&◌, ◌==◌, not}
-use Rattle.lt_modes.specs.Modes.{excludes_itself, locks_in}
-use Rattle.lt_modes.specs.State.{Parked, ParkedAsk, ParkedTell, Post, SetState}
+use Rattle.std.proofs.Common.{◌≡◌, ℕ, ◌+◌, ◌≤◌, ◌<◌, Bool, true, false, List, [], ◌∷◌, ◌++◌, length, sym, ap, subst, arith, length-append, Option, Some, None, if◌then◌else◌, filter_map, ◌&&◌, ◌==◌, not}
+use Rattle.lt_modes.specs.Modes.{excludes_itself}
+use Rattle.lt_modes.specs.State.{Parked, ParkedAsk, ParkedTell, Post}
 use Rattle.lt_modes.specs.Fits.{ask_if}
 use Rattle.lt_modes.specs.SetMove.{reversed}
 use Rattle.lt_modes.specs.declared.event.Event.{Event}
 use Rattle.lt_modes.specs.declared.parts.Hoped.{Hoped}
 use Rattle.lt_desk.specs.DeskData.{DeskData, OutData}
-use Rattle.lt_core.specs.CoreData.{CoreData, HasRoom, room_by, desk_seen, epoch_of, freeze_number_of}
+use Rattle.lt_core.specs.CoreData.{CoreData, HasRoom, room_by, desk_seen}
 use Rattle.lt_core.specs.Steps.{ask_count}
 use Rattle.lt_modes.specs.Serving.{queue_of_desk}
 use Rattle.lt_core.proofs.BoundLemmas.{asks_first, count_few}

@@ -70,7 +70,6 @@ impl Core {
     }
 
     /// Whether an ask of the client is parked here behind an older one of the other client.
-    #[tactic(auto, using(crate::proofs::BoundLemmas::behind_step))]
     pub fn parked_behind(&self, other: u16, client: u16) -> bool
         ensures { result ≡ parked_behind self.now.state other client }
     {

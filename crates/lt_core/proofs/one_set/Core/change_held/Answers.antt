@@ -1,5 +1,4 @@
 use Rattle.std.proofs.Common.{◌≡◌, ◌∙◌, ℕ, Bool, true, false, Some, ap, if◌then◌else◌, subst, sym}
-use Rattle.lt_modes.specs.Freezing.{can_grant}
 use Rattle.lt_modes.specs.SetMove.{answers, ask_of, asked, given}
 use Rattle.lt_modes.specs.State.{Made, SetState}
 use Rattle.lt_modes.specs.declared.event.Event.TheVariants as event

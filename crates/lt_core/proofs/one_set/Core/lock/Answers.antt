@@ -1,5 +1,4 @@
 use Rattle.std.proofs.Common.{◌≡◌, ◌∙◌, ℕ, Bool, true, false, None, ap, if◌then◌else◌, subst, sym}
-use Rattle.lt_modes.specs.Freezing.{can_grant}
 use Rattle.lt_modes.specs.SetMove.{ask_of, asked, given, granted}
 use Rattle.lt_modes.specs.State.{Made, SetState}
 use Rattle.lt_modes.specs.declared.event.Event.TheVariants as event

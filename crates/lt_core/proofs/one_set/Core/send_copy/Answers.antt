@@ -1,4 +1,4 @@
-use Rattle.std.proofs.Common.{◌≡◌, ◌∙◌, ℕ, ◌+◌, ◌≤◌, ◌<◌, ◌++◌, [], ◌∷◌, Some, ap, length, map, refl, slice_index_or, subst, sym}
+use Rattle.std.proofs.Common.{◌≡◌, ◌∙◌, ◌+◌, ◌≤◌, ◌<◌, ◌++◌, [], ◌∷◌, Some, ap, length, map, refl, slice_index_or, subst, sym}
 use Rattle.lt_modes.specs.Serving.{ask_at, owed_at, queue_of_desk}
 use Rattle.lt_modes.specs.State.{SetState, CopyBody, no_ask, post_of}
 use Rattle.lt_modes.specs.declared.event.Event.TheVariants as event

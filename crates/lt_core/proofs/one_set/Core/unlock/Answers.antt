@@ -1,6 +1,6 @@
 use Rattle.std.proofs.Common.{◌≡◌, ◌∙◌, ◌==◌, ◌<◌, ◌≤◌, ◌+◌, ℕ, Bool, true, false, ap, arith, if◌then◌else◌, length, map, refl, subst, sym}
 use Rattle.std.specs.Bool.{OnFalse}
-use Rattle.lt_modes.specs.Modes.{count_of, take_lock, locks_in}
+use Rattle.lt_modes.specs.Modes.{count_of, take_lock}
 use Rattle.lt_modes.specs.SetMove.{answers}
 use Rattle.lt_modes.specs.State.{Made, SetState}
 use Rattle.lt_modes.specs.declared.event.Event.TheVariants as event
@@ -9,7 +9,6 @@ use Rattle.lt_held.specs.HeldData.{HeldData}
 use Rattle.lt_desk.specs.DeskData.{OutData, FitsOut, out_after}
 use Rattle.lt_desk.specs.LetterSeen.{parked_seen}
 use Rattle.lt_core.specs.CoreData.{CoreData, HasRoom, desk_seen}
-use Rattle.lt_core.specs.declared.set_command.Answer.{Answer}
 use Rattle.lt_core.specs.declared.set_command.Answer.TheVariants.{NotHeld, Unlocked}
 use Rattle.lt_core.proofs.CommandLemmas.{room_for_line, line_sent, no_less, room_by_more, room_held, not_false, not_true}
 use Rattle.lt_core.proofs.one_set.Core.unlock.Goals as goal

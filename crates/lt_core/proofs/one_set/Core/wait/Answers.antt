@@ -1,4 +1,4 @@
-use Rattle.std.proofs.Common.{◌≡◌, ◌∙◌, ◌-◌, ◌<◌, ◌++◌, [], ◌∷◌, List, false, length, map, subst, sym, deque_len, deque_capacity}
+use Rattle.std.proofs.Common.{◌≡◌, ◌-◌, ◌<◌, ◌++◌, [], ◌∷◌, List, false, length, map, subst, sym, deque_len, deque_capacity}
 use Rattle.lt_modes.specs.State.{SetState, ParkedAsk}
 use Rattle.lt_modes.specs.SetMove.{ask_of, asked, route}
 use Rattle.lt_modes.specs.declared.ask.Ask.{Ask}
