@@ -1,5 +1,5 @@
 -- Tests of all asks, or of some, from a place on.
-use Rattle.std.proofs.Common.{◌≡◌, ◌==◌, ◌∙◌, ◌+◌, ◌<◌, ◌++◌, ◌||◌, ◌&&◌, not, ◌≤◌, ℕ, Bool, List, [], ◌∷◌, length, map, drop, refl, sym, ap, subst, true, false, filter_map, slice_index_or}
+use Rattle.std.proofs.Common.{◌≡◌, ◌==◌, ◌∙◌, ◌+◌, ◌<◌, ◌++◌, ◌||◌, ◌&&◌, not, ◌≤◌, ℕ, Bool, List, [], ◌∷◌, length, map, drop, refl, sym, ap, subst, eq-eqb, ne_eqb, find, Some, if◌then◌else◌, ◌≢◌, true, false, filter_map, slice_index_or}
 use Rattle.std.specs.List.{list_all}
 use Rattle.std.proofs.lemmas.List.Folds.{list_any-append}
 use Rattle.lt_modes.specs.declared.ask.Ask.{Ask}
@@ -38,6 +38,21 @@ pub any_goes_on : {X : Type 0} (P : List X → Bool) (test : X → List X → Bo
     → k < length xs → b ≡ test (slice_index_or xs k d) (drop (k + 1) xs) → b ≡ false → P (drop (k + 1) xs) ≡ P (drop k xs)
 any_goes_on P test xs d k b cons h is e =
     sym (ap P (drop_more xs k d h) ∙ (cons (slice_index_or xs k d) (drop (k + 1) xs) ∙ ap (λ t. t || P (drop (k + 1) xs)) (sym is ∙ e)))
+
+-- the first ask of a client
+pub found_here : (client : ℕ) (xs : List Ask) (k : ℕ) (x : Ask) → k < length xs → x ≡ slice_index_or xs k no_ask → x.client ≡ client
+    → Some x ≡ find (λ (ask : Ask). ask.client == client) (drop k xs)
+found_here client xs k x h is e =
+    let rest = find (λ (ask : Ask). ask.client == client) (drop (k + 1) xs) in
+    sym (ap (find (λ (ask : Ask). ask.client == client)) (drop_more xs k no_ask h)
+    ∙ (ap (λ (a : Ask). if a.client == client then Some a else rest) (sym is) ∙ ap (λ (t : Bool). if t then Some x else rest) (eq-eqb x.client client e)))
+
+pub found_later : (client : ℕ) (xs : List Ask) (k : ℕ) (x : Ask) → k < length xs → x ≡ slice_index_or xs k no_ask → x.client ≢ client
+    → find (λ (ask : Ask). ask.client == client) (drop (k + 1) xs) ≡ find (λ (ask : Ask). ask.client == client) (drop k xs)
+found_later client xs k x h is e =
+    let rest = find (λ (ask : Ask). ask.client == client) (drop (k + 1) xs) in
+    sym (ap (find (λ (ask : Ask). ask.client == client)) (drop_more xs k no_ask h)
+    ∙ (ap (λ (a : Ask). if a.client == client then Some a else rest) (sym is) ∙ ap (λ (t : Bool). if t then Some x else rest) (ne_eqb x.client client e)))
 
 -- no item is left
 pub none_left : {X : Type 0} (P : List X → Bool) (xs : List X) (n k : ℕ) → n ≡ length xs → n ≤ k → P [] ≡ P (drop k xs)
