@@ -243,7 +243,7 @@ takes_fit stamp letter s out room =
     (most_move (brought letter.body + 1) letter.set stamp s first (most_arrived stamp letter s))
     (record { posts = omega (arith, room.posts); events = omega (arith, room.events) })
 
--- Which ask a client has, and which asks stand before others, from a place on.
+-- Which ask a client has, and which asks stand before others.
 
 -- a search finds something exactly where something passes
 pub find_some : {X : Type 0} (test : X → Bool) (xs : List X) → is_some (find test xs) ≡ list_any test xs
@@ -258,17 +258,8 @@ pub before_step : (first second : ℕ) (queue : List Ask) (k : ℕ) → k < leng
     ≡ (((slice_index_or queue k no_ask).client == first && has_client second (drop (k + 1) queue)) || is_before first second (drop (k + 1) queue))
 before_step first second queue k h = ap (is_before first second) (drop_more queue k no_ask h)
 
-behind_first : (s : SetState) (other client : ℕ) (item : Parked) (rest : List Parked)
+pub behind_first : (s : SetState) (other client : ℕ) (item : Parked) (rest : List Parked)
     → list_any (λ (ask : Ask). ask.client == client && has_older s other ask) (filter_map ask_if (item ∷ rest))
     ≡ (is_behind_older s other client item || list_any (λ (ask : Ask). ask.client == client && has_older s other ask) (filter_map ask_if rest))
 behind_first s other client (ParkedAsk ask) rest = refl
 behind_first s other client (ParkedTell tell) rest = refl
-
-pub behind_step : (s : SetState) (other client : ℕ) (items : List Parked) (k : ℕ) → k < length items
-    → list_any (λ (ask : Ask). ask.client == client && has_older s other ask) (filter_map ask_if (drop k items))
-    ≡ (is_behind_older s other client (slice_index_or items k (ParkedAsk no_ask))
-    || list_any (λ (ask : Ask). ask.client == client && has_older s other ask) (filter_map ask_if (drop (k + 1) items)))
-behind_step s other client items k h =
-    ap (λ (rest : List Parked). list_any (λ (ask : Ask). ask.client == client && has_older s other ask) (filter_map ask_if rest))
-    (drop_more items k (ParkedAsk no_ask) h)
-    ∙ behind_first s other client (slice_index_or items k (ParkedAsk no_ask)) (drop (k + 1) items)

@@ -2,3 +2,5 @@ pub mod BoundLemmas
 pub mod NoticeLemmas
 pub mod FitsLemmas
 pub mod BoundServices
+pub mod CommandLemmas
+pub mod StepLemmas

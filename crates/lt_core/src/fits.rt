@@ -83,7 +83,6 @@ impl Core {
     }
 
     // Whether the asks of this node, of the desk's queue and of those that are parked here, are unanswered.
-    #[tactic(auto, using(crate::proofs::FitsLemmas::all_step))]
     fn are_known(&self, desk: &Desk) -> bool
         ensures { result ≡ list_all (is_known self.now.node self.now.state) (desk.now.desk.queue ++ parked_asks self.now.state) }
     {
@@ -95,7 +94,6 @@ impl Core {
         self.parked_known()
     }
 
-    #[tactic(auto, using(crate::proofs::FitsLemmas::known_step))]
     fn parked_known(&self) -> bool
         ensures { result ≡ list_all (is_known self.now.node self.now.state) (parked_asks self.now.state) }
     {
@@ -167,7 +165,6 @@ fn tell_fits(clock: u64, tell: &Tell, numbers: &Numbers) -> bool
 }
 
 // Whether the asks of the desk's queue are of clients of their nodes.
-#[tactic(auto, using(crate::proofs::FitsLemmas::all_step))]
 fn are_at_home(desk: &Desk, numbers: &Numbers) -> bool
     ensures { result ≡ list_all (is_at_home (rule_numbers numbers.now)) desk.now.desk.queue }
 {
@@ -180,7 +177,6 @@ fn are_at_home(desk: &Desk, numbers: &Numbers) -> bool
 }
 
 // Whether an ask of the client is in the desk's queue, from this place on.
-#[tactic(auto, using(crate::proofs::FitsLemmas::any_step))]
 pub(crate) fn has_later(desk: &Desk, from: u32, client: u16) -> bool
     ensures { result ≡ has_client client (drop from desk.now.desk.queue) }
 {

@@ -1,7 +1,7 @@
-ghost use Rattle.std.specs.Prelude.{◌≡◌, ◌<◌, is_some, length, slice_index_or};
-ghost use Rattle.lt_modes.specs.Modes.{count_of};
+ghost use Rattle.std.specs.Prelude.{◌≡◌, ◌<◌, ◌==◌, ◌&&◌, is_some, length, slice_index_or};
+ghost use Rattle.lt_modes.specs.Modes.{count_of, excludes_itself};
 ghost use Rattle.lt_modes.specs.State.{no_ask, ParkedAsk};
-ghost use Rattle.lt_modes.specs.Serving.{waits, queue_of, ask_at};
+ghost use Rattle.lt_modes.specs.Serving.{waits, queue_of, ask_at, is_newer};
 ghost use Rattle.lt_modes.specs.Waiting.{pending_ask, is_before, stands_before, has_older, parked_behind};
 ghost use Rattle.lt_core.specs.Behind.{is_behind_older};
 
@@ -31,11 +31,13 @@ impl Core {
     fn first_ask(&self, client: u16) -> Option<Ask>
         ensures { result ≡ pending_ask self.now.state client }
     {
-        self.pending
-            .asks()
-            .iter()
-            .copied()
-            .find(|ask| ask.client == client)
+        let asks = self.pending.asks();
+        for k in 0..asks.len() {
+            if asks[k].client == client {
+                return Some(asks[k]);
+            }
+        }
+        None
     }
 
     /// The length of the queue of the desk here; 0 where the desk is elsewhere.
@@ -70,7 +72,6 @@ impl Core {
     }
 
     /// Whether an ask of the client is parked here behind an older one of the other client.
-    #[tactic(auto, using(crate::proofs::BoundLemmas::behind_step))]
     pub fn parked_behind(&self, other: u16, client: u16) -> bool
         ensures { result ≡ parked_behind self.now.state other client }
     {
@@ -97,10 +98,21 @@ impl Core {
     fn has_older(&self, other: u16, ask: &Ask) -> bool
         ensures { result ≡ has_older self.now.state other ask.now }
     {
-        self.pending.asks().iter().any(|older| {
-            older.client == other && (older.mode.taking() && ask.stamp.is_newer(older.stamp))
-        })
+        let asks = self.pending.asks();
+        for k in 0..asks.len() {
+            if is_older(&asks[k], other, ask) {
+                return true;
+            }
+        }
+        false
     }
+}
+
+// Whether the ask is one of the other client that excludes itself, and older than the second one.
+fn is_older(older: &Ask, other: u16, ask: &Ask) -> bool
+    ensures { result ≡ (older.now.client == other && (excludes_itself older.now.mode && is_newer ask.now.stamp older.now.stamp)) }
+{
+    older.client == other && (older.mode.taking() && ask.stamp.is_newer(older.stamp))
 }
 
 // Whether in the desk's queue an ask of the first client stands before one of the second.

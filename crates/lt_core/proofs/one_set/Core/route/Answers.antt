@@ -1,10 +1,74 @@
-use Rattle.std.proofs.Common.{◌≡◌, ◌∙◌, [], ◌∷◌, ◌++◌, map, ap, arith, refl}
+use Rattle.std.proofs.Common.{◌≡◌, ◌∙◌, ◌+◌, ◌-◌, ◌≤◌, [], ◌∷◌, ◌++◌, map, ap, arith, refl, subst, sym, Some, deque_len, deque_capacity}
 use Rattle.std.proofs.lemmas.List.{map-append}
-use Rattle.lt_modes.specs.State.{SetState}
+use Rattle.lt_modes.specs.State.{SetState, Made}
+use Rattle.lt_modes.specs.SetMove.{dealt, route, route_by}
+use Rattle.lt_desk.specs.DeskData.{out_after}
 use Rattle.lt_desk.specs.LetterSeen.{parked_seen}
-use Rattle.lt_core.specs.CoreData.{desk_seen}
-use Rattle.lt_core.proofs.NoticeLemmas.{room_less, room_parked}
+use Rattle.lt_core.specs.CoreData.{CoreData, HasRoom, desk_seen, room_by, tells_by, waiting_here}
+use Rattle.lt_core.proofs.NoticeLemmas.{room_less, room_parked, out_silent}
+use Rattle.lt_core.proofs.StepLemmas.{place_left, room_dealt}
 use Rattle.lt_core.proofs.one_set.Core.route.Goals as goal
+
+pub deal-requires : goal.deal-requires
+deal-requires c =
+    let before = c.self.inside in
+    record {
+      room = place_left before.desk c.in-Some.desk before.held.spare (map parked_seen before.parked.items) (parked_seen c.args.item) c.in-Some.is
+          (subst (λ (k : CoreData). waiting_here k.state + 1 ≤ k.room) (sym c.self.view_is) c.requires.rows);
+    }
+
+pub returns-in-Some-clause-does : goal.returns-in-Some-clause-does
+returns-in-Some-clause-does c =
+    let before = c.self.inside in
+    let item = parked_seen c.args.item in
+    let out = c.args.out.now in
+    let s : SetState = record {
+      held = before.held.rows;
+      charge = before.charge;
+      frozen = before.frozen;
+      number = before.number;
+      firm = before.links.firm;
+      hoped = before.links.hoped;
+      pending = before.pending;
+      parked = map parked_seen before.parked.items;
+      desk = desk_seen before.desk;
+    } in
+    let here : s.desk ≡ Some c.in-Some.desk.desk = ap desk_seen c.in-Some.is in
+    let after = record s { desk = Some (dealt c.in-Some.desk.desk item) } in
+    let whole = λ (k : CoreData). route k.set c.args.stamp c.args.by_hoped item k.state in
+    let same = sym (ap (route_by before.set c.args.stamp c.args.by_hoped item s) here) in
+    record {
+      node = ap (λ (k : CoreData). k.node) c.self.view_is;
+      set = ap (λ (k : CoreData). k.set) c.self.view_is;
+      state = (λ i. record s { desk = Some (c.deal.ensures.desk i) }) ∙ ap (λ (made : Made). made.state) same ∙ ap (λ (k : CoreData). (whole k).state) c.self.view_is;
+      sent = sym (out_silent after out) ∙ ap (λ (made : Made). out_after made out) same ∙ ap (λ (k : CoreData). out_after (whole k) out) c.self.view_is;
+    }
+
+pub returns-in-Some-clause-room : goal.returns-in-Some-clause-room
+returns-in-Some-clause-room c = λ k clock room.
+    let before = c.self.inside in
+    let left = c.deal.ensures in
+    let seen : CoreData = record {
+      node = before.links.me;
+      set = before.set;
+      state = record {
+        held = before.held.rows;
+        charge = before.charge;
+        frozen = before.frozen;
+        number = before.number;
+        firm = before.links.firm;
+        hoped = before.links.hoped;
+        pending = before.pending;
+        parked = map parked_seen before.parked.items;
+        desk = desk_seen before.desk;
+      };
+      room = room_by before.desk before.held.spare;
+      row_room = before.held.spare;
+      parked_room = deque_capacity before.parked - deque_len before.parked;
+      tell_room = tells_by before.spare;
+    } in
+    room_dealt k clock seen before.desk c.in-Some.desk c.deal.new.desk before.held.spare (parked_seen c.args.item) (subst (HasRoom (k + 1) clock) (sym c.self.view_is) room)
+    c.in-Some.is left.queue left.numbers left.room left.spare
 
 pub returns-in-Park-clause-room : goal.returns-in-Park-clause-room
 returns-in-Park-clause-room c =
