@@ -1,9 +1,9 @@
 -- A node at the start.
-use Rattle.std.proofs.Common.{◌≡◌, ◌+◌, ◌-◌, ◌<◌, ◌==◌, ◌++◌, ℕ, List, [], ◌∷◌, length, map, take, arith, refl, sym, ap, subst, ◌∙◌, slice_index_or, if◌then◌else◌, inl, inr, ◌≢◌, Some, None, Bool, true, false, zero, suc, slice_get, slice_set, append-nil, take_all, eq-eqb, ne_eqb, get_or-set_same, get_or-set_other, length-set, filter_map}
+use Rattle.std.proofs.Common.{◌≡◌, ◌+◌, ◌-◌, ◌<◌, ◌≤◌, ◌==◌, ◌++◌, ℕ, List, [], ◌∷◌, length, map, take, arith, refl, sym, ap, subst, ◌∙◌, slice_index_or, if◌then◌else◌, inl, inr, ◌≢◌, Some, None, Bool, true, false, zero, suc, slice_get, slice_set, append-nil, take_all, eq-eqb, ne_eqb, get_or-set_same, get_or-set_other, length-set, filter_map}
 use Rattle.std.proofs.Math.Path.{fun_ext}
 use Rattle.std.proofs.lemmas.Bool.{cases_eq, cases_lt, cases_Bool}
 use Rattle.std.proofs.lemmas.Option.{slice_get-get_or}
-use Rattle.std.proofs.lemmas.List.{take_more, map-append, length-map, get_or_default, get_or_past}
+use Rattle.std.proofs.lemmas.List.{length-take, take_more, map-append, length-map, get_or_default, get_or_past}
 use Rattle.std.proofs.Math.ListN.{get_or-append, get_or-map as map_read}
 use Rattle.std.proofs.Math.Seq.{get_or-append_right}
 use Rattle.std.specs.List.{cons_option}
@@ -35,6 +35,12 @@ idle_more clients more client k is new idle =
     none : (j : ℕ) → progress_of (no_progress ∷ []) j ≡ no_progress
     none zero = refl
     none (suc j) = refl
+
+-- the homes of the first k clients are no more than k
+pub homes_met : (clients : List ClientData) (k : ℕ) (homes : List ℕ) → homes ≡ map (λ (client : ClientData). client.node) (take k clients) → length homes ≤ k
+homes_met clients k homes so =
+    let node : ClientData → ℕ = λ client. client.node in
+    omega (arith, ap (λ (l : List ℕ). length l) so, length-map (take k clients) node, length-take k clients)
 
 pub home_more : (clients : List ClientData) (k home : ℕ) (homes : List ℕ) → k < length clients → home ≡ home_at clients k → homes ≡ map (λ (client : ClientData). client.node) (take k clients)
     → homes ++ home ∷ [] ≡ map (λ (client : ClientData). client.node) (take (k + 1) clients)

@@ -1,10 +1,11 @@
 -- A letter that fits brings few asks, and so there is room for what it says.
-use Rattle.std.proofs.Common.{◌≡◌, ◌+◌, ◌≤◌, ◌<◌, ◌==◌, ◌++◌, ◌&&◌, ◌||◌, ◌^◌, Bool, true, false, ℕ, zero, suc, List, [], ◌∷◌, length, nat_lt, nat_le, refl, sym, arith, if◌then◌else◌, slice_index_or, slice_set, ap, subst, ◌∙◌, not, is_none, slice_index, leb-true, ltb-true, eq-eqb, ne_eqb}
+use Rattle.std.proofs.Common.{Result, Ok, Err, OnOk, ◌≡◌, ◌+◌, ◌≤◌, ◌<◌, ◌==◌, ◌++◌, ◌&&◌, ◌||◌, ◌^◌, Bool, true, false, ℕ, zero, suc, List, [], ◌∷◌, length, nat_lt, nat_le, refl, sym, arith, if◌then◌else◌, slice_index_or, slice_set, ap, subst, ◌∙◌, not, is_none, slice_index, leb-true, ltb-true, eq-eqb, ne_eqb}
 use Rattle.std.specs.List.{list_all}
 use Rattle.std.proofs.lemmas.Bool.{and_parts, not-true}
 use Rattle.std.proofs.lemmas.List.{length-map}
 use Rattle.lt_modes.specs.declared.ask.Ask.{Ask}
-use Rattle.lt_modes.specs.State.{SetState, Desk, Made}
+use Rattle.lt_modes.specs.State.{SetState, Desk, Made, Post}
+use Rattle.lt_modes.specs.declared.event.Event.{Event}
 use Rattle.lt_modes.specs.Fits.{Numbers, fits, head_fits, body_fits, token_fits, queue_fits, are_apart, has_client, is_at_home, parked_asks, numbers_of}
 use Rattle.lt_modes.specs.declared.stamp.Stamp.{Stamp}
 use Rattle.lt_modes.specs.Script.{ClientData}
@@ -17,9 +18,10 @@ use Rattle.lt_desk.specs.declared.letter.Body.{Body}
 use Rattle.lt_desk.specs.declared.letter.Body.TheVariants as bodies
 use Rattle.lt_desk.specs.LetterSeen.{body_seen, letter_seen, asks_in, RoomIn}
 use Rattle.lt_desk.specs.DeskData.{OutData, FitsOut}
+use Rattle.lt_core.specs.Bound.{brought}
 use Rattle.lt_core.specs.CoreData.{CoreData, HasMemory, RoomForBody, waiting_here, HasRoom}
 use Rattle.lt_core.proofs.BoundLemmas.{takes_fit}
-use Rattle.lt_node.specs.NodeData.{NodeData, NodeDoes, IsNode, state_of, core_at, RoomToTake}
+use Rattle.lt_node.specs.NodeData.{NodeData, NodeDoes, IsNode, RoomForLetter, state_of, core_at, most_sent, RoomToTake}
 use Rattle.lt_node.specs.Sets.{AreSetsOf, SetDoes, SetsData, core_in}
 use Rattle.lt_node.specs.Touched.{leaves_room_to_take}
 use Rattle.lt_node.proofs.CountLemmas.{count_most}
@@ -185,3 +187,21 @@ take_does m n sets new letter stamp had out same cores of inside stamped does =
     subst (λ (n : NodeData). stamp ≡ take_stamp n.me (state_of n) L → NodeDoes (node_take n.me L (state_of n)) n had (record m { clock = stamp.clock; cores = new.cores }) out) same
     (λ is. subst (λ (s : Stamp). NodeDoes (touched (at_clock s.clock (state_of m)) letter.set (take s L (core_at m letter.set).state)) m had (record m { clock = stamp.clock; cores = new.cores }) out) is here)
     stamped
+
+-- with room for what it sends there is room for it
+pub room_for : {T E : Type 0} (r : Result T E) (sets : SetsData) (s : ℕ) (letter : Letter) (sent : ℕ) (had out : OutData) → letter.set ≡ s → HasMemory (asks_in letter.body) (core_in sets s)
+    → RoomIn (waiting_here (core_in sets s).state + asks_in letter.body + 2) letter.body → sent ≡ most_sent (core_in sets s) + brought (body_seen letter.body)
+    → out.posts ≡ had.posts → out.events ≡ had.events → OnOk r (length had.posts + sent ≤ out.post_room) → OnOk r (length had.events + sent ≤ out.event_room)
+    → OnOk r (RoomForLetter (core_in sets letter.set) letter out)
+room_for (Err e) sets s letter sent had out at memory desk is posts events letters lines = record {}
+room_for (Ok x) sets s letter sent had out at memory desk is posts events letters lines =
+    subst (λ (k : ℕ). RoomForLetter (core_in sets k) letter out) (sym at) (record {
+      memory = memory;
+      desk = desk;
+      send = record {
+        posts = subst (λ (l : List Post). length l + (most_sent (core_in sets s) + brought (body_seen letter.body)) ≤ out.post_room) (sym posts)
+            (subst (λ (n : ℕ). length had.posts + n ≤ out.post_room) is letters);
+        events = subst (λ (l : List Event). length l + (most_sent (core_in sets s) + brought (body_seen letter.body)) ≤ out.event_room) (sym events)
+            (subst (λ (n : ℕ). length had.events + n ≤ out.event_room) is lines);
+      };
+    })

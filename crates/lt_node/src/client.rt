@@ -1,4 +1,4 @@
-ghost use Rattle.std.specs.Prelude.{◌≡◌, ◌<◌, ◌+◌, ◌==◌, ◌^◌, [], ℕ, length, nat_lt, IfOk, OnOk, slice_index_or, if◌then◌else◌};
+ghost use Rattle.std.specs.Prelude.{◌≡◌, ◌<◌, ◌+◌, ◌==◌, ◌^◌, ◌++◌, ◌∷◌, [], ℕ, length, nat_lt, IfOk, OnOk, slice_index_or, if◌then◌else◌};
 ghost use Rattle.lt_spec.specs.Script.{IsScript};
 ghost use Rattle.lt_spec.specs.NodeMove.{commands_of, home};
 ghost use Rattle.lt_node.specs.Clients.{HaveFirst, homes_in, with_own_request, progress_of, no_progress, next_of, one_command_more, with_command};
@@ -139,9 +139,22 @@ fn idle_clients(alloc: Global, script: &Script, node: u8) -> Result<Vec<Client>,
     for client in 0..count {
         let own = script.home(client) == node;
         let room = if own { part } else { 0 };
-        clients.push(Client::with_room(alloc, room as usize)?)?;
+        push_idle(alloc, &mut clients, room as usize)?;
     }
     Ok(clients)
+}
+
+/// One more client, with no command, and room for so many.
+pub(crate) fn push_idle(
+    alloc: Global,
+    clients: &mut Vec<Client>,
+    room: usize,
+) -> Result<(), AllocError>
+    ensures { OnOk result (clients.new.items ≡ clients.old.items ++ no_progress ∷ []) }
+{
+    let client = Client::with_room(alloc, room)?;
+    clients.push(client)?;
+    Ok(())
 }
 
 // The clients of the node get their commands, in order.
@@ -191,7 +204,7 @@ pub(crate) fn homes_of(alloc: Global, script: &Script) -> Result<Vec<u8>, AllocE
 {
     let mut homes = Vec::with_capacity(alloc, usize::from(script.clients()))?;
     for client in 0..script.clients() {
-        homes.push(script.home(client))?;
+        homes.push_reserved(script.home(client));
     }
     Ok(homes)
 }

@@ -3,7 +3,7 @@ ghost use Rattle.std.specs.Prelude.{◌≡◌, ◌<◌, ◌+◌, ◌==◌, ℕ, 
 ghost use Rattle.lt_spec.specs.NodeMove.{home};
 ghost use Rattle.lt_node.specs.Clients.{HaveAmong, HaveFrom, ListsFrom, AreAtStart, with_request_at, progress_of, no_progress};
 
-use crate::client::{Client, homes_of};
+use crate::client::{Client, homes_of, push_idle};
 use lt_modes::Command;
 use lt_script::Script;
 use std::alloc::{AllocError, Global};
@@ -73,7 +73,7 @@ fn empty_lists(alloc: Global, script: &Script) -> Result<Vec<Client>, AllocError
     let part = script.commands() / u64::from(count.max(1));
     let mut lists = Vec::with_capacity(alloc, usize::from(count))?;
     for _client in 0..count {
-        lists.push(Client::with_room(alloc, part as usize)?)?;
+        push_idle(alloc, &mut lists, part as usize)?;
     }
     Ok(lists)
 }

@@ -73,8 +73,7 @@ impl LongScript {
             (self.new ≡ record self.old { whole = with_request self.old.whole client command }) }
         ensures same { OnErr result (self.new ≡ self.old) }
     {
-        self.kept.add_command(client, command)?;
-        Ok(())
+        self.kept.add_command(client, command)
     }
 
     /// Forgets all commands so far.

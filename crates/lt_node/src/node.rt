@@ -136,10 +136,10 @@ impl Node {
         ensures state { IfOk result (λ made. state_of made ≡ (start script.now).node node) }
     {
         let own = own_of(alloc, script, node)?;
+        let kept = script.copy(alloc)?;
         let sets = Sets::new(alloc, script, node)?;
-        let script = LongScript::of(script.copy(alloc)?);
         Ok(Node {
-            script,
+            script: LongScript::of(kept),
             me: node,
             clock: 0,
             homes,

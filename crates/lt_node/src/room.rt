@@ -125,9 +125,18 @@ fn reserve_for(sets: &mut Sets, letter: &mut Letter, out: &mut Out) -> Result<()
 {
     let set = letter.set;
     sets.reserve_for(set, letter)?;
-    let sent = sets.core(set).most_sent() + 2 + brought(&letter.body);
-    out.reserve(sent, sent)?;
-    Ok(())
+    let sent = sent_for(sets, set, &letter.body);
+    out.reserve(sent, sent)
+}
+
+// How many letters, and event lines, the set may send when it takes a letter with this body.
+fn sent_for(sets: &Sets, set: u32, body: &Body) -> u32
+    requires set { set < length sets.now.cores }
+    requires few { HasFewAsks (core_in sets.now set) }
+    requires asks { asks_in body.now ≤ 256 }
+    ensures { result ≡ most_sent (core_in sets.now set) + brought (body_seen body.now) }
+{
+    sets.core(set).most_sent() + 2 + brought(body)
 }
 
 // How many asks and nodes come with what the letter says.

@@ -58,9 +58,9 @@ impl Sets {
     {
         let nodes = script.nodes();
         let clients = script.clients();
-        let first = Core::new(alloc, nodes, clients, node, 0)?;
         let places = zeros(alloc, script.sets() as usize)?;
         let waiting = zeros(alloc, usize::from(clients))?;
+        let first = Core::new(alloc, nodes, clients, node, 0)?;
         Ok(Sets {
             nodes,
             clients,

@@ -1,40 +1,47 @@
-use Rattle.std.proofs.Common.{IsOk, ap, arith, subst}
-use Rattle.std.proofs.lemmas.Bool.{false≢true}
-use Rattle.lt_core.specs.Bound.{most}
-use Rattle.lt_core.specs.CoreData.{waiting_here}
+use Rattle.std.proofs.Common.{◌≡◌, ◌+◌, ◌≤◌, ◌<◌, ◌∙◌, ℕ, length, subst, sym, ap}
+use Rattle.lt_node.proofs.StoredLemmas.{same_count}
+use Rattle.lt_desk.specs.LetterSeen.{body_seen}
+use Rattle.lt_core.specs.Bound.{brought}
+use Rattle.lt_node.specs.NodeData.{most_sent}
+use Rattle.lt_node.specs.Sets.{core_in}
+use Rattle.lt_modes.specs.State.{Letter}
 use Rattle.lt_node.proofs.RoomLemmas.{few_still, same_asks, letter_sent}
+use Rattle.lt_node.proofs.TokenLemmas.{room_for}
 use Rattle.lt_node.proofs.room.reserve_for.Goals as goal
 
-pub most_sent-requires : goal.most_sent-requires
-most_sent-requires c =
-    let few = few_still c.args.sets.now c.reserve_for.new.self c.args.letter.now.set c.in_ok-reserve_for.ensures.same c.requires.few in
-    omega (arith, few, ap waiting_here c.core.ensures.state)
+pub sent_for-sent-requires-clause-set : goal.sent_for-sent-requires-clause-set
+sent_for-sent-requires-clause-set c =
+    subst (λ (n : ℕ). c.args.letter.now.set < n) (sym (same_count c.args.sets.now c.reserve_for.new.self c.in_ok-reserve_for.ensures.same)) c.requires.set
 
-pub overflow_add-sent : goal.overflow_add-sent
-overflow_add-sent c =
-    let few = few_still c.args.sets.now c.reserve_for.new.self c.args.letter.now.set c.in_ok-reserve_for.ensures.same c.requires.few in
-    omega (arith, few, ap waiting_here c.core.ensures.state, c.most_sent.ensures.within)
+pub sent_for-sent-requires-clause-few : goal.sent_for-sent-requires-clause-few
+sent_for-sent-requires-clause-few c = few_still c.args.sets.now c.reserve_for.new.self c.args.letter.now.set c.in_ok-reserve_for.ensures.same c.requires.few
 
-pub overflow_add-sent-2 : goal.overflow_add-sent-2
-overflow_add-sent-2 c =
-    let few = few_still c.args.sets.now c.reserve_for.new.self c.args.letter.now.set c.in_ok-reserve_for.ensures.same c.requires.few in
-    let asks = same_asks c.args.letter.now c.reserve_for.new.letter c.in_ok-reserve_for.ensures.letter in
-    omega (arith, few, ap waiting_here c.core.ensures.state, c.most_sent.ensures.within, asks, c.requires.asks, c.brought.ensures.within)
+pub sent_for-sent-requires-clause-asks : goal.sent_for-sent-requires-clause-asks
+sent_for-sent-requires-clause-asks c =
+    subst (λ (n : ℕ). n ≤ 256) (sym (same_asks c.args.letter.now c.reserve_for.new.letter c.in_ok-reserve_for.ensures.letter)) c.requires.asks
 
-pub returns-in_err-reserve-clause-full : goal.returns-in_err-reserve-clause-full
-returns-in_err-reserve-clause-full c = λ room.
-    let sent = letter_sent c.args.sets.now c.reserve_for.new.self c.args.letter.now.set c.args.letter.now c.reserve_for.new.letter c.in_ok-reserve_for.ensures.same c.in_ok-reserve_for.ensures.letter in
-    let most = ap most c.core.ensures.state in
-    absurd (false≢true (subst (λ r. IsOk r) c.in_err-reserve.was (c.reserve.ensures.full (omega (arith, sent, most, c.most_sent.ensures.most, c.brought.ensures.brought, room.send.posts)) (omega (arith, sent, most, c.most_sent.ensures.most, c.brought.ensures.brought, room.send.events)))))
+pub returns-clause-out : goal.returns-clause-out
+returns-clause-out c = (c.reserve.ensures.posts, c.reserve.ensures.events)
 
-pub returns-in_err-reserve-clause-same : goal.returns-in_err-reserve-clause-same
-returns-in_err-reserve-clause-same c = λ room.
-    let sent = letter_sent c.args.sets.now c.reserve_for.new.self c.args.letter.now.set c.args.letter.now c.reserve_for.new.letter c.in_ok-reserve_for.ensures.same c.in_ok-reserve_for.ensures.letter in
-    let most = ap most c.core.ensures.state in
-    c.reserve.ensures.same (omega (arith, sent, most, c.most_sent.ensures.most, c.brought.ensures.brought, room.send.posts)) (omega (arith, sent, most, c.most_sent.ensures.most, c.brought.ensures.brought, room.send.events))
+pub returns-clause-room : goal.returns-clause-room
+returns-clause-room c =
+    room_for c.reserve.result c.reserve_for.new.self c.args.letter.now.set c.reserve_for.new.letter c.sent_for-sent.result c.args.out.now c.reserve.new.self
+    (ap (λ (l : Letter). l.set) c.in_ok-reserve_for.ensures.letter) c.in_ok-reserve_for.ensures.room c.in_ok-reserve_for.ensures.desk c.sent_for-sent.ensures
+    c.reserve.ensures.posts c.reserve.ensures.events c.reserve.ensures.post_room c.reserve.ensures.event_room
+
+-- as much may be sent as before
+pub returns-clause-full : goal.returns-clause-full
+returns-clause-full c = λ room.
+    let sent : c.sent_for-sent.result ≡ most_sent (core_in c.args.sets.now c.args.letter.now.set) + brought (body_seen c.args.letter.now.body) =
+    c.sent_for-sent.ensures ∙ letter_sent c.args.sets.now c.reserve_for.new.self c.args.letter.now.set c.args.letter.now c.reserve_for.new.letter c.in_ok-reserve_for.ensures.same c.in_ok-reserve_for.ensures.letter in
+    c.reserve.ensures.full
+    (subst (λ (n : ℕ). length c.args.out.now.posts + n ≤ c.args.out.now.post_room) (sym sent) room.send.posts)
+    (subst (λ (n : ℕ). length c.args.out.now.events + n ≤ c.args.out.now.event_room) (sym sent) room.send.events)
 
 pub returns-clause-same : goal.returns-clause-same
 returns-clause-same c = λ room.
-    let sent = letter_sent c.args.sets.now c.reserve_for.new.self c.args.letter.now.set c.args.letter.now c.reserve_for.new.letter c.in_ok-reserve_for.ensures.same c.in_ok-reserve_for.ensures.letter in
-    let most = ap most c.core.ensures.state in
-    c.reserve.ensures.same (omega (arith, sent, most, c.most_sent.ensures.most, c.brought.ensures.brought, room.send.posts)) (omega (arith, sent, most, c.most_sent.ensures.most, c.brought.ensures.brought, room.send.events))
+    let sent : c.sent_for-sent.result ≡ most_sent (core_in c.args.sets.now c.args.letter.now.set) + brought (body_seen c.args.letter.now.body) =
+    c.sent_for-sent.ensures ∙ letter_sent c.args.sets.now c.reserve_for.new.self c.args.letter.now.set c.args.letter.now c.reserve_for.new.letter c.in_ok-reserve_for.ensures.same c.in_ok-reserve_for.ensures.letter in
+    c.reserve.ensures.same
+    (subst (λ (n : ℕ). length c.args.out.now.posts + n ≤ c.args.out.now.post_room) (sym sent) room.send.posts)
+    (subst (λ (n : ℕ). length c.args.out.now.events + n ≤ c.args.out.now.event_room) (sym sent) room.send.events)

@@ -10,7 +10,7 @@ pub invariant_of-result : goal.invariant_of-result
 invariant_of-result c =
     let clients = c.args.clients.items in
     let sets = c.in_ok-sets.sets in
-    rw (c.of-script.ensures ∙ ap (λ (s : ScriptData). let l : LongScriptData = record { whole = s; gone = 0 } in l) c.in_ok-copy.ensures) (
+    rw (c.of.ensures ∙ ap (λ (s : ScriptData). let l : LongScriptData = record { whole = s; gone = 0 } in l) c.in_ok-kept.ensures) (
       node_at_start c.args.script.now c.args.node clients sets c.requires.script c.requires.node c.requires.count c.in_ok-sets.ensures.sets,
       clients_known c.args.script.now c.args.node c.args.homes.items clients c.requires.homes c.requires.each,
       c.in_ok-sets.ensures.sets,
@@ -18,6 +18,6 @@ invariant_of-result c =
     )
 
 pub returns-clause-state : goal.returns-clause-state
-returns-clause-state c = rw (c.of-script.ensures ∙ ap (λ (s : ScriptData). let l : LongScriptData = record { whole = s; gone = 0 } in l) c.in_ok-copy.ensures)
+returns-clause-state c = rw (c.of.ensures ∙ ap (λ (s : ScriptData). let l : LongScriptData = record { whole = s; gone = 0 } in l) c.in_ok-kept.ensures)
     (state_at_start c.args.script.now c.args.node c.args.clients.items c.in_ok-sets.sets.cores c.requires.each
     (sets_at_start c.args.script.now c.args.node c.in_ok-sets.sets c.in_ok-sets.ensures.sets c.in_ok-sets.ensures.first))
