@@ -14,7 +14,6 @@ use std::marker::Model;
 /// The sets and transactions that lines declare, and what the other lines order.
 ///
 /// Sets and transactions have numbers from 0, as they are declared.
-#[derive(Drop)]
 pub struct Input {
     sets: Vec<Name>,
     transactions: Names,
@@ -29,6 +28,20 @@ impl Model for Input {
     ghost view = { λ i. record { sets = i.sets.items; transactions = i.transactions; orders = i.orders.items } };
 
     ghost invariant = { λ i. IsInput (record { sets = i.sets.items; transactions = i.transactions; orders = i.orders.items }) };
+}
+
+// Written out, so that all places which let an input go call this.
+impl Drop for Input {
+    fn drop(self) {
+        let Input {
+            sets,
+            transactions,
+            orders,
+        } = self;
+        drop(sets);
+        drop(transactions);
+        drop(orders);
+    }
 }
 
 impl Input {
