@@ -32,7 +32,15 @@ pub fn script(
     add_sets(&mut script)?;
     add_clients(alloc, &mut script, clients)?;
     add_commands(alloc, &mut script, clients, commands, Draws::new(seed))?;
+    keeps(&script);
     Ok(script)
+}
+
+// What a script keeps.
+fn keeps(script: &Script)
+    ensures { IsScript script.now }
+{
+    let _ = script.version();
 }
 
 fn add_sets(script: &mut Script) -> Result<(), AllocError>

@@ -1,14 +1,14 @@
 -- Marks that are added to marks.
-use Rattle.std.proofs.Common.{◌≡◌, ◌<◌, ◌+◌, ◌∙◌, ◌==◌, ◌&&◌, ◌||◌, ℕ, suc, Bool, true, false, List, [], ◌∷◌, length, drop, refl, sym, ap, arith, slice_index_or}
+use Rattle.std.proofs.Common.{◌≡◌, ◌<◌, ◌+◌, ◌∙◌, ◌==◌, ◌&&◌, ◌||◌, ℕ, Bool, true, false, List, [], ◌∷◌, length, drop, refl, sym, ap, arith, slice_index_or}
 use Rattle.std.proofs.Math.Bool.{or_assoc, or_comm, or-false}
 use Rattle.std.proofs.Math.Seq.{drop-length}
+use Rattle.std.proofs.lemmas.List.{drop_more}
 use Rattle.std.specs.List.{list_any}
 use Rattle.lt_modes.specs.declared.ask.Ask.{Ask}
 use Rattle.lt_modes.specs.Fits.{has_client, parked_asks}
 use Rattle.lt_modes.specs.State.{SetState, no_ask}
 use Rattle.lt_modes.specs.Waiting.{is_before, has_older, parked_behind}
 use Rattle.lt_core.proofs.BoundLemmas.{before_step}
-use Rattle.lt_core.proofs.FitsLemmas.{any_step}
 use Rattle.lt_node.specs.Marks.{AreAdded}
 
 pub added_none : (test : ℕ → Bool) (old : List Bool) → ((k : ℕ) → test k ≡ false) → AreAdded test old old
@@ -58,10 +58,7 @@ pub later_more : (client k : ℕ) (later : Bool) (queue : List Ask) → k < leng
 later_more client k later queue inside is =
     or_comm later ((slice_index_or queue k no_ask).client == client)
     ∙ ap (λ (b : Bool). (slice_index_or queue k no_ask).client == client || b) is
-    ∙ sym (any_step client queue k inside ∙ ap (λ (n : ℕ). (slice_index_or queue k no_ask).client == client || has_client client (drop n queue)) next)
-  where
-    next : suc k ≡ k + 1
-    next = omega arith
+    ∙ sym (ap (λ (asks : List Ask). has_client client asks) (drop_more queue k no_ask inside))
 
 -- nobody who has no parked ask is parked behind others
 pub parked_none : (s : SetState) (client other : ℕ) → has_client client (parked_asks s) ≡ false → parked_behind s other client ≡ false
