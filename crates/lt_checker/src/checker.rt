@@ -1,7 +1,7 @@
 ghost use Rattle.std.specs.Prelude.{◌≡◌, ◌≢◌, [], ◌∷◌, ◌++◌, ◌≤◌, ℕ, List, length, take, ◌↔◌, Some, None, Ok, Err, is_some, IsTrue, IsNone, IsErr, IfOk, IfSome, OnOk, OnErr};
 ghost use Rattle.lt_text.specs.Text.{lines, without_return, is_line_end, HasNone};
 ghost use Rattle.lt_modes.specs.Script.{ScriptData};
-ghost use Rattle.lt_spec.specs.Script.{IsShort};
+ghost use Rattle.lt_spec.specs.Script.{IsScript, IsShort};
 ghost use Rattle.lt_law_journals.specs.Checking.{Reader as AnyReader, checked, read_on, Feed, new_feed, fed_piece, last_ended, ended};
 ghost use Rattle.lt_checker.specs.Checker.{AreGoodToLast, CheckerData, StandsFor, IsAnswer, IsMemory, MayReadOn, MayReadLast, with_piece, spent, IsWorldAnswer};
 ghost use Rattle.lt_checker.specs.First.{FeedsLine};
@@ -132,6 +132,7 @@ impl Checker {
 // Ends a last line that has no line end.
 fn end_last_line(mut reader: Reader, rest: &mut ArrayVec<u8, 201>) -> Result<Reader, AllocError>
     ensures script { IfOk result (λ after. after.script ≡ reader.script) }
+    ensures kept { IsScript reader.script }
     ensures short { IsShort reader.script }
     ensures ended { IfOk result (λ after. after.reader
         ≡ (last_ended reader.script (record { reader = reader.reader; rest = rest.old.items })).reader) }

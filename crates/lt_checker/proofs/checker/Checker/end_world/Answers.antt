@@ -20,8 +20,7 @@ returns-in_err-end_last_line-clause-memory c = λ refused bytes stands.
     let script = c.args.self.script in
     let rest = c.self.inside.rest.items in
     let feed : Feed = record { reader = c.in-Some.reader.reader; rest = rest } in
-    let is_script : IsScript script =
-    subst IsScript (c.drop-in_err-end_last_line.view_is ∙ ap (λ (v : CheckerData). v.script) c.self.view_is) c.drop-in_err-end_last_line.invariant in
+    let is_script : IsScript script = search rules in
     let short : IsShort script = search rules in
     let kept : Some feed ≡ c.args.self.feed =
     ap (λ (r : Option ReaderData). feed_of r rest) (sym c.in-Some.is) ∙ ap (λ (v : CheckerData). v.feed) c.self.view_is in
