@@ -4,7 +4,7 @@ use Rattle.lt_runner.specs.declared.parts.Parts.{Parts}
 use Rattle.lt_threads.specs.Meeting.{IsCrew}
 use Rattle.lt_live.specs.Stations.{StationData}
 use Rattle.lt_live_serve.specs.Completing.{AreStationsKept}
-use Rattle.lt_live_serve.proofs.Parted.{crew_of, go_together, serving_moved}
+use Rattle.lt_live_serve.proofs.Parted.{crew_of, go_together, serving_moved, moved_on}
 use Rattle.lt_live_serve.proofs.running.run_on.Goals as goal
 
 pub run_crew-requires-clause-crew : goal.run_crew-requires-clause-crew
@@ -22,3 +22,8 @@ returns-clause-serving g c =
     serving_moved c.args.stations.items c.put_together.result.items c.take_apart-runners.result.0.items c.in_ok-runners-2.runners.items
     c.take_apart-runners.result.1.items c.take_apart-runners.ensures c.put_together.ensures c.in_ok-runners-2.ensures.grew c.args.script.now c.args._callers.now
     c.requires.serving
+
+pub returns-clause-moved : goal.returns-clause-moved
+returns-clause-moved g c =
+    moved_on c.args.script.now c.in_ok-runners-2.ending c.args.stations.items c.put_together.result.items c.take_apart-runners.result.0.items
+    c.in_ok-runners-2.runners.items c.take_apart-runners.result.1.items c.take_apart-runners.ensures c.put_together.ensures c.in_ok-runners-2.ensures
