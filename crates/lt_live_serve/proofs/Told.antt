@@ -233,7 +233,7 @@ marked_to c k = map (λ (reply : Reply). (c.session.client, reply)) (take k c.he
 pub first_marked : (c : Caller) (xs : List (ℕ × Reply)) → xs ≡ xs ++ marked_to c 0
 first_marked c xs = sym (append-nil xs)
 
-pub next_marked : (c : Caller) (xs ys : List (ℕ × Reply)) (k : ℕ) (d : Reply) → k < length c.heard.items → ys ≡ xs ++ marked_to c k
+next_marked : (c : Caller) (xs ys : List (ℕ × Reply)) (k : ℕ) (d : Reply) → k < length c.heard.items → ys ≡ xs ++ marked_to c k
     → ys ++ (c.session.client, get_or c.heard.items k d) ∷ [] ≡ xs ++ marked_to c (k + 1)
 next_marked c xs ys k d inside so_far =
     ap (λ (list : List (ℕ × Reply)). list ++ (c.session.client, get_or c.heard.items k d) ∷ []) so_far
@@ -241,6 +241,15 @@ next_marked c xs ys k d inside so_far =
     ∙ ap (λ (list : List (ℕ × Reply)). xs ++ list)
     (sym (ap (map (λ (reply : Reply). (c.session.client, reply))) (take_more c.heard.items k d inside)
     ∙ map-append (λ (reply : Reply). (c.session.client, reply)) (take k c.heard.items) (get_or c.heard.items k d ∷ [])))
+
+-- the next one was pushed
+pub pushed_marked : (c : Caller) (xs ys zs : List (ℕ × Reply)) (k client : ℕ) (reply : Reply) → k < length c.heard.items → client ≡ c.session.client
+    → reply ≡ slice_index_or c.heard.items k reply → ys ≡ xs ++ marked_to c k → zs ≡ ys ++ (client, reply) ∷ [] → zs ≡ xs ++ marked_to c (k + 1)
+pushed_marked c xs ys zs k client reply inside own is so_far added =
+    added
+    ∙ ap (λ (n : ℕ). ys ++ (n, reply) ∷ []) own
+    ∙ ap (λ (r : Reply). ys ++ (c.session.client, r) ∷ []) is
+    ∙ next_marked c xs ys k reply inside so_far
 
 pub all_marked : (c : Caller) (xs : List (ℕ × Reply)) (k : ℕ) → length c.heard.items ≤ k → xs ++ marked_to c k ≡ xs ++ marked c
 all_marked c xs k long = ap (λ (list : List Reply). xs ++ map (λ (reply : Reply). (c.session.client, reply)) list) (take_all k c.heard.items long)

@@ -45,8 +45,9 @@ fn empty_lists(
     alloc: Global,
     count: usize,
 ) -> Result<(Vec<Runner>, Vec<Bench>, Vec<Station>), AllocError>
-    ensures empty { IfOk result (λ lists. (lists.0.items ≡ []) × (lists.1.items ≡ []) × (lists.2.items ≡ [])) }
-    ensures room { IfOk result (λ lists. (count ≤ vec_capacity lists.0) × (count ≤ vec_capacity lists.1) × (count ≤ vec_capacity lists.2)) }
+    ensures runners { IfOk result (λ lists. (lists.0.items ≡ []) × (count ≤ vec_capacity lists.0)) }
+    ensures benches { IfOk result (λ lists. (lists.1.items ≡ []) × (count ≤ vec_capacity lists.1)) }
+    ensures stations { IfOk result (λ lists. (lists.2.items ≡ []) × (count ≤ vec_capacity lists.2)) }
 {
     let runners = Vec::with_capacity(alloc, count)?;
     let benches = Vec::with_capacity(alloc, count)?;
@@ -71,7 +72,6 @@ fn take_apart(
     (runners, benches)
 }
 
-#[tactic(auto, using(crate::proofs::Parted::some_bench, crate::proofs::Parted::first_together))]
 fn put_together(
     mut runners: Vec<Runner>,
     mut benches: Vec<Bench>,

@@ -84,7 +84,6 @@ pub(crate) fn gather(alloc: Global, callers: &[Caller]) -> Result<Vec<(u16, Repl
 }
 
 // Adds what the caller polled.
-#[tactic(auto, using(crate::proofs::Told::first_marked, crate::proofs::Told::next_marked, crate::proofs::Told::all_marked))]
 fn add_heard(polled: &mut Vec<(u16, Reply)>, caller: &Caller) -> Result<(), AllocError>
     ensures { OnOk result (polled.new.items ≡ polled.old.items ++ marked caller.now) }
 {

@@ -1,5 +1,5 @@
 -- The runners are those of before, and what was polled is told of the callers' vector.
-use Rattle.std.proofs.Common.{◌≡◌, List, length, map, subst, sym}
+use Rattle.std.proofs.Common.{◌≡◌, List, length, subst, sym}
 use Rattle.lt_lists.specs.Below.{gather_below}
 use Rattle.lt_runner.specs.declared.parts.Parts.{Parts}
 use Rattle.lt_threads.specs.Meeting.{IsCrew}
