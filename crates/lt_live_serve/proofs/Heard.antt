@@ -87,22 +87,26 @@ module _ (script : ScriptData) (stations : List StationData) (callers : List Cal
       ∙ ap (λ (k : ℕ). map (λ (reply : Reply). (k, reply)) c.heard.items) live.client_is
       ∙ ap (map (λ (reply : Reply). (client, reply))) (heard client c inside here station.runner runner ∙ sym told)
 
-  pub polled_all : gather_below (length callers) (heard_at callers) ≡ all_replies script run
+  polled_all : gather_below (length callers) (heard_at callers) ≡ all_replies script run
   polled_all =
       ap (λ (n : ℕ). gather_below n (heard_at callers)) count
       ∙ gather_same (length script.clients) (heard_at callers) (λ client. map (λ (reply : Reply). (client, reply)) (replies_in client (lines_of run))) replies
 
+-- what was polled
+pub polled_of : (script : ScriptData) (later : List StationData) (callers : List Caller) (polled : List (ℕ × Reply)) (run : List Logged) → IsScript script
+    → AreServing script later callers → HaveHeard script (length callers) (map runner_of later) callers
+    → polled ≡ gather_below (length callers) (heard_at callers) → IsRunOf script (map runner_of later) run → polled ≡ all_replies script run
+polled_of script later callers polled run is_script h heard told made = told ∙ polled_all script later callers run is_script h heard made
+
 -- a live run
-pub live_run : RunsKeepPromises → OrderedFinish → RestIsNoMove → (script : ScriptData) (end : Ending) (before : List Parts) (stations later : List StationData) (callers : List Caller)
-    (polled : List (ℕ × Reply)) (run : List Logged) → IsScript script → MovedOn script end before (map runner_of stations) → map runner_of later ≡ map runner_of stations
-    → AreServing script later callers → HaveHeard script (length callers) (map runner_of later) callers → polled ≡ gather_below (length callers) (heard_at callers)
-    → IsRunOf script (map runner_of later) run → LiveRun end script run polled
-live_run promises finish rest script end before stations later callers polled run is_script moved_then same h heard told made =
-    let moved : MovedOn script end before (map runner_of later) = subst (λ (rs : List Parts). MovedOn script end before rs) (sym same) moved_then in
-    let ran = made_run rest MOVES end script (map runner_of later) made.logs run moved.crew h.limits made.are made.merges moved.ends in
+pub live_run : RunsKeepPromises → OrderedFinish → RestIsNoMove → (script : ScriptData) (end : Ending) (before : List Parts) (stations : List StationData) (callers : List Caller)
+    (polled : List (ℕ × Reply)) (run : List Logged) → IsScript script → MovedOn script end before (map runner_of stations) → AreServing script stations callers
+    → polled ≡ all_replies script run → IsRunOf script (map runner_of stations) run → LiveRun end script run polled
+live_run promises finish rest script end before stations callers polled run is_script moved h told made =
+    let ran = made_run rest MOVES end script (map runner_of stations) made.logs run moved.crew h.limits made.are made.merges moved.ends in
     record {
       ran = ran;
       promised = promises script run (whole script is_script) ran.is_run;
       ordered = not_stuck end script run is_script ran.is_run ran.ends finish;
-      polled_is = told ∙ polled_all script later callers run is_script h heard made;
+      polled_is = told;
     }

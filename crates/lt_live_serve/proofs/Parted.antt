@@ -126,21 +126,19 @@ seats_there stations benches k station b same here there =
     ∙ ap (λ (xs : List (List Seat)). slice_get xs k) (sym same)
     ∙ (slice_get-map seats_of stations k ∙ ap (option_map seats_of) here))
 
+pub same_length : (stations : List StationData) (runners later : List Parts) (benches : List Bench) → AreParts stations runners benches
+    → EachIs Grew runners later → length later ≡ length stations
+same_length stations runners later benches parts grew =
+    each_len Grew runners later grew ∙ sym (ap (λ (rs : List Parts). length rs) parts.runners_are) ∙ length-map stations runner_of
+
 pub go_together : (stations : List StationData) (runners later : List Parts) (benches : List Bench) → AreStationsKept stations → AreParts stations runners benches
     → EachIs Grew runners later → GoTogether later benches
 go_together stations runners later benches kept parts grew = record {
   count =
-      let first = ap (λ (xs : List (List Seat)). length xs) parts.benches_are in
-      let second = ap (λ (xs : List Parts). length xs) parts.runners_are in
-      omega (
-        arith,
-        first,
-        second,
-        length-map stations seats_of,
-        length-map benches seats_on,
-        length-map stations runner_of,
-        each_len Grew runners later grew,
-      );
+      sym (length-map benches seats_on)
+      ∙ sym (ap (λ (xs : List (List Seat)). length xs) parts.benches_are)
+      ∙ length-map stations seats_of
+      ∙ sym (same_length stations runners later benches parts grew);
   each = λ k p b here there.
       let (old, was, grows) = each_before Grew runners later grew k p here in
       let (station, at, is) = mapped_at runner_of stations k old (ap (λ (rs : List Parts). slice_get rs k) parts.runners_are ∙ was) in

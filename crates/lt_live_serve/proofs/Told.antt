@@ -2,7 +2,7 @@
 use Rattle.std.proofs.Common.{◌≡◌, ◌≤◌, ◌+◌, ℕ, false, length, subst, arith, inl, inr, sym, ◌<◌, ◌++◌, zero, suc, List, [], ◌∷◌, map, take, get_or, Some, refl, ap, ◌∙◌, append-nil, take_all, slice_get, slice_set, slice_index_or, option_map, append_assoc}
 use Rattle.std.proofs.lemmas.Bool.{cases_eq}
 use Rattle.std.proofs.Math.Seq.{map-set_same}
-use Rattle.std.proofs.lemmas.List.{map-append, take_more}
+use Rattle.std.proofs.lemmas.List.{length-map, map-append, take_more}
 use Rattle.std.proofs.lemmas.Option.{same_Some, slice_get-get_or, slice_get-map, slice_get_within}
 use Rattle.lt_modes.specs.Script.{ScriptData}
 use Rattle.lt_modes.specs.declared.event.Event.{Event}
@@ -83,14 +83,14 @@ heard_all p s t old new station seated h none =
     moves : h.y.moves ≡ length p.log.entries
     moves = has_told.1
 
--- what a caller polled are first replies of its client
-pub heard_few : (p : Parts) (client : ℕ) (c : Caller) → ServedBy p client c.session → length c.heard.items ≤ length (replies_in client (lines_of p.log.entries))
-heard_few p client c served =
-    omega (
-      arith,
-      first_few (polled c.session) (replies_in client (lines_of p.log.entries)) served.replies,
-      ap (λ (replies : List Reply). length replies) c.hears,
-    )
+-- what was polled are first replies of the client
+pub heard_few : (p q : Parts) (own client : ℕ) (s : Session) (heard : List Reply) → ServedBy p own s → p ≡ q → own ≡ client → polled s ≡ heard
+    → length heard ≤ length (replies_in client (lines_of q.log.entries))
+heard_few p q own client s heard served runner is hears =
+    subst (λ (r : Parts). length heard ≤ length (replies_in client (lines_of r.log.entries))) runner
+    (subst (λ (k : ℕ). length heard ≤ length (replies_in k (lines_of p.log.entries))) is
+    (subst (λ (list : List Reply). length list ≤ length (replies_in own (lines_of p.log.entries))) hears
+    (first_few (polled s) (replies_in own (lines_of p.log.entries)) served.replies)))
 
 -- what a caller and its station do
 
@@ -180,6 +180,11 @@ pub record ToldTo (script : ScriptData) (n : ℕ) (stations : List StationData) 
   pub runners : map runner_of later ≡ map runner_of stations
   pub heard : HaveHeard script n (map runner_of later) after
 
+pub same_number : (script : ScriptData) (stations later : List StationData) (callers after : List Caller) → AreServing script stations callers
+    → AreServing script later after → length after ≡ length callers
+same_number script stations later callers after h g =
+    sym (length-map after session_of) ∙ g.live.count ∙ sym h.live.count ∙ length-map callers session_of
+
 pub none_told : (script : ScriptData) (stations : List StationData) (callers : List Caller) → AreServing script stations callers → ToldTo script 0 stations stations callers
 none_told script stations callers h = record { serving = h; runners = refl; heard = λ client c below. absurd (omega (arith, below)) }
 
@@ -203,12 +208,20 @@ all_told script n stations later after long h client c below e = h.heard client 
 
 -- what all polled
 
-pub gather_next : (callers : List Caller) (k : ℕ) (d : Caller) → k < length callers
+gather_next : (callers : List Caller) (k : ℕ) (d : Caller) → k < length callers
     → gather_below (k + 1) (heard_at callers) ≡ gather_below k (heard_at callers) ++ marked (get_or callers k d)
 gather_next callers k d inside =
     let on : k + 1 ≡ suc k = omega arith in
     ap (λ n. gather_below n (heard_at callers)) on
     ∙ ap (λ (list : List (ℕ × Reply)). gather_below k (heard_at callers) ++ list) (ap marked_by (slice_get-get_or callers k d inside))
+
+pub gather_one : (callers : List Caller) (k : ℕ) (c : Caller) (old new : List (ℕ × Reply)) → k < length callers → c ≡ get_or callers k c
+    → old ≡ gather_below k (heard_at callers) → new ≡ old ++ marked c → new ≡ gather_below (k + 1) (heard_at callers)
+gather_one callers k c old new inside is before added =
+    added
+    ∙ ap (λ (list : List (ℕ × Reply)). list ++ marked c) before
+    ∙ ap (λ (d : Caller). gather_below k (heard_at callers) ++ marked d) is
+    ∙ sym (gather_next callers k c inside)
 
 pub gather_all : (callers : List Caller) (k : ℕ) → k ≤ length callers → length callers ≤ k → gather_below k (heard_at callers) ≡ gather_below (length callers) (heard_at callers)
 gather_all callers k few long = let is : k ≡ length callers = omega (arith, few, long) in ap (λ n. gather_below n (heard_at callers)) is
@@ -220,7 +233,7 @@ marked_to c k = map (λ (reply : Reply). (c.session.client, reply)) (take k c.he
 pub first_marked : (c : Caller) (xs : List (ℕ × Reply)) → xs ≡ xs ++ marked_to c 0
 first_marked c xs = sym (append-nil xs)
 
-pub next_marked : (c : Caller) (xs ys : List (ℕ × Reply)) (k : ℕ) (d : Reply) → k < length c.heard.items → ys ≡ xs ++ marked_to c k
+next_marked : (c : Caller) (xs ys : List (ℕ × Reply)) (k : ℕ) (d : Reply) → k < length c.heard.items → ys ≡ xs ++ marked_to c k
     → ys ++ (c.session.client, get_or c.heard.items k d) ∷ [] ≡ xs ++ marked_to c (k + 1)
 next_marked c xs ys k d inside so_far =
     ap (λ (list : List (ℕ × Reply)). list ++ (c.session.client, get_or c.heard.items k d) ∷ []) so_far
@@ -228,6 +241,15 @@ next_marked c xs ys k d inside so_far =
     ∙ ap (λ (list : List (ℕ × Reply)). xs ++ list)
     (sym (ap (map (λ (reply : Reply). (c.session.client, reply))) (take_more c.heard.items k d inside)
     ∙ map-append (λ (reply : Reply). (c.session.client, reply)) (take k c.heard.items) (get_or c.heard.items k d ∷ [])))
+
+-- the next one was pushed
+pub pushed_marked : (c : Caller) (xs ys zs : List (ℕ × Reply)) (k client : ℕ) (reply : Reply) → k < length c.heard.items → client ≡ c.session.client
+    → reply ≡ slice_index_or c.heard.items k reply → ys ≡ xs ++ marked_to c k → zs ≡ ys ++ (client, reply) ∷ [] → zs ≡ xs ++ marked_to c (k + 1)
+pushed_marked c xs ys zs k client reply inside own is so_far added =
+    added
+    ∙ ap (λ (n : ℕ). ys ++ (n, reply) ∷ []) own
+    ∙ ap (λ (r : Reply). ys ++ (c.session.client, r) ∷ []) is
+    ∙ next_marked c xs ys k reply inside so_far
 
 pub all_marked : (c : Caller) (xs : List (ℕ × Reply)) (k : ℕ) → length c.heard.items ≤ k → xs ++ marked_to c k ≡ xs ++ marked c
 all_marked c xs k long = ap (λ (list : List Reply). xs ++ map (λ (reply : Reply). (c.session.client, reply)) list) (take_all k c.heard.items long)

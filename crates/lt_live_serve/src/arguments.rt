@@ -29,9 +29,18 @@ pub fn program<R: Threads + Sync, S: Source, K: Sink, G: Gate>(
 {
     match words {
         Ok(words) => serve(rt, alloc, words.as_slice(), source, sink, gate),
-        Err(error) if error.kind() == ErrorKind::OutOfMemory => {
-            Served::without_run(alloc, Status::NoMemory)
-        }
-        Err(_) => Served::without_run(alloc, Status::Usage),
+        Err(error) => Served::without_run(alloc, status_of(error)),
+    }
+}
+
+// Why there are no words.
+fn status_of(error: &io::Error) -> Status
+    ensures no_memory { error_kind error.now ≡ ErrorKind.OutOfMemory → result ≡ Status.NoMemory }
+    ensures no_text { error_kind error.now ≢ ErrorKind.OutOfMemory → result ≡ Status.Usage }
+{
+    if error.kind() == ErrorKind::OutOfMemory {
+        Status::NoMemory
+    } else {
+        Status::Usage
     }
 }

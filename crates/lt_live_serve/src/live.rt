@@ -1,11 +1,13 @@
 // The run of a script whose commands are submitted by callers.
-ghost use Rattle.std.specs.Prelude.{◌≢◌, ℕ, None, map, IfOk};
+ghost use Rattle.std.specs.Prelude.{◌≡◌, ◌≢◌, ℕ, None, map, IfOk};
 ghost use Rattle.lt_spec.specs.Script.{IsScript, IsShort};
 ghost use Rattle.lt_live.specs.Stations.{runner_of};
 ghost use Rattle.lt_threads.specs.Meeting.{IsCrew, AreCrewLogs, HaveAll};
 ghost use Rattle.lt_live_serve.specs.Apart.{IsRunOf};
-ghost use Rattle.lt_live_serve.specs.Serves.{IsFirstOver, LiveRun};
+ghost use Rattle.lt_live_serve.specs.Completing.{AreServing, AreComplete};
+ghost use Rattle.lt_live_serve.specs.Serves.{IsFirstOver, LiveRun, all_replies};
 
+use crate::callers::Caller;
 use crate::completing::complete_all;
 use crate::first::first_round;
 use crate::opening::begin;
@@ -66,19 +68,52 @@ fn ended_run<R: Threads + Sync, G: Gate>(
     law_can_move();
     law_promised();
     law_ordered();
-    let (mut stations, mut callers) = begin(alloc, script)?;
-    first_round(rt, &mut stations, &mut callers, gate);
-    rounds(rt, &mut stations, &mut callers, gate);
-    complete_all(script, &mut stations, &mut callers, gate)?;
-    let (mut stations, ending) = run_on(rt, alloc, script, stations, &callers, gate)?;
-    tell_all(script, &mut stations, &mut callers)?;
-    let polled = gather(alloc, &callers)?;
-    let run = run_of(alloc, script, stations)?;
+    let (stations, callers) = submit_all(rt, alloc, script, gate)?;
+    let (stations, ending) = run_on(rt, alloc, script, stations, &callers, gate)?;
+    let (run, polled) = told_run(alloc, script, stations, callers)?;
     Ok(Live {
         ending,
         run,
         polled,
     })
+}
+
+// The stations, once they have taken in all commands, and the callers, which submitted them.
+fn submit_all<R: Threads + Sync, G: Gate>(
+    rt: &R,
+    alloc: Global,
+    script: &Script,
+    gate: &G,
+) -> Result<(Vec<Station>, Vec<Caller>), AllocError>
+    requires kept { IsScript script.now }
+    requires shared { IsFirstOver script.now None }
+    ensures serving { IfOk result (λ made. AreServing script.now made.0.items made.1.items) }
+    ensures complete { IfOk result (λ made. AreComplete script.now made.0.items) }
+{
+    let (mut stations, mut callers) = begin(alloc, script)?;
+    first_round(rt, &mut stations, &mut callers, gate);
+    rounds(rt, &mut stations, &mut callers, gate);
+    complete_all(script, &mut stations, &mut callers, gate)?;
+    Ok((stations, callers))
+}
+
+// The moves of all nodes, and all replies, which the callers poll now.
+fn told_run(
+    alloc: Global,
+    script: &Script,
+    mut stations: Vec<Station>,
+    mut callers: Vec<Caller>,
+) -> Result<(Run, Vec<(u16, Reply)>), AllocError>
+    requires kept { IsScript script.now }
+    requires serving { AreServing script.now stations.items callers.items }
+    requires crew { IsCrew script.now (map runner_of stations.items) }
+    ensures run { IfOk result (λ made. IsRunOf script.now (map runner_of stations.items) made.0.entries) }
+    ensures polled { IfOk result (λ made. made.1.items ≡ all_replies script.now made.0.entries) }
+{
+    tell_all(script, &mut stations, &mut callers)?;
+    let polled = gather(alloc, &callers)?;
+    let run = run_of(alloc, script, stations)?;
+    Ok((run, polled))
 }
 
 // The moves of all nodes.

@@ -67,7 +67,10 @@ fn caller_of(alloc: Global, script: &Script, session: Session) -> Result<Caller,
     requires session { CanCall script.now session }
     ensures { IfOk result (IsNewCaller script.now session) }
 {
-    let commands = commands_of(alloc, script, session.client())?;
+    let Ok(commands) = commands_of(alloc, script, session.client()) else {
+        drop(session);
+        return Err(AllocError);
+    };
     Ok(Caller {
         session,
         commands,

@@ -40,7 +40,6 @@ fn rounds_of<R: Threads + Sync, G: Gate>(
 }
 
 // Submits a command of the first caller that has one.
-#[tactic(auto, using(crate::proofs::Lasting::same_callers, crate::proofs::Lasting::one_called, crate::proofs::Lasting::one_less))]
 fn submit_one(callers: &mut [Caller]) -> bool
     ensures callers { EachCaller Calls callers.old callers.new }
     ensures one { result ≡ true → all_left callers.new < all_left callers.old }

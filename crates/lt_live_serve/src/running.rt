@@ -19,7 +19,6 @@ use std::alloc::{AllocError, Global};
 use std::thread::Threads;
 
 /// Makes all moves that are left, on threads, and tells how the run ended.
-#[tactic(auto, using(crate::proofs::Parted::moved_on))]
 pub(crate) fn run_on<R: Threads + Sync, G: Gate>(
     rt: &R,
     alloc: Global,
@@ -34,13 +33,26 @@ pub(crate) fn run_on<R: Threads + Sync, G: Gate>(
     ensures serving { IfOk result (λ made. AreServing script.now made.0.items _callers.now) }
     ensures moved { IfOk result (λ made. MovedOn script.now made.1 (map runner_of stations.items) (map runner_of made.0.items)) }
 {
-    let runners = Vec::with_capacity(alloc, stations.len())?;
-    let benches = Vec::with_capacity(alloc, stations.len())?;
-    let room = Vec::with_capacity(alloc, stations.len())?;
+    let (runners, benches, room) = empty_lists(alloc, stations.len())?;
     are_kept(&stations);
     let (runners, benches) = take_apart(stations, runners, benches);
     let (runners, ending) = run_crew(rt, alloc, script, runners, WORKERS, PATIENCE, gate)?;
     Ok((put_together(runners, benches, room), ending))
+}
+
+// Lists of runners, benches and stations, empty, each with so many places.
+fn empty_lists(
+    alloc: Global,
+    count: usize,
+) -> Result<(Vec<Runner>, Vec<Bench>, Vec<Station>), AllocError>
+    ensures runners { IfOk result (λ lists. (lists.0.items ≡ []) × (count ≤ vec_capacity lists.0)) }
+    ensures benches { IfOk result (λ lists. (lists.1.items ≡ []) × (count ≤ vec_capacity lists.1)) }
+    ensures stations { IfOk result (λ lists. (lists.2.items ≡ []) × (count ≤ vec_capacity lists.2)) }
+{
+    let runners = Vec::with_capacity(alloc, count)?;
+    let benches = Vec::with_capacity(alloc, count)?;
+    let stations = Vec::with_capacity(alloc, count)?;
+    Ok((runners, benches, stations))
 }
 
 fn take_apart(
@@ -60,7 +72,6 @@ fn take_apart(
     (runners, benches)
 }
 
-#[tactic(auto, using(crate::proofs::Parted::some_bench, crate::proofs::Parted::first_together))]
 fn put_together(
     mut runners: Vec<Runner>,
     mut benches: Vec<Bench>,

@@ -1,9 +1,11 @@
-ghost use Rattle.std.specs.Prelude.{◌≡◌, ◌⊎◌, ℕ, [], List, Option, length, IfOk, IfErr, OnOk};
+ghost use Rattle.std.specs.Prelude.{◌≡◌, ◌≢◌, ◌⊎◌, ℕ, [], List, None, Option, length, IfOk, IfErr, OnOk};
 ghost use Rattle.lt_io.specs.Streams.{IsReadWhole, Rose};
 ghost use Rattle.lt_call.specs.Outcomes.{IsEnding, IsRefusal, SaysOfSink, SaysOfSource, WritesNothing};
 ghost use Rattle.lt_live_serve.specs.declared.limits.TheConstants.{MAX_INPUT};
-ghost use Rattle.lt_live_serve.specs.Serves.{Journals, Serves, Did, IsUnfit};
-ghost use Rattle.lt_live_serve.specs.Status.{outcome_of};
+ghost use Rattle.lt_spec.specs.Script.{IsScript, IsShort};
+ghost use Rattle.lt_journal.specs.RunLines.{text_of};
+ghost use Rattle.lt_live_serve.specs.Serves.{Journals, LiveRun, Serves, Did, IsFirstOver, IsUnfit};
+ghost use Rattle.lt_live_serve.specs.Status.{cut_node, outcome_of};
 
 use crate::live::live_run;
 use crate::reading::read_shared;
@@ -13,7 +15,9 @@ use lt_io::{Sink, Source, write_all};
 use lt_journal::write;
 use lt_merge::Run;
 use lt_runner::Gate;
-use std::alloc::Global;
+use lt_script::Script;
+use lt_spec::Ending;
+use std::alloc::{AllocError, Global};
 use std::thread::Threads;
 
 /// Reads a script, lets a caller for each client submit its commands to the stations of its nodes and poll for all replies,
@@ -53,18 +57,39 @@ fn make<R: Threads + Sync, S: Source, G: Gate>(
         → Rose (S.state source.old).given (S.state source.new).given) }
 {
     let script = read_shared(alloc, source)?;
-    let Ok(live) = live_run(rt, alloc, &script, gate) else {
-        return Err(Status::NoMemory);
-    };
-    match write(alloc, &script, &live.run, cut_node(live.ending)) {
-        Ok(text) => Ok(Made {
-            ending: live.ending,
-            run: live.run,
-            polled: live.polled,
-            text,
-        }),
+    let made = made_of(rt, alloc, &script, gate);
+    drop(script);
+    match made {
+        Ok(made) => Ok(made),
         Err(_) => Err(Status::NoMemory),
     }
+}
+
+// The run of the script, and its journal.
+fn made_of<R: Threads + Sync, G: Gate>(
+    rt: &R,
+    alloc: Global,
+    script: &Script,
+    gate: &G,
+) -> Result<Made, AllocError>
+    requires kept { IsScript script.now }
+    requires short { IsShort script.now }
+    requires shared { IsFirstOver script.now None }
+    ensures never_cut { IfOk result (λ made. (node : ℕ) → made.ending ≢ Ending.Cut node) }
+    ensures live { IfOk result (λ made. LiveRun made.ending script.now made.run.entries made.polled.items) }
+    ensures journal { IfOk result (λ made. made.text.items ≡ text_of script.now made.run.entries (cut_node made.ending)) }
+{
+    let live = live_run(rt, alloc, script, gate)?;
+    let Ok(text) = write(alloc, script, &live.run, cut_node(live.ending)) else {
+        drop(live);
+        return Err(AllocError);
+    };
+    Ok(Made {
+        ending: live.ending,
+        run: live.run,
+        polled: live.polled,
+        text,
+    })
 }
 
 // Writes the text.

@@ -12,7 +12,6 @@ use lt_script::Script;
 use std::alloc::{AllocError, Global};
 
 /// Lets the callers poll all replies.
-#[tactic(auto, using(crate::proofs::Told::none_told, crate::proofs::Told::next_told, crate::proofs::Told::all_told))]
 pub(crate) fn tell_all(
     _script: &Script,
     stations: &mut Vec<Station>,
@@ -59,7 +58,6 @@ fn tell(station: &mut Station, caller: &mut Caller) -> Result<(), AllocError>
 }
 
 // Lets the caller poll its next reply; false where it has polled all.
-#[tactic(auto, using(crate::proofs::Told::heard_few))]
 fn tell_one(station: &mut Station, caller: &mut Caller) -> Result<bool, AllocError>
     requires { IsSeated caller.old.session station.old.seats }
     ensures hears { Hears station.old caller.old station.new caller.new }
@@ -75,7 +73,6 @@ fn tell_one(station: &mut Station, caller: &mut Caller) -> Result<bool, AllocErr
 }
 
 /// What the callers polled, each reply with its client.
-#[tactic(auto, using(crate::proofs::Told::gather_next, crate::proofs::Told::gather_all))]
 pub(crate) fn gather(alloc: Global, callers: &[Caller]) -> Result<Vec<(u16, Reply)>, AllocError>
     ensures { IfOk result (λ polled. polled.items ≡ gather_below (length callers.now) (heard_at callers.now)) }
 {
@@ -87,7 +84,6 @@ pub(crate) fn gather(alloc: Global, callers: &[Caller]) -> Result<Vec<(u16, Repl
 }
 
 // Adds what the caller polled.
-#[tactic(auto, using(crate::proofs::Told::first_marked, crate::proofs::Told::next_marked, crate::proofs::Told::all_marked))]
 fn add_heard(polled: &mut Vec<(u16, Reply)>, caller: &Caller) -> Result<(), AllocError>
     ensures { OnOk result (polled.new.items ≡ polled.old.items ++ marked caller.now) }
 {

@@ -1,6 +1,6 @@
 -- One station more.
 use Rattle.std.proofs.Common.{rules, ◌<◌, length, arith}
-use Rattle.lt_live_serve.proofs.Parted.{next_put}
+use Rattle.lt_live_serve.proofs.Parted.{next_put, some_bench, first_together}
 use Rattle.lt_live_serve.proofs.running.put_together.Goals as goal
 
 pub loop-runners-preserved : goal.loop-runners-preserved
@@ -16,3 +16,16 @@ loop-runners-preserved c =
     c.push_reserved.new.self.items c.remove-runner.new.self.items c.remove-bench.new.self.items c.push_reserved.ensures.items
     c.remove-runner.ensures.items c.remove-bench.ensures.items in
     record { runners = put.runners; seats = put.seats; together = put.together; room = search rules }
+
+pub remove-bench-requires : goal.remove-bench-requires
+remove-bench-requires c =
+    let some : 0 < length c.loop-runners.runners.items =
+    omega (arith, c.remove-runner.ensures.len, c.loop-runners.runners.ok.0, c.remove-runner.new.self.ok.0) in
+    omega (arith, some_bench c.loop-runners.runners.items c.loop-runners.benches.items c.loop-runners.invariant.together some, c.loop-runners.benches.ok.0)
+
+pub from_parts-requires : goal.from_parts-requires
+from_parts-requires c =
+    let some : 0 < length c.loop-runners.runners.items =
+    omega (arith, c.remove-runner.ensures.len, c.loop-runners.runners.ok.0, c.remove-runner.new.self.ok.0) in
+    first_together c.loop-runners.runners.items c.loop-runners.benches.items c.remove-runner.result c.remove-bench.result c.loop-runners.invariant.together
+    some c.remove-runner.ensures.value c.remove-bench.ensures.value
