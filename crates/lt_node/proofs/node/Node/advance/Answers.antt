@@ -42,3 +42,28 @@ pub returns-clause-state : goal.returns-clause-state
 returns-clause-state c =
     advanced_at _ c.args.self.now c.self.inside.clients.items c.args.client c.from.result c.index_mut.result.now c.next.new.self c.self.view_is c.self.invariant.0 refl c.from.ensures
     c.requires.client (next c) c.next.ensures.made
+
+pub overflow_add-self : goal.overflow_add-self
+overflow_add-self c = omega (arith, c.requires.clock, ap (λ (n : NodeData). n.clock) c.self.view_is)
+
+pub index_mut-requires : goal.index_mut-requires
+index_mut-requires c =
+    let count = ap (λ (n : NodeData). length n.script.clients) c.self.view_is in
+    omega (arith, c.from.ensures, c.requires.client, count, c.self.invariant.0.clients, length-map c.self.inside.clients.items progress_made, c.self.inside.clients.ok.0)
+
+pub next-requires-clause-left : goal.next-requires-clause-left
+next-requires-clause-left c =
+    (next_at _ c.args.self.now c.self.inside.homes.items c.self.inside.clients.items c.args.client c.from.result c.index_mut.result.now c.self.view_is c.self.invariant.0 refl c.self.invariant.1
+    c.from.ensures c.index_mut.ensures.value c.requires.client c.requires.home c.requires.left).left
+
+pub returns-clause-kept : goal.returns-clause-kept
+returns-clause-kept c = node_is _ c.args.self.now c.self.view_is c.self.invariant.0
+
+pub returns-clause-place : goal.returns-clause-place
+returns-clause-place c = (ap (λ (n : NodeData). n.script) c.self.view_is, ap (λ (n : NodeData). n.me) c.self.view_is)
+
+pub returns-clause-gone : goal.returns-clause-gone
+returns-clause-gone c = ap (λ (n : NodeData). n.gone) c.self.view_is
+
+pub returns-clause-cores : goal.returns-clause-cores
+returns-clause-cores c = ap (λ (n : NodeData). n.cores) c.self.view_is

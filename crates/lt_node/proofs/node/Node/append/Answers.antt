@@ -1,4 +1,7 @@
-use Rattle.std.proofs.Common.{refl}
+use Rattle.std.proofs.Common.{◌<◌, length, refl, subst, sym}
+use Rattle.lt_spec.specs.Script.{HasModesOf, HasTargets}
+use Rattle.lt_spec.specs.declared.limits.TheConstants.{MAX_COMMANDS_OF_SERVICE}
+use Rattle.lt_node.specs.NodeData.{NodeData}
 use Rattle.lt_node.specs.Clients.{with_request}
 use Rattle.lt_node.proofs.AdvanceLemmas.{appended_at}
 use Rattle.lt_node.proofs.node.Node.append.Goals as goal
@@ -25,3 +28,15 @@ returns-clause-appended c =
     (record { inside = c.requires.client; here = c.requires.home; targets = c.requires.targets; modes = c.requires.modes; room = c.requires.room })
     c.in_ok-append_to.ensures.list refl in
     rw c.in_ok-append_to.ensures.script appended.is
+
+pub append_to-requires-clause-client : goal.append_to-requires-clause-client
+append_to-requires-clause-client c = subst (λ (n : NodeData). c.args.client < length n.script.clients) (sym c.self.view_is) c.requires.client
+
+pub append_to-requires-clause-targets : goal.append_to-requires-clause-targets
+append_to-requires-clause-targets c = subst (λ (n : NodeData). HasTargets n.script.sets n.script.clients c.args.client c.args.command) (sym c.self.view_is) c.requires.targets
+
+pub append_to-requires-clause-modes : goal.append_to-requires-clause-modes
+append_to-requires-clause-modes c = subst (λ (n : NodeData). HasModesOf n.script.version c.args.command) (sym c.self.view_is) c.requires.modes
+
+pub append_to-requires-clause-room : goal.append_to-requires-clause-room
+append_to-requires-clause-room c = subst (λ (n : NodeData). length n.script.commands < MAX_COMMANDS_OF_SERVICE) (sym c.self.view_is) c.requires.room
