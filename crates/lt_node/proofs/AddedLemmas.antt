@@ -2,7 +2,7 @@
 use Rattle.std.proofs.Common.{◌≡◌, ◌≢◌, ◌<◌, ◌≤◌, inl, inr, nat_lt, eq-eqb, ne_eqb, ◌+◌, ◌∙◌, ◌==◌, ◌&&◌, ◌||◌, ℕ, suc, Bool, true, false, List, [], ◌∷◌, length, drop, refl, sym, ap, subst, arith, slice_index_or}
 use Rattle.std.proofs.Math.Bool.{or_assoc, or_comm, or-false}
 use Rattle.std.proofs.Math.Seq.{drop-length}
-use Rattle.std.proofs.lemmas.Bool.{cases_eq, cases_lt, le-ltb, lt-ltb}
+use Rattle.std.proofs.lemmas.Bool.{cases_eq, cases_lt, false≢true, le-ltb, lt-ltb}
 use Rattle.std.specs.List.{list_any}
 use Rattle.lt_modes.specs.declared.ask.Ask.{Ask}
 use Rattle.lt_modes.specs.Fits.{has_client, parked_asks}
@@ -29,7 +29,7 @@ pub added_then : (first second : ℕ → Bool) (old between new : List Bool) →
 added_then first second old between new one more = record {
   count = more.count ∙ one.count;
   marks = λ k inside.
-      more.marks k (omega (arith, inside, one.count))
+      more.marks k (subst (λ (n : ℕ). k < n) (sym one.count) inside)
       ∙ ap (λ (b : Bool). b || second k) (one.marks k inside)
       ∙ or_assoc (slice_index_or old k false) (first k) (second k);
 }
@@ -76,7 +76,7 @@ parked_none s client other none = none_of (parked_asks s) none
             → (has_client client rest ≡ false → list_any (λ (a : Ask). a.client == client && has_older s other a) rest ≡ false)
             → ((b && has_older s other ask) || list_any (λ (a : Ask). a.client == client && has_older s other a) rest) ≡ false
         by_test false e again = again e
-        by_test true e again = cc
+        by_test true e again = absurd (false≢true (sym e))
 
 -- The clients below a number that pass a test, one after the other.
 

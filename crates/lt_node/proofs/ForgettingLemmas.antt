@@ -1,10 +1,11 @@
 -- Commands that are forgotten.
-use Rattle.std.proofs.Common.{◌≡◌, ◌+◌, ◌++◌, ◌≤◌, ◌<◌, ◌∙◌, ◌^◌, ℕ, List, [], ◌∷◌, append-nil, append_assoc, length, length-append, take, drop, refl, sym, ap, subst, arith}
-use Rattle.std.proofs.lemmas.List.{flat_map_more, take-append-drop}
+use Rattle.std.proofs.Common.{◌≡◌, ◌+◌, ◌++◌, ◌≤◌, ◌<◌, ◌∙◌, ◌^◌, ℕ, List, [], ◌∷◌, append-nil, append_assoc, length, sym, ap, subst, arith}
+use Rattle.std.proofs.lemmas.List.{flat_map_more, length_push}
 use Rattle.lt_modes.specs.declared.command.Command.{Command}
 use Rattle.lt_modes.specs.Script.{ScriptData}
-use Rattle.lt_node.specs.Clients.{Progress}
-use Rattle.lt_node.specs.Forgetting.{LongScriptData, IsLongScript, past_commands, with_past, without_first}
+use Rattle.lt_node.specs.Clients.{Progress, with_command}
+use Rattle.lt_node.specs.declared.client.KeptCommands.{KeptCommands}
+use Rattle.lt_node.specs.Forgetting.{HasMade, LongScriptData, IsLongScript, past_commands, past_made, with_past}
 use Rattle.lt_spec.specs.declared.limits.TheConstants.{MAX_COMMANDS_OF_SERVICE}
 
 past_more : (past : List ScriptData) (kept : ScriptData) → past_commands (past ++ kept ∷ []) ≡ past_commands past ++ kept.commands
@@ -35,3 +36,28 @@ module _ (past more : List ScriptData) (kept bare : ScriptData) (gone count : �
       (append-nil (past_commands more) ∙ all)
       ∙ ap (λ (whole : ScriptData). let s : LongScriptData = record { whole = whole; gone = count } in s) (ap (λ (s : LongScriptData). s.whole) seen)
       ∙ ap (λ (n : ℕ). let s : LongScriptData = record old { gone = n } in s) counted
+
+-- A client's list grows.
+
+module _ (past : List KeptCommands) (gone : ℕ) (kept new : KeptCommands) (made_is : new.made ≡ kept.made) where
+  pub made_same : new.commands.items ≡ kept.commands.items → HasMade past gone kept → HasMade past gone new
+  made_same same has = record {
+    gone_is = has.gone_is;
+    within = omega (arith, has.within, made_is, ap (λ (l : List Command). length l) same);
+    few = omega (arith, has.few, made_is);
+  }
+
+  pub made_more : (command : Command) → new.commands.items ≡ kept.commands.items ++ command ∷ [] → HasMade past gone kept → HasMade past gone new
+  made_more command more has = record {
+    gone_is = has.gone_is;
+    within = omega (arith, has.within, made_is, ap (λ (l : List Command). length l) more, length_push kept.commands.items command);
+    few = omega (arith, has.few, made_is);
+  }
+
+pub seen_more : (past : List KeptCommands) (gone : ℕ) (kept : KeptCommands) (items : List Command) (command : Command) (old : Progress)
+    → (let p : Progress = record { commands = past_made past ++ kept.commands.items; made = gone + kept.made } in p) ≡ old → items ≡ kept.commands.items ++ command ∷ []
+    → (let p : Progress = record { commands = past_made past ++ items; made = gone + kept.made } in p) ≡ with_command old command
+seen_more past gone kept items command old seen more =
+    ap (λ (l : List Command). let p : Progress = record { commands = l; made = gone + kept.made } in p)
+    (ap (λ (l : List Command). past_made past ++ l) more ∙ sym (append_assoc (past_made past) kept.commands.items (command ∷ [])))
+    ∙ ap (λ (p : Progress). with_command p command) seen
