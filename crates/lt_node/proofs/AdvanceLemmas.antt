@@ -1,5 +1,5 @@
 -- A client makes its next command.
-use Rattle.std.proofs.Common.{◌≡◌, ◌+◌, ◌<◌, ◌≤◌, ◌==◌, ℕ, List, [], ◌∷◌, Option, Some, None, length, map, arith, refl, sym, ap, subst, ◌∙◌, slice_get, slice_index_or, slice_set, Contains, if◌then◌else◌, Bool, true, false, inl, inr, ◌++◌, filter_map, ltb-true, eqb-true, eq-eqb, ne_eqb, get_or-set_other, length-set, append-nil}
+use Rattle.std.proofs.Common.{◌≡◌, ◌+◌, ◌<◌, ◌≤◌, ◌==◌, ℕ, List, [], ◌∷◌, Some, None, length, map, arith, refl, sym, ap, subst, ◌∙◌, slice_get, slice_index_or, slice_set, Contains, if◌then◌else◌, Bool, true, false, inl, inr, ◌++◌, ltb-true, eqb-true, eq-eqb, ne_eqb, get_or-set_other, length-set, append-nil}
 use Rattle.std.specs.List.{cons_option}
 use Rattle.std.proofs.lemmas.Bool.{cases_eq}
 use Rattle.std.proofs.lemmas.Option.{slice_get-get_or}

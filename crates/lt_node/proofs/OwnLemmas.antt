@@ -1,5 +1,5 @@
 -- The clients of a node, in order, and the first of them that can act.
-use Rattle.std.proofs.Common.{◌≡◌, ◌≢◌, ◌+◌, ◌<◌, ◌≤◌, ◌++◌, ◌==◌, ◌&&◌, ◌∙◌, not, true, false, Bool, ℕ, List, [], ◌∷◌, None, Some, drop, slice_index_or, length, arith, refl, sym, subst, ap, inl, inr, eq-eqb, ne_eqb}
+use Rattle.std.proofs.Common.{◌≡◌, ◌≢◌, ◌+◌, ◌<◌, ◌≤◌, ◌++◌, ◌&&◌, ◌∙◌, not, true, false, Bool, ℕ, List, [], ◌∷◌, None, Some, drop, slice_index_or, length, arith, sym, subst, ap, inl, inr, eq-eqb, ne_eqb}
 use Rattle.std.proofs.lemmas.Bool.{cases_eq, cases_lt}
 use Rattle.std.proofs.lemmas.List.{drop_all, drop_more}
 use Rattle.lt_modes.specs.Script.{ScriptData, ClientData, home_at}

@@ -1,4 +1,4 @@
-use Rattle.std.proofs.Common.{◌+◌, Some, ap, arith, refl, subst, sym, ◌∙◌, length}
+use Rattle.std.proofs.Common.{Some, ap, arith, refl, subst, sym, ◌∙◌, length}
 use Rattle.std.proofs.lemmas.List.{length-map}
 use Rattle.lt_modes.specs.declared.command.Command.{Command}
 use Rattle.lt_spec.specs.Script.{HasTargets}

@@ -1,9 +1,7 @@
-use Rattle.std.proofs.Common.{ℕ, ap, refl, subst, sym, ◌∙◌}
+use Rattle.std.proofs.Common.{ap, refl, subst, sym, ◌∙◌}
 use Rattle.lt_spec.specs.Script.{IsScript}
 use Rattle.lt_modes.specs.Script.{ScriptData}
-use Rattle.lt_core.specs.CoreData.{CoreData}
 use Rattle.lt_node.specs.Forgetting.{LongScriptData}
-use Rattle.lt_node.proofs.NodeSets.{node_of_sets}
 use Rattle.lt_node.proofs.RequestLemmas.{clients_known, node_at_start, state_at_start, sets_at_start}
 use Rattle.lt_node.proofs.node.Node.begin.Goals as goal
 
