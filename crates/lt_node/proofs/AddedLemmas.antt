@@ -1,7 +1,8 @@
 -- Marks that are added to marks.
-use Rattle.std.proofs.Common.{◌≡◌, ◌<◌, ◌+◌, ◌∙◌, ◌==◌, ◌&&◌, ◌||◌, ℕ, Bool, true, false, List, [], ◌∷◌, length, drop, refl, sym, ap, arith, slice_index_or}
+use Rattle.std.proofs.Common.{◌≡◌, ◌≢◌, ◌<◌, ◌≤◌, inl, inr, nat_lt, eq-eqb, ne_eqb, ◌+◌, ◌∙◌, ◌==◌, ◌&&◌, ◌||◌, ℕ, Bool, true, false, List, [], ◌∷◌, length, drop, refl, sym, ap, subst, arith, slice_index_or}
 use Rattle.std.proofs.Math.Bool.{or_assoc, or_comm, or-false}
 use Rattle.std.proofs.Math.Seq.{drop-length}
+use Rattle.std.proofs.lemmas.Bool.{cases_eq, cases_lt, false≢true, le-ltb, lt-ltb}
 use Rattle.std.proofs.lemmas.List.{drop_more}
 use Rattle.std.specs.List.{list_any}
 use Rattle.lt_modes.specs.declared.ask.Ask.{Ask}
@@ -28,7 +29,7 @@ pub added_then : (first second : ℕ → Bool) (old between new : List Bool) →
 added_then first second old between new one more = record {
   count = more.count ∙ one.count;
   marks = λ k inside.
-      more.marks k (omega (arith, inside, one.count))
+      more.marks k (subst (λ (n : ℕ). k < n) (sym one.count) inside)
       ∙ ap (λ (b : Bool). b || second k) (one.marks k inside)
       ∙ or_assoc (slice_index_or old k false) (first k) (second k);
 }
@@ -72,4 +73,35 @@ parked_none s client other none = none_of (parked_asks s) none
             → (has_client client rest ≡ false → list_any (λ (a : Ask). a.client == client && has_older s other a) rest ≡ false)
             → ((b && has_older s other ask) || list_any (λ (a : Ask). a.client == client && has_older s other a) rest) ≡ false
         by_test false e again = again e
-        by_test true e again = cc
+        by_test true e again = absurd (false≢true (sym e))
+
+-- The clients below a number that pass a test, one after the other.
+
+pub below_marked_none : (test : ℕ → Bool) (old : List Bool) → AreAdded (λ other. nat_lt other 0 && test other) old old
+below_marked_none test old = added_none _ old (λ k. ap (λ (b : Bool). b && test k) (le-ltb k 0 (omega arith)))
+
+pub below_marked_more : (test : ℕ → Bool) (k : ℕ) (passes : Bool) (old between new : List Bool) → passes ≡ test k → AreAdded (λ other. nat_lt other k && test other) old between
+    → AreAdded (λ other. k == other && passes) between new → AreAdded (λ other. nat_lt other (k + 1) && test other) old new
+below_marked_more test k passes old between new is before here =
+    added_same _ _ old new (λ other inside. by_place other) (added_then _ _ old between new before (subst (λ (b : Bool). AreAdded (λ other. k == other && b) between new) is here))
+  where
+    by_place : (other : ℕ) → ((nat_lt other k && test other) || (k == other && test k)) ≡ (nat_lt other (k + 1) && test other)
+    by_place other = elim (cases_eq k other) [
+      | inl same ↦
+          let last : nat_lt other (k + 1) ≡ true = lt-ltb other (k + 1) (omega (arith, same)) in
+          let earlier : nat_lt other k ≡ false = le-ltb other k (omega (arith, same)) in
+          ap (λ (b : Bool). (b && test other) || (k == other && test k)) earlier ∙ ap (λ (b : Bool). b && test k) (eq-eqb k other same) ∙ ap test same
+          ∙ sym (ap (λ (b : Bool). b && test other) last)
+      | inr apart ↦
+          ap (λ (b : Bool). (nat_lt other k && test other) || (b && test k)) (ne_eqb k other apart) ∙ or-false (nat_lt other k && test other)
+          ∙ ap (λ (b : Bool). b && test other) (same_below other apart)
+    ]
+      where
+        same_below : (other : ℕ) → k ≢ other → nat_lt other k ≡ nat_lt other (k + 1)
+        same_below other apart = elim (cases_lt other k) [
+          | inl below ↦ lt-ltb other k below ∙ sym (lt-ltb other (k + 1) (omega (arith, below)))
+          | inr above ↦ le-ltb other k above ∙ sym (le-ltb other (k + 1) (omega (arith, above, apart)))
+        ]
+
+pub below_marked_all : (test : ℕ → Bool) (end n : ℕ) (old new : List Bool) → length old ≤ end → end ≤ n → AreAdded (λ other. nat_lt other n && test other) old new → AreAdded test old new
+below_marked_all test end n old new few past added = added_same _ _ old new (λ k inside. ap (λ (b : Bool). b && test k) (lt-ltb k n (omega (arith, inside, few, past)))) added

@@ -1,5 +1,5 @@
 -- A client makes its next command.
-use Rattle.std.proofs.Common.{◌≡◌, ◌+◌, ◌<◌, ◌≤◌, ◌==◌, ℕ, List, [], ◌∷◌, Option, Some, None, length, map, arith, refl, sym, ap, subst, ◌∙◌, slice_get, slice_index_or, slice_set, Contains, if◌then◌else◌, Bool, true, false, inl, inr, ◌++◌, filter_map, ltb-true, eqb-true, eq-eqb, ne_eqb, get_or-set_other, length-set, append-nil}
+use Rattle.std.proofs.Common.{◌≡◌, ◌+◌, ◌<◌, ◌≤◌, ◌==◌, ℕ, List, [], ◌∷◌, Some, None, length, map, arith, refl, sym, ap, subst, ◌∙◌, slice_get, slice_index_or, slice_set, Contains, if◌then◌else◌, Bool, true, false, inl, inr, ◌++◌, ltb-true, eqb-true, eq-eqb, ne_eqb, get_or-set_other, length-set, append-nil}
 use Rattle.std.specs.List.{cons_option}
 use Rattle.std.proofs.lemmas.Bool.{cases_eq}
 use Rattle.std.proofs.lemmas.Option.{slice_get-get_or}
@@ -101,6 +101,19 @@ next_at m n homes clients client k progress same node made knows place at =
     let within : client < length clients = omega (arith, inside, node.clients, ap (λ (l : List ℕ). length l) made, length-map clients progress_made) in
     has_next m homes clients client progress node made knows inside own left
     (at ∙ ap (λ (i : ℕ). slice_index_or clients i progress) place ∙ get_or_default clients client progress no_progress within))
+
+-- the client's list is one of those in hand
+pub client_inside : (m n : NodeData) (clients : List Progress) (client k : ℕ) → m ≡ n → IsNode m → m.made ≡ map progress_made clients → k ≡ client → client < length n.script.clients → k < length clients
+client_inside m n clients client k same node made place inside =
+    subst (λ (i : ℕ). i < length clients) (sym place)
+    (subst (λ (l : ℕ). client < l)
+    (sym (ap (λ (n : NodeData). length n.script.clients) same) ∙ sym node.clients ∙ ap (λ (l : List ℕ). length l) made ∙ length-map clients progress_made) inside)
+
+pub made_here : (m n : NodeData) (clients : List Progress) (client k : ℕ) (progress : Progress) → m ≡ n → m.made ≡ map progress_made clients → k ≡ client → progress ≡ slice_index_or clients k progress → k < length clients
+    → progress.made ≡ (state_of n).made client
+made_here m n clients client k progress same made place at inside =
+    ap progress_made (at ∙ get_or_default clients k progress no_progress inside) ∙ sym (get_or-map progress_made clients k no_progress 0 inside)
+    ∙ sym (ap (λ (l : List ℕ). slice_index_or l k 0) made) ∙ ap (λ (i : ℕ). slice_index_or m.made i 0) place ∙ ap (λ (n : NodeData). slice_index_or n.made client 0) same
 
 pub advanced_at : (m n : NodeData) (clients : List Progress) (client k : ℕ) (progress new : Progress) → m ≡ n → IsNode m → m.made ≡ map progress_made clients → k ≡ client → client < length n.script.clients
     → HasNext n client progress → new ≡ one_command_more progress

@@ -76,6 +76,15 @@ pub record AreTaken (script : ScriptData) (q k : ℕ) (lists clients : List Prog
   pub later : (client : ℕ) → k ≤ client → client < length lists → q ≤ home script client → progress_of lists client ≡ unstarted (commands_of script client)
   pub left : (client : ℕ) → client < length lists → q + 1 ≤ home script client → progress_of lists client ≡ unstarted (commands_of script client)
 
+pub taken_none : (script : ScriptData) (q : ℕ) (lists clients : List Progress) → clients ≡ [] → ListsFrom script q lists → AreTaken script q 0 lists clients
+taken_none script q lists clients none from = record {
+  made = ap (λ (l : List Progress). length l) none;
+  count = from.count;
+  each = subst (AreAtStart script q) (sym none) (λ client within. absurd (omega (arith, within)));
+  later = λ client above within here. from.each client within here;
+  left = λ client within here. from.each client within (omega (arith, here));
+}
+
 module _ (script : ScriptData) (q k : ℕ) (lists clients : List Progress) where
   -- the clients with one more, which is as it is at the start
   abbrev IsStart : ℕ → Progress → Type 0

@@ -119,6 +119,16 @@ walk_on {P} script set k (Some next) inside mine some none goes_on done =
     }) done in
     record { here = record { inside = some.inside; mine = eq-eqb (family_at script.sets next) (family script set) (some.related ∙ same); at = at }; at = at }
 
+-- the walk ends: fewer sets are left
+pub walk_smaller : (script : ScriptData) (k : ℕ) (old next : Option ℕ) → old ≡ Some k → k < length script.sets → IfSome next (IsNextRelated script k)
+    → length script.sets - place_of_next script.sets next < length script.sets - place_of_next script.sets old
+walk_smaller script k old next some inside is =
+    subst (λ (o : Option ℕ). length script.sets - place_of_next script.sets next < length script.sets - place_of_next script.sets o) (sym some) (by_next next is)
+  where
+    by_next : (o : Option ℕ) → IfSome o (IsNextRelated script k) → length script.sets - place_of_next script.sets o < length script.sets - k
+    by_next None is = omega (arith, inside)
+    by_next (Some j) is = omega (arith, inside, is.later, is.inside)
+
 -- The moves that end in the sets, one after the other.
 
 -- what is left to do at these sets gives what the whole gives

@@ -1,6 +1,7 @@
 pub mod NodeLemmas
 pub mod TokenLemmas
 pub mod FamilyLemmas
+pub mod ForgettingLemmas
 pub mod AdvanceLemmas
 pub mod RequestLemmas
 pub mod CommandLemmas

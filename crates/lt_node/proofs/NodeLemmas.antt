@@ -98,7 +98,7 @@ node_same m cores node same = record {
   clients = node.clients;
   sets = kept_length cores m.cores same ∙ node.sets;
   places = λ s inside.
-      let place = node.places s (omega (arith, inside, kept_length cores m.cores same)) in
+      let place = node.places s (subst (λ (n : ℕ). s < n) (kept_length cores m.cores same) inside) in
       let kept = kept_at cores m.cores s (first_core m.script m.me s) same in
       record { node = ap (λ (x : KeptData). x.node) kept ∙ place.node; set = ap (λ (x : KeptData). x.set) kept ∙ place.set };
 }

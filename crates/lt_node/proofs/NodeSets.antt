@@ -1,5 +1,5 @@
 -- The sets of a node, as its moves see them.
-use Rattle.std.proofs.Common.{◌≡◌, ◌≢◌, ◌<◌, ◌∙◌, ℕ, List, length, map, inl, inr, arith, refl, sym, ap, subst, slice_index_or, slice_set, get_or-set_other, length-set}
+use Rattle.std.proofs.Common.{◌≡◌, ◌≢◌, ◌<◌, ◌∙◌, ℕ, List, length, inl, inr, arith, sym, ap, subst, slice_index_or, slice_set, get_or-set_other, length-set}
 use Rattle.std.proofs.lemmas.Bool.{cases_eq}
 use Rattle.std.proofs.lemmas.List.{get_or_default}
 use Rattle.lt_modes.specs.Script.{ScriptData}
@@ -8,7 +8,7 @@ use Rattle.lt_spec.specs.NodeMove.{touched}
 use Rattle.lt_desk.specs.DeskData.{OutData}
 use Rattle.lt_core.specs.CoreData.{CoreData, Does}
 use Rattle.lt_node.specs.Forgetting.{without_first}
-use Rattle.lt_node.specs.NodeData.{IsCoreOf, IsNode, KeptData, NodeData, NodeDoes, core_at, kept_of, state_of, untouched}
+use Rattle.lt_node.specs.NodeData.{IsCoreOf, IsNode, KeptData, NodeData, NodeDoes, core_at, state_of, untouched}
 use Rattle.lt_node.specs.Sets.{AreSetsOf, SameSets, SetDoes, SetsData, core_in}
 use Rattle.lt_node.proofs.NodeLemmas.{touch_does}
 use Rattle.lt_node.proofs.StoredLemmas.{same_core, same_count}

@@ -1,10 +1,10 @@
 -- A letter that fits brings few asks, and so there is room for what it says.
-use Rattle.std.proofs.Common.{Result, Ok, Err, OnOk, ◌≡◌, ◌+◌, ◌≤◌, ◌<◌, ◌==◌, ◌++◌, ◌&&◌, ◌||◌, ◌^◌, Bool, true, false, ℕ, zero, suc, List, [], ◌∷◌, length, nat_lt, nat_le, refl, sym, arith, if◌then◌else◌, slice_index_or, slice_set, ap, subst, ◌∙◌, not, is_none, slice_index, leb-true, ltb-true, eq-eqb, ne_eqb}
+use Rattle.std.proofs.Common.{Result, Ok, Err, OnOk, ◌≡◌, ◌+◌, ◌≤◌, ◌<◌, ◌==◌, ◌++◌, ◌&&◌, ◌||◌, ◌^◌, true, false, ℕ, List, [], ◌∷◌, length, nat_lt, nat_le, refl, sym, arith, ap, subst, not, is_none, slice_index, leb-true, ltb-true, eq-eqb, ne_eqb}
 use Rattle.std.specs.List.{list_all}
 use Rattle.std.proofs.lemmas.Bool.{and_parts, not-true}
 use Rattle.std.proofs.lemmas.List.{length-map}
 use Rattle.lt_modes.specs.declared.ask.Ask.{Ask}
-use Rattle.lt_modes.specs.State.{SetState, Desk, Made, Post}
+use Rattle.lt_modes.specs.State.{SetState, Desk, Post}
 use Rattle.lt_modes.specs.declared.event.Event.{Event}
 use Rattle.lt_modes.specs.Fits.{Numbers, fits, head_fits, body_fits, token_fits, queue_fits, are_apart, has_client, is_at_home, parked_asks, numbers_of}
 use Rattle.lt_modes.specs.declared.stamp.Stamp.{Stamp}

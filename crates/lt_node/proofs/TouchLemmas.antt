@@ -1,6 +1,5 @@
 -- What a command asks of the sets that it touches.
-use Rattle.std.proofs.Common.{◌≡◌, ◌<◌, ◌≤◌, ◌&&◌, ◌∙◌, Bool, true, ℕ, List, [], ◌∷◌, Option, Some, None, All, IsTrue, length, nat_le, slice_index_or, sum_by, arith, refl, sym, ap, subst, leb-true, ltb-true}
-use Rattle.std.specs.List.{list_all}
+use Rattle.std.proofs.Common.{◌≡◌, ◌<◌, ◌≤◌, ◌&&◌, true, ℕ, List, [], ◌∷◌, Option, Some, length, slice_index_or, arith, refl, sym, subst, leb-true, ltb-true}
 use Rattle.std.proofs.lemmas.Bool.{and_parts}
 use Rattle.std.proofs.lemmas.List.Elements.{All-head}
 use Rattle.std.proofs.lemmas.List.Sums.{AllPass-from_list_all, sum_by-cons}

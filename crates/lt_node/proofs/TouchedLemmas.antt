@@ -184,6 +184,18 @@ counted_out_of_room script n set client k locks counted inside mine none =
 pub related_none : (script : ScriptData) (set k : ℕ) → length script.sets ≤ k → related_from script set k ≡ []
 related_none script set k past = ap (λ (l : List SetData). places_from (λ j (x : SetData). x.family == family script set) k l) (drop_all k script.sets past)
 
+-- where all sets were counted, there is room
+pub counted_all : (script : ScriptData) (n : NodeState) (set client locks : ℕ) → IsCountedTo script n set client (length script.sets) locks
+    → leaves_room_to_obey script n (Some (commands.DropAll client set)) ≡ true
+counted_all script n set client locks counted =
+    let none = related_none script set (length script.sets) (omega arith) in
+    let within : sets_within n (related script set) ≡ true = sym counted.within ∙ ap (sets_within n) none in
+    let asks : sets_leave_asks n (related script set) ≡ true = sym counted.asks ∙ ap (sets_leave_asks n) none in
+    let all : locks_in_sets n client (related script set) ≤ MAX_COMMANDS_OF_SERVICE = omega (arith, counted.few, counted.all, ap (λ (l : List ℕ). locks_in_sets n client l) none) in
+    let few : nat_le (locks_in_sets n client (related script set)) MAX_COMMANDS_OF_SERVICE ≡ true = le-leb (locks_in_sets n client (related script set)) MAX_COMMANDS_OF_SERVICE all in
+    ap (λ (b : Bool). b && (sets_leave_asks n (related script set) && nat_le (locks_in_sets n client (related script set)) MAX_COMMANDS_OF_SERVICE)) within
+    ∙ ap (λ (b : Bool). b && nat_le (locks_in_sets n client (related script set)) MAX_COMMANDS_OF_SERVICE) asks ∙ few
+
 -- the set that a command names is one of the script
 pub named_inside : (script : ScriptData) (client : ℕ) (command : Command) → HasTargets script.sets script.clients client command → named_set command < length script.sets
 named_inside script client (commands.Lock s mode) inside = inside

@@ -158,7 +158,6 @@ pub(crate) fn push_idle(
 }
 
 // The clients of the node get their commands, in order.
-#[tactic(auto, using(crate::proofs::RequestLemmas::none_yet))]
 fn add_requests(
     clients: &mut Vec<Client>,
     script: &Script,

@@ -28,7 +28,6 @@ impl Model for Commands {
 
 impl Commands {
     /// The commands of all clients.
-    #[tactic(auto, using(crate::proofs::CommandLemmas::have_first))]
     pub fn new(alloc: Global, script: &Script) -> Result<Commands, AllocError>
         ensures { IfOk result (HaveFrom script.now 0) }
     {
@@ -48,7 +47,6 @@ impl Commands {
     }
 
     /// The clients before their first command, as the node keeps them: it takes the lists of its own ones.
-    #[tactic(auto, using(crate::proofs::CommandLemmas::have_left))]
     pub(crate) fn take(
         &mut self,
         alloc: Global,
@@ -79,7 +77,6 @@ fn empty_lists(alloc: Global, script: &Script) -> Result<Vec<Client>, AllocError
 }
 
 // The clients get their commands, in order.
-#[tactic(auto, using(crate::proofs::CommandLemmas::none_among))]
 fn add_requests(lists: &mut Vec<Client>, script: &Script) -> Result<(), AllocError>
     requires count { length lists.old.items ≡ length script.now.clients }
     requires idle { (c : ℕ) → progress_of lists.old.items c ≡ no_progress }

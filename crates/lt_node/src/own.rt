@@ -42,7 +42,6 @@ pub(crate) fn own_of(alloc: Global, script: &Script, node: u8) -> Result<Vec<u16
 }
 
 // The list has this client too, where it is one of the node.
-#[tactic(auto, using(crate::proofs::OwnLemmas::own_passed, crate::proofs::OwnLemmas::own_more))]
 fn add_own(own: &mut Vec<u16>, script: &Script, node: u8, client: u16) -> Result<(), AllocError>
     requires client { client < length script.now.clients }
     requires own { AreOwn script.now.clients node 0 client own.old.items }

@@ -1,4 +1,6 @@
-use Rattle.std.proofs.Common.{◌∙◌, sym}
+use Rattle.std.proofs.Common.{◌∙◌, List, arith, refl, subst, sym, take_all}
+use Rattle.lt_modes.specs.declared.ask.Ask.{Ask}
+use Rattle.lt_node.specs.Sets.{WaitMore}
 use Rattle.lt_node.proofs.CountLemmas.{WaitMore_new, WaitMore_old, still_few}
 use Rattle.lt_node.proofs.counts.wait_more.Goals.{then-is_first, else-is_first}
 use Rattle.lt_node.proofs.counts.wait_more.Goals as goal
@@ -18,3 +20,10 @@ loop-k-preserved c = elim c.if-is_first.branch [
       WaitMore_old c.args.asks.now c.loop-k.k c.args.counts.now.items c.loop-k.counts.items c.loop-k-test.true
       (sym c.is_first.ensures ∙ w.if-is_first.false) c.loop-k.invariant)
 ]
+
+pub loop-k-init : goal.loop-k-init
+loop-k-init c = record { count = refl; each = λ client inside. omega arith }
+
+pub returns : goal.returns
+returns c =
+    subst (λ (asks : List Ask). WaitMore asks c.args.counts.now.items c.loop-k.counts.items) (take_all c.loop-k.k c.args.asks.now c.loop-k-test.false) c.loop-k.invariant

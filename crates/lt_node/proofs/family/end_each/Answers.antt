@@ -1,5 +1,5 @@
-use Rattle.std.proofs.Common.{arith}
-use Rattle.lt_node.proofs.FamilyLemmas.{at_ended, at_next, at_past, at_start, walk_here, walk_on, walk_start}
+use Rattle.std.proofs.Common.{◌<◌, ℕ, arith, subst, sym}
+use Rattle.lt_node.proofs.FamilyLemmas.{at_ended, at_next, at_past, at_start, walk_here, walk_on, walk_over, walk_smaller, walk_start}
 use Rattle.lt_node.proofs.family.end_each.Goals as goal
 
 pub loop-next-init : goal.loop-next-init
@@ -28,3 +28,25 @@ loop-next-preserved c =
     (at_past c.args.script.now c.args.stamp c.args.dropped c.args.set c.args.sets.now c.args.out.now c.end.new.self c.end.new.out)
     (at_ended c.args.script.now c.args.stamp c.args.dropped c.args.set c.args.sets.now c.args.out.now c.in-Some.k c.loop-next.sets c.end.new.self c.loop-next.out c.end.new.out
     here.at here.inside here.mine c.end.ensures.does c.end.ensures.send)
+
+pub first_related-requires : goal.first_related-requires
+first_related-requires c = c.requires.set
+
+pub next_related-next-requires : goal.next_related-next-requires
+next_related-next-requires c = (walk_here c.loop-next.next c.in-Some.k c.loop-next.invariant c.in-Some.is).inside
+
+pub loop-next-smaller : goal.loop-next-smaller
+loop-next-smaller c =
+    let here = walk_here c.loop-next.next c.in-Some.k c.loop-next.invariant c.in-Some.is in
+    walk_smaller c.args.script.now c.in-Some.k c.loop-next.next c.next_related-next.result c.in-Some.is here.inside c.next_related-next.ensures.next
+
+pub end-requires-clause-set : goal.end-requires-clause-set
+end-requires-clause-set c =
+    let here = walk_here c.loop-next.next c.in-Some.k c.loop-next.invariant c.in-Some.is in
+    subst (λ (n : ℕ). c.in-Some.k < n) (sym here.at.of.count) here.inside
+
+pub end-requires-clause-node : goal.end-requires-clause-node
+end-requires-clause-node c = sym (walk_here c.loop-next.next c.in-Some.k c.loop-next.invariant c.in-Some.is).at.of.node
+
+pub returns-clause-sets : goal.returns-clause-sets
+returns-clause-sets c = (walk_over c.loop-next.next c.loop-next.invariant c.in_default.is).of

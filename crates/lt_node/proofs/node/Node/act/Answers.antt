@@ -1,9 +1,9 @@
-use Rattle.std.proofs.Common.{◌≡◌, ◌∙◌, ◌+◌, ℕ, List, Some, ap, arith, subst, sym}
+use Rattle.std.proofs.Common.{◌≡◌, ◌∙◌, ◌+◌, ℕ, Some, ap, arith, sym}
 use Rattle.lt_modes.specs.declared.stamp.Stamp.{Stamp}
 use Rattle.lt_modes.specs.Script.{ScriptData}
 use Rattle.lt_spec.specs.NodeMove.{NodeState}
-use Rattle.lt_node.specs.NodeData.{AreReady, core_at, first_core, state_of}
-use Rattle.lt_node.specs.Touched.{drops_few, touched_sets}
+use Rattle.lt_node.specs.NodeData.{state_of}
+use Rattle.lt_node.specs.Touched.{drops_few}
 use Rattle.lt_node.specs.Clients.{answer_to, answer_if}
 use Rattle.lt_node.proofs.DropLemmas.{answer_after}
 use Rattle.lt_node.proofs.TouchLemmas.{few_after, few_to_act, ready_after, ready_to_act}

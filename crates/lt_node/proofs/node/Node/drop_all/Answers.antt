@@ -1,4 +1,4 @@
-use Rattle.std.proofs.Common.{◌≡◌, ◌∙◌, ◌≤◌, ap, arith, None, refl, Some, sym}
+use Rattle.std.proofs.Common.{◌≡◌, ◌∙◌, ap, arith, None, refl, Some, sym}
 use Rattle.lt_modes.specs.declared.event.Event.TheVariants as events
 use Rattle.lt_core.specs.declared.set_command.Answer.TheVariants.{Dropped}
 use Rattle.lt_spec.specs.NodeMove.{related, node_waits, locks_in_sets}

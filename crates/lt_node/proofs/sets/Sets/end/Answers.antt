@@ -1,14 +1,10 @@
-use Rattle.std.proofs.Common.{◌≡◌, ◌+◌, ◌∙◌, ap, arith, length, subst, sym}
-use Rattle.lt_desk.specs.DeskData.{OutData, FitsOut}
-use Rattle.lt_desk.specs.LetterSeen.{letter_seen}
-use Rattle.lt_modes.specs.SetMove.{take}
+use Rattle.std.proofs.Common.{◌+◌, ◌∙◌, ap, length, subst, sym}
 use Rattle.lt_core.specs.Bound.{RoomToSend}
-use Rattle.lt_core.specs.CoreData.{CoreData, HasRoom, RoomForBody, move_of}
-use Rattle.lt_node.specs.NodeData.{IsSetReady, ending, most_sent}
+use Rattle.lt_core.specs.CoreData.{CoreData, HasRoom}
+use Rattle.lt_node.specs.NodeData.{ending, most_sent}
 use Rattle.lt_node.specs.Sets.{SetsData}
 use Rattle.lt_node.proofs.CountLemmas.{few_left}
-use Rattle.lt_node.proofs.StoredLemmas.{InHand, has_place, in_hand, in_places, may_leave, set_moved, stored_moved}
-use Rattle.lt_node.proofs.TouchLemmas.{room_at, fits_at}
+use Rattle.lt_node.proofs.StoredLemmas.{has_place, in_hand, in_places, may_leave, set_moved, stored_moved}
 use Rattle.lt_node.specs.Sets.{core_of}
 use Rattle.lt_node.proofs.sets.Sets.end.Goals as goal
 

@@ -1,5 +1,4 @@
 use Rattle.std.proofs.Common.{◌∙◌, ℕ, ap, arith, refl}
-use Rattle.lt_modes.specs.State.{first_state}
 use Rattle.lt_node.specs.NodeData.{untouched}
 use Rattle.lt_node.proofs.SetsLemmas.{none_count, none_placed, none_stored, none_touched}
 use Rattle.lt_node.proofs.sets.Sets.new.Goals as goal

@@ -1,4 +1,4 @@
-use Rattle.std.proofs.Common.{◌≡◌, ◌+◌, ◌∙◌, IsOk, OnOk, ap, arith, subst, sym}
+use Rattle.std.proofs.Common.{◌∙◌, IsOk, OnOk, ap, arith, subst, sym}
 use Rattle.std.proofs.lemmas.Bool.{false≢true}
 use Rattle.lt_modes.specs.State.{SetState}
 use Rattle.lt_core.specs.CoreData.{CoreData, HasMemory, waiting_here}

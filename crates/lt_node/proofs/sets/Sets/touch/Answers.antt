@@ -1,7 +1,7 @@
-use Rattle.std.proofs.Common.{◌≡◌, ◌+◌, ◌++◌, ◌∙◌, List, [], ◌∷◌, ap, arith, length-set, slice_index_or, sym}
+use Rattle.std.proofs.Common.{◌+◌, ◌++◌, ◌∙◌, List, [], ◌∷◌, ap, arith, length-set, slice_index_or, sym}
 use Rattle.lt_core.specs.CoreData.{CoreData}
-use Rattle.lt_node.specs.Sets.{SetsData, core_in}
-use Rattle.lt_node.proofs.SetsLemmas.{core_is_of, made_here, made_kept, made_other, made_touched, stored_more}
+use Rattle.lt_node.specs.Sets.{SetsData}
+use Rattle.lt_node.proofs.SetsLemmas.{core_is_of, made_kept, made_other, made_touched, stored_more}
 use Rattle.lt_node.proofs.StoredLemmas.{core_seen, in_places, none_with_room, place_read, same_sets}
 use Rattle.lt_node.proofs.sets.Sets.touch.Goals as goal
 
