@@ -98,8 +98,7 @@ pub none_left : (me : ℕ) (s : SetState) (d : Desk) (before : Modes) (k n : ℕ
     → next_from me s d before k (drop k asks) ≡ service → first_of draw (draw_from me s d before k (drop k asks)) ≡ all
     → (service ≡ None) × (first_of draw None ≡ all)
 none_left me s d before k n asks service draw all is end served drawn =
-    let gone : drop k asks ≡ [] = drop_all k asks (subst (λ m. m ≤ k) is end) in
-    (
+    let gone : drop k asks ≡ [] = drop_all k asks (subst (λ m. m ≤ k) is end) in (
       sym served ∙ ap (next_from me s d before k) gone,
       sym (ap (λ (rest : List Ask). first_of draw (draw_from me s d before k rest)) gone) ∙ drawn,
     )
