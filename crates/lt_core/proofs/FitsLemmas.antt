@@ -73,6 +73,16 @@ none_left P xs n k is h = sym (ap P (drop_all k xs (subst (λ m. m ≤ k) is h))
 pub is_place : (k n m : ℕ) → k < n → n ≡ m → k < m
 is_place k n m h is = subst (λ x. k < x) is h
 
+-- from a place on
+from_place : {X : Type 0} → (xs : List X) (d : X) (k : ℕ) → k < length xs → drop k xs ≡ slice_index_or xs k d ∷ drop (suc k) xs
+from_place [] d k h = absurd (omega (arith, h))
+from_place (x ∷ rest) d zero h = refl
+from_place (x ∷ rest) d (suc k) h = from_place rest d k (omega (arith, h))
+
+pub any_step : (client : ℕ) (queue : List Ask) (k : ℕ) → k < length queue
+    → has_client client (drop k queue) ≡ ((slice_index_or queue k no_ask).client == client || has_client client (drop (suc k) queue))
+any_step client queue k h = ap (λ (asks : List Ask). has_client client asks) (from_place queue no_ask k h)
+
 -- two asks are of one client, among the asks before and those after
 pub apart_step : (queue more : List Ask) (k : ℕ) → k < length queue
     → are_apart (drop k queue ++ more)
