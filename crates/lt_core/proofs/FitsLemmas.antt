@@ -1,5 +1,5 @@
 -- Tests of all asks, or of some, from a place on.
-use Rattle.std.proofs.Common.{◌≡◌, ◌==◌, ◌∙◌, ◌+◌, ◌<◌, ◌++◌, ◌||◌, ◌&&◌, not, ◌≤◌, ℕ, Bool, List, [], ◌∷◌, length, map, drop, refl, sym, ap, subst, eq-eqb, ne_eqb, find, Some, if◌then◌else◌, ◌≢◌, true, false, filter_map, slice_index_or}
+use Rattle.std.proofs.Common.{◌≡◌, ◌==◌, ◌∙◌, ◌+◌, ◌<◌, ◌++◌, ◌||◌, ◌&&◌, not, ◌≤◌, ℕ, Bool, List, [], ◌∷◌, length, map, drop, refl, sym, ap, subst, arith, zero, suc, eq-eqb, ne_eqb, find, Some, if◌then◌else◌, ◌≢◌, true, false, filter_map, slice_index_or}
 use Rattle.std.specs.List.{list_all}
 use Rattle.std.proofs.lemmas.List.Folds.{list_any-append}
 use Rattle.lt_modes.specs.declared.ask.Ask.{Ask}
@@ -39,6 +39,18 @@ pub any_goes_on : {X : Type 0} (P : List X → Bool) (test : X → List X → Bo
 any_goes_on P test xs d k b cons h is e =
     sym (ap P (drop_more xs k d h) ∙ (cons (slice_index_or xs k d) (drop (k + 1) xs) ∙ ap (λ t. t || P (drop (k + 1) xs)) (sym is ∙ e)))
 
+-- the item at a place of what is parked, as the rules see it
+item_at : (items : List Parked) (k : ℕ) (x : Parked) → k < length (map parked_seen items) → x ≡ slice_index_or items k x
+    → slice_index_or (map parked_seen items) k (rules.ParkedAsk no_ask) ≡ parked_seen x
+item_at [] k x h is = absurd (omega arith)
+item_at (y ∷ rest) zero x h is = ap parked_seen (sym is)
+item_at (y ∷ rest) (suc k) x h is = item_at rest k x (omega (arith, h)) is
+
+pub item_is : (parked : List rules.Parked) (items : List Parked) (k : ℕ) (x : Parked) → map parked_seen items ≡ parked → k < length parked → x ≡ slice_index_or items k x
+    → slice_index_or parked k (rules.ParkedAsk no_ask) ≡ parked_seen x
+item_is parked items k x seen h is =
+    subst (λ list. slice_index_or list k (rules.ParkedAsk no_ask) ≡ parked_seen x) seen (item_at items k x (subst (λ list. k < length list) (sym seen) h) is)
+
 -- the first ask of a client
 pub found_here : (client : ℕ) (xs : List Ask) (k : ℕ) (x : Ask) → k < length xs → x ≡ slice_index_or xs k no_ask → x.client ≡ client
     → Some x ≡ find (λ (ask : Ask). ask.client == client) (drop k xs)
@@ -60,6 +72,16 @@ none_left P xs n k is h = sym (ap P (drop_all k xs (subst (λ m. m ≤ k) is h))
 
 pub is_place : (k n m : ℕ) → k < n → n ≡ m → k < m
 is_place k n m h is = subst (λ x. k < x) is h
+
+-- from a place on
+from_place : {X : Type 0} → (xs : List X) (d : X) (k : ℕ) → k < length xs → drop k xs ≡ slice_index_or xs k d ∷ drop (suc k) xs
+from_place [] d k h = absurd (omega (arith, h))
+from_place (x ∷ rest) d zero h = refl
+from_place (x ∷ rest) d (suc k) h = from_place rest d k (omega (arith, h))
+
+pub any_step : (client : ℕ) (queue : List Ask) (k : ℕ) → k < length queue
+    → has_client client (drop k queue) ≡ ((slice_index_or queue k no_ask).client == client || has_client client (drop (suc k) queue))
+any_step client queue k h = ap (λ (asks : List Ask). has_client client asks) (from_place queue no_ask k h)
 
 -- two asks are of one client, among the asks before and those after
 pub apart_step : (queue more : List Ask) (k : ℕ) → k < length queue

@@ -1,5 +1,5 @@
 -- What is left where a step leaves places for asks, letters and lines.
-use Rattle.std.proofs.Common.{◌≡◌, ℕ, ◌+◌, ◌≤◌, ◌<◌, Bool, true, false, List, [], ◌∷◌, ◌++◌, length, sym, ap, subst, arith, length-append, Option, Some, None, if◌then◌else◌, filter_map, ◌&&◌, ◌==◌, not}
+use Rattle.std.proofs.Common.{◌≡◌, ◌∙◌, refl, ℕ, ◌+◌, ◌≤◌, ◌<◌, Bool, true, false, List, [], ◌∷◌, ◌++◌, length, drop, sym, ap, subst, arith, length-append, Option, Some, None, if◌then◌else◌, filter_map, ◌&&◌, ◌==◌, not}
 use Rattle.lt_modes.specs.Modes.{excludes_itself}
 use Rattle.lt_modes.specs.State.{Parked, ParkedAsk, ParkedTell, Post}
 use Rattle.lt_modes.specs.Fits.{ask_if}
@@ -51,6 +51,14 @@ room_to_deal before total room places item items rest split e h same =
 
 pub fewer_left : {X : Type 0} (x : X) (items rest : List X) → items ≡ x ∷ rest → length rest < length items
 fewer_left x items rest split = omega (arith, ap length split)
+
+-- where nothing came off, nothing is left
+pub nothing_left : {X : Type 0} (items rest : List X) → items ≡ rest → rest ≡ drop 1 items → items ≡ []
+nothing_left [] rest same less = refl
+nothing_left (x ∷ items) rest same less = absurd (omega (arith, ap length (same ∙ less)))
+
+pub all_dealt : (n total : ℕ) (items : List Parked) → items ≡ [] → n + length (filter_map ask_if items) ≡ total → n ≡ total
+all_dealt n total items none e = omega (arith, e, ap (λ l. length (filter_map ask_if l)) none)
 
 -- hoped links take no room
 reversed_by : (k clock : ℕ) (core : CoreData) (hoped : Option Hoped) (b : Bool) → HasRoom k clock core

@@ -1,10 +1,12 @@
 -- One place of the queue further.
-use Rattle.std.proofs.Common.{◌≡◌, ◌∙◌, ℕ, ◌+◌, ◌<◌, Bool, true, false, List, length, drop, drop-cons, Option, Some, None, refl, sym, ap, add-one, slice_index_or, if◌then◌else◌, IfSome}
+use Rattle.std.proofs.Common.{◌≡◌, ◌∙◌, ℕ, ◌+◌, ◌<◌, ◌≤◌, Bool, true, false, List, [], length, drop, drop-cons, Option, Some, None, refl, sym, ap, subst, add-one, slice_index_or, if◌then◌else◌, IfSome}
 use Rattle.lt_modes.specs.declared.ask.Ask.{Ask}
 use Rattle.lt_modes.specs.Modes.{Modes, with_mode}
 use Rattle.lt_modes.specs.State.{no_ask, SetState, Desk}
 use Rattle.lt_modes.specs.Serving.{is_served, may_draw, next_from, draw_from}
-use Rattle.lt_desk.specs.Picks.{first_of}
+use Rattle.std.proofs.lemmas.List.{drop_all}
+use Rattle.lt_desk.specs.Picks.{first_of, hand_over_or_none, IsInQueue}
+use Rattle.lt_desk.specs.declared.pick.Pick.TheVariants.{Local, Copy}
 
 pub next_found : (me : ℕ) (s : SetState) (d : Desk) (before : Modes) (k : ℕ) (asks : List Ask) → k < length asks
     → is_served me s d before (slice_index_or asks k no_ask) ≡ true → next_from me s d before k (drop k asks) ≡ Some k
@@ -77,3 +79,26 @@ pub first_within : (draw next : Option ℕ) (t : Bool) (k n : ℕ) → k < n →
 first_within (Some j) next t k n h is before = rw is before
 first_within None next true k n h is before = rw is h
 first_within None next false k n h is before = rw is before
+
+-- ---- places of the queue
+
+pub service_within : (n k : ℕ) (b : Bool) → k < n → IsInQueue n (if b then Local k else Copy k)
+service_within n k true h = h
+service_within n k false h = h
+
+pub draw_within : (n : ℕ) (draw : Option ℕ) → IfSome draw (λ j. j < n) → IsInQueue n (hand_over_or_none draw)
+draw_within n None h = tt
+draw_within n (Some j) h = h
+
+pub is_place : (k n m : ℕ) → k < n → n ≡ m → k < m
+is_place k n m h is = subst (λ x. k < x) is h
+
+-- at the end no ask is left that is served, and none that may draw the desk
+pub none_left : (me : ℕ) (s : SetState) (d : Desk) (before : Modes) (k n : ℕ) (asks : List Ask) (service draw all : Option ℕ) → n ≡ length asks → n ≤ k
+    → next_from me s d before k (drop k asks) ≡ service → first_of draw (draw_from me s d before k (drop k asks)) ≡ all
+    → (service ≡ None) × (first_of draw None ≡ all)
+none_left me s d before k n asks service draw all is end served drawn =
+    let gone : drop k asks ≡ [] = drop_all k asks (subst (λ m. m ≤ k) is end) in (
+      sym served ∙ ap (next_from me s d before k) gone,
+      sym (ap (λ (rest : List Ask). first_of draw (draw_from me s d before k rest)) gone) ∙ drawn,
+    )

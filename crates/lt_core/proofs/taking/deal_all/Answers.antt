@@ -2,7 +2,7 @@ use Rattle.std.proofs.Common.{◌≡◌, ◌∙◌, ◌∷◌, List, ap, fold, m
 use Rattle.lt_modes.specs.SetMove.{dealt}
 use Rattle.lt_modes.specs.State.{Parked}
 use Rattle.lt_desk.specs.LetterSeen.{parked_seen}
-use Rattle.lt_core.proofs.StepLemmas.{no_longer, same_least, queue_dealt, room_to_deal, fewer_left}
+use Rattle.lt_core.proofs.StepLemmas.{no_longer, same_least, queue_dealt, room_to_deal, fewer_left, nothing_left, all_dealt}
 use Rattle.lt_core.proofs.taking.deal_all.Goals as goal
 
 pub loop-item-init : goal.loop-item-init
@@ -43,3 +43,27 @@ loop-item-preserved c =
       room = c.deal.ensures.room ∙ inv.room;
       spare = no_longer _ _ _ inv.spare c.deal.ensures.spare;
     }
+
+pub returns-clause-desk : goal.returns-clause-desk
+returns-clause-desk c =
+    let none = ap (map parked_seen) (nothing_left c.loop-item.parked.items c.pop_front.new.self.items c.in_default.ensures.items c.in_default.ensures.rest) in
+    sym (ap (λ (items : List Parked). fold dealt c.loop-item.desk.desk items) none) ∙ c.loop-item.invariant.desk
+
+pub returns-clause-parked : goal.returns-clause-parked
+returns-clause-parked c =
+    let none = nothing_left c.loop-item.parked.items c.pop_front.new.self.items c.in_default.ensures.items c.in_default.ensures.rest in
+    (sym c.in_default.ensures.items ∙ none, c.in_default.ensures.capacity ∙ c.loop-item.invariant.capacity)
+
+pub returns-clause-queue : goal.returns-clause-queue
+returns-clause-queue c =
+    let none = ap (map parked_seen) (nothing_left c.loop-item.parked.items c.pop_front.new.self.items c.in_default.ensures.items c.in_default.ensures.rest) in
+    all_dealt _ _ (map parked_seen c.loop-item.parked.items) none c.loop-item.invariant.queue
+
+pub returns-clause-numbers : goal.returns-clause-numbers
+returns-clause-numbers c = (c.loop-item.invariant.epoch, c.loop-item.invariant.number)
+
+pub returns-clause-room : goal.returns-clause-room
+returns-clause-room c = c.loop-item.invariant.room
+
+pub returns-clause-spare : goal.returns-clause-spare
+returns-clause-spare c = c.loop-item.invariant.spare

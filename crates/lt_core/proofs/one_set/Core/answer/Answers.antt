@@ -52,8 +52,7 @@ returns-clause-does c =
 
 pub returns-clause-room : goal.returns-clause-room
 returns-clause-room c =
-    let before = c.self.inside in
-    (
+    let before = c.self.inside in (
       subst (λ (k : CoreData). k.room ≤ room_by before.desk c.give.new.held.spare + 1) c.self.view_is (room_by_more before.desk 1 before.held.spare c.give.new.held.spare c.give.ensures.spare),
       ap (λ (k : CoreData). k.parked_room) c.self.view_is,
     )

@@ -3,13 +3,6 @@ use Rattle.lt_modes.specs.Modes.{has, covers}
 use Rattle.lt_core.specs.CoreData.{CoreData}
 use Rattle.lt_core.proofs.one_set.Core.is_charged.Goals as goal
 
-pub returns-then-covers : goal.returns-then-covers
-returns-then-covers c =
-    let mode = c.args.mode in
-    let frozen = not (has mode c.self.inside.frozen) in
-    subst (λ (k : CoreData). not c.has.result ≡ (covers k.state.charge mode && not (has mode k.state.frozen))) c.self.view_is
-    (ap not c.has.ensures ∙ ap (λ (t : Bool). t && frozen) (sym (sym c.covers.ensures ∙ c.if-covers.true)))
-
 pub returns-else-covers : goal.returns-else-covers
 returns-else-covers c =
     let mode = c.args.mode in

@@ -63,8 +63,7 @@ returns-clause-does c =
 
 pub returns-clause-room : goal.returns-clause-room
 returns-clause-room c =
-    let before = c.self.inside in
-    (
+    let before = c.self.inside in (
       subst (λ (core : CoreData). core.room ≤ room_by (Some c.copy-ask.new.self) before.held.spare + 1) c.self.view_is
           (desk_room before.desk c.in-Some.desk c.copy-ask.new.self 1 before.held.spare c.in-Some.is c.copy-ask.ensures.room c.copy-ask.ensures.spare),
       ap (λ (core : CoreData). core.parked_room) c.self.view_is,

@@ -1,4 +1,4 @@
-use Rattle.std.proofs.Common.{◌≡◌, ◌∙◌, ◌+◌, [], ◌∷◌, ◌++◌, Some, None, slice_index_or, map, ap, refl}
+use Rattle.std.proofs.Common.{◌≡◌, ◌∙◌, ◌+◌, ◌<◌, [], ◌∷◌, ◌++◌, Some, None, length, slice_index_or, map, ap, refl, subst, sym}
 use Rattle.lt_modes.specs.declared.event.Event.TheVariants.{Token}
 use Rattle.lt_modes.specs.State.{SetState, Desk, TokenBody, post_of, no_ask}
 use Rattle.lt_modes.specs.Serving.{leaving, without_desk}
@@ -6,7 +6,18 @@ use Rattle.lt_link.specs.LinksData.{LinksData}
 use Rattle.lt_desk.specs.DeskData.{OutData}
 use Rattle.lt_desk.specs.LetterSeen.{parked_seen}
 use Rattle.lt_core.specs.CoreData.{CoreData, desk_seen}
+use Rattle.lt_core.proofs.StepLemmas.{line_left, post_left}
 use Rattle.lt_core.proofs.one_set.Core.send_desk.Goals as goal
+
+pub hand_over-requires : goal.hand_over-requires
+hand_over-requires c = c.requires.epoch
+
+pub push_event-requires : goal.push_event-requires
+push_event-requires c = line_left _ c.args.out.now c.requires.fits.events
+
+pub push_letter-requires : goal.push_letter-requires
+push_letter-requires c =
+    subst (λ (out : OutData). length out.posts < out.post_room) (sym c.push_event.ensures) (post_left _ c.args.out.now c.requires.fits.posts)
 
 pub returns : goal.returns
 returns c =
