@@ -1,7 +1,7 @@
 use lt_modes::Mode;
 
 /// What a client's command does in the set of a core.
-#[derive(Clone, Copy)]
+#[derive(Clone, Copy, Debug, PartialEq, Eq)]
 pub enum SetCommand {
     Lock(Mode),
     Try(Mode),
@@ -12,7 +12,7 @@ pub enum SetCommand {
 }
 
 /// What the client of a move is told at once.
-#[derive(Clone, Copy)]
+#[derive(Clone, Copy, Debug, PartialEq, Eq)]
 pub enum Answer {
     Granted,
     /// The node can't grant the lock yet; the client's ask goes to the desk.
