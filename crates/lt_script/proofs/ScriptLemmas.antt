@@ -144,11 +144,9 @@ most_within version = elim (version == 1) as (λ t. (if t then MAX_CLIENTS_OF_FI
   | false ↦ omega arith
 ]
 
--- what is read of a set's family
-pub family_read : (sets read : List SetData) (set family : ℕ) (x : SetData) → read ≡ sets → set < length sets → x ≡ get_or read set x → family ≡ x.family → family ≡ family_at sets set
-family_read sets read set family x same inside is told =
-    let there : slice_get sets set ≡ Some x = slice_get_read sets (length sets) set x refl inside (is ∙ ap (λ (l : List SetData). get_or l set x) same) in
-    told ∙ sym (ap family_of_set there)
+-- what is read at a place of the same list
+pub read_at : {X : Type 0} (xs read : List X) (k : ℕ) (x : X) → read ≡ xs → k < length xs → x ≡ get_or read k x → slice_get xs k ≡ Some x
+read_at {X} xs read k x same inside is = slice_get_read xs (length xs) k x refl inside (is ∙ ap (λ (l : List X). get_or l k x) same)
 
 -- no set before the first one of a family is of it
 pub none_earlier : (s : ScriptData) (set family k : ℕ) → IsScript s → set < length s.sets → family ≤ set → k < family → family_at s.sets k ≢ family
