@@ -85,6 +85,10 @@ linked_more at place lasts befores more inside earlier here h = record { of_spot
           (subst (λ (link : ℕ). IsLink at (at place) place link) (sym here) (h.of_spots (at place) inside))
     ]
 
+-- the place of a link
+pub place_inside : (link count : ℕ) → 0 < link → link ≤ count → link - 1 < count
+place_inside link count some within = omega (arith, some, within)
+
 -- one more item is copied
 pub copied_more : {T : Type 0} (items copy next : List T) (k : ℕ) (x y : T) → next ≡ copy ++ y ∷ [] → copy ≡ take k items → y ≡ x → x ≡ get_or items k x → k < length items → next ≡ take (k + 1) items
 copied_more {T} items copy next k x y more so_far same is inside =
@@ -166,18 +170,18 @@ module _ {T : Type 0} (name_of : T → List ℕ) where
       }
 
   -- the same by what became of the items and the links
-  pub index_pushed_so : (items more_items : List T) (x : T) (lasts more_lasts befores reserved more_befores : List ℕ) (hash : ℕ) → IsIndex name_of items lasts befores
-      → position (λ y. bytes_eq (name_of y) (name_of x)) items ≡ None → length items < 2 ^ 31 → hash ≡ hash_of (name_of x) → more_items ≡ items ++ x ∷ [] → reserved ≡ befores
+  pub index_pushed_so : (items room more_items : List T) (x : T) (lasts more_lasts befores reserved more_befores : List ℕ) (hash : ℕ) → IsIndex name_of items lasts befores
+      → position (λ y. bytes_eq (name_of y) (name_of x)) items ≡ None → length items < 2 ^ 31 → hash ≡ hash_of (name_of x) → room ≡ items → more_items ≡ room ++ x ∷ [] → reserved ≡ befores
       → more_lasts ≡ slice_set lasts (bit_and hash (length lasts - 1)) (length reserved + 1) → more_befores ≡ reserved ++ slice_index lasts (bit_and hash (length lasts - 1)) ∷ []
       → IsIndex name_of more_items more_lasts more_befores
-  index_pushed_so items more_items x lasts more_lasts befores reserved more_befores hash h new few hashed of_items same of_lasts of_befores =
+  index_pushed_so items room more_items x lasts more_lasts befores reserved more_befores hash h new few hashed kept of_items same of_lasts of_befores =
       let spot = spot_of (length lasts) (name_of x) in
       let here : bit_and hash (length lasts - 1) ≡ spot = ap (λ (n : ℕ). bit_and n (length lasts - 1)) hashed in
       let set : more_lasts ≡ slice_set lasts spot (length items + 1) =
       of_lasts ∙ ap (λ (n : ℕ). slice_set lasts n (length reserved + 1)) here ∙ ap (λ (n : ℕ). slice_set lasts spot (n + 1)) (ap length same ∙ h.count) in
       let pushed : more_befores ≡ befores ++ slice_index lasts spot ∷ [] =
       of_befores ∙ ap (λ (l : List ℕ). l ++ slice_index lasts (bit_and hash (length lasts - 1)) ∷ []) same ∙ ap (λ (n : ℕ). befores ++ slice_index lasts n ∷ []) here in
-      rw (of_items, set, pushed) (index_pushed items x lasts befores h new few)
+      rw (of_items, kept, set, pushed) (index_pushed items x lasts befores h new few)
 
   -- a further item is linked where the items are linked anew
   pub linked_step : (items : List T) (x : T) (place spots spot hash : ℕ) (lasts befores name : List ℕ) → slice_get items place ≡ Some x → place < length befores → name ≡ name_of x

@@ -10,3 +10,4 @@ pub mod PrintedLines
 pub mod PrintedSoFar
 pub mod RoundTrips
 pub mod RoundTrip
+pub mod LineLemmas

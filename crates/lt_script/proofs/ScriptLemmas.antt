@@ -1,5 +1,5 @@
 -- What is added to a script leaves a script.
-use Rattle.std.proofs.Common.{◌≡◌, ◌≢◌, ℕ, zero, suc, ◌+◌, ◌^◌, ◌<◌, ◌≤◌, ◌==◌, ◌⊎◌, cond, List, [], ◌∷◌, ◌++◌, length, Some, true, false, slice_get, get_or, refl, sym, ap, subst, ◌∙◌, inl, inr, arith, eq-eqb, ne_eqb, if◌then◌else◌, bytes_eq}
+use Rattle.std.proofs.Common.{◌≡◌, ◌≢◌, ℕ, zero, suc, ◌+◌, ◌^◌, ◌<◌, ◌≤◌, ◌==◌, ◌⊎◌, cond, List, [], ◌∷◌, ◌++◌, length, Option, Some, None, is_some, true, false, slice_get, get_or, refl, sym, ap, subst, ◌∙◌, inl, inr, arith, eq-eqb, ne_eqb, lt-ltb, le-ltb, if◌then◌else◌, bytes_eq}
 use Rattle.std.proofs.lemmas.Bool.{cases_eq, cases_lt}
 use Rattle.std.proofs.lemmas.List.{length_push}
 use Rattle.std.proofs.lemmas.List.Elements.{All-nil, All-push}
@@ -9,7 +9,9 @@ use Rattle.lt_modes.specs.declared.command.Command.{Command}
 use Rattle.lt_modes.specs.declared.command.Command.TheVariants.{Lock, Try, Unlock, Change, DropAll}
 use Rattle.lt_modes.specs.Script.{ScriptData, SetData, ClientData, family_at, home_at, name_of_set, family_of_set, name_of_client, node_of_client}
 use Rattle.lt_spec.specs.declared.limits.TheConstants.{MAX_SETS_OF_SERVICE, MAX_CLIENTS, MAX_CLIENTS_OF_FIRST, MAX_CLIENTS_OF_NODE, MAX_COMMANDS_OF_SERVICE}
-use Rattle.lt_spec.specs.Script.{is_name, IsScript, IsFamilyOfNext, IsRequest, HasModesOf, HasTargets, most_clients, load_of, is_declared}
+use Rattle.lt_spec.specs.Script.{is_name, IsScript, IsFamilyOfNext, IsRequest, HasModesOf, HasTargets, most_clients, load_of, set_number, client_number, is_declared}
+use Rattle.lt_script.specs.ByName.{has_parent, new_set}
+use Rattle.lt_script.specs.declared.script.by_name.SetByName.TheVariants.{Set, TooMany}
 use Rattle.lt_script.proofs.NameLemmas.{found_stays, found_last, found_never, is_new, same_name, set_not_client}
 
 pub get_front : {X : Type 0} → (xs : List X) (y : X) (k : ℕ) → k < length xs → slice_get (xs ++ y ∷ []) k ≡ slice_get xs k
@@ -142,15 +144,26 @@ most_within version = elim (version == 1) as (λ t. (if t then MAX_CLIENTS_OF_FI
   | false ↦ omega arith
 ]
 
--- what is read of a set's family
-pub family_read : (sets read : List SetData) (set family : ℕ) (x : SetData) → read ≡ sets → set < length sets → x ≡ get_or read set x → family ≡ x.family → family ≡ family_at sets set
-family_read sets read set family x same inside is told =
-    let there : slice_get sets set ≡ Some x = slice_get_read sets (length sets) set x refl inside (is ∙ ap (λ (l : List SetData). get_or l set x) same) in
-    told ∙ sym (ap family_of_set there)
+-- what is read at a place of the same list
+pub read_at : {X : Type 0} (xs read : List X) (k : ℕ) (x : X) → read ≡ xs → k < length xs → x ≡ get_or read k x → slice_get xs k ≡ Some x
+read_at {X} xs read k x same inside is = slice_get_read xs (length xs) k x refl inside (is ∙ ap (λ (l : List X). get_or l k x) same)
 
 -- no set before the first one of a family is of it
 pub none_earlier : (s : ScriptData) (set family k : ℕ) → IsScript s → set < length s.sets → family ≤ set → k < family → family_at s.sets k ≢ family
 none_earlier s set family k good inside earlier before = λ same. omega (arith, before, same, good.families_not_later k (omega (arith, before, earlier, inside)))
+
+-- a name that neither a set nor a client has is not declared
+pub not_declared : (s : ScriptData) (name : List ℕ) → set_number s name ≡ None → is_some (client_number s name) ≡ false → is_declared s name ≡ false
+not_declared s name no_set no_client = rw (no_set, no_client) refl
+
+-- what such a name comes to, where the parent is a set of the script
+pub set_new : (s : ScriptData) (name : List ℕ) (parent : Option ℕ) (set : ℕ) → is_name name ≡ true → is_some (client_number s name) ≡ false → has_parent s parent ≡ true → set ≡ length s.sets
+    → set < MAX_SETS_OF_SERVICE → Set set ≡ new_set s name parent
+set_new s name parent set named no_client there last room = rw (named, no_client, there, sym last, lt-ltb set MAX_SETS_OF_SERVICE room) refl
+
+pub sets_too_many : (s : ScriptData) (name : List ℕ) (parent : Option ℕ) (set : ℕ) → is_name name ≡ true → is_some (client_number s name) ≡ false → has_parent s parent ≡ true → set ≡ length s.sets
+    → MAX_SETS_OF_SERVICE ≤ set → TooMany ≡ new_set s name parent
+sets_too_many s name parent set named no_client there last full = rw (named, no_client, there, sym last, le-ltb set MAX_SETS_OF_SERVICE full) refl
 
 -- there are few sets and clients for their numbers
 pub few_sets : (count : ℕ) → count < MAX_SETS_OF_SERVICE → count < 2 ^ 31

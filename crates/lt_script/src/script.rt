@@ -252,8 +252,11 @@ impl Script {
 fn load_of(clients: &[ClientDecl], node: u8) -> usize
     ensures { result ≡ load_of clients.now node }
 {
-    clients
-        .iter()
-        .filter(|client| client.node() == node)
-        .count()
+    let mut load = 0;
+    for client in clients {
+        if client.node() == node {
+            load += 1;
+        }
+    }
+    load
 }

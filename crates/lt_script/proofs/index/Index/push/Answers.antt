@@ -21,9 +21,8 @@ invariant_of-self-2 g c =
     let old = c.self.view_is ∙ c.in_ok-grow.ensures in
     let new : position (λ y. bytes_eq (name_of y) (name_of x)) items ≡ None = subst (λ (l : List g.row.T.Denot). position (λ y. bytes_eq (name_of y) (name_of x)) l ≡ None) (sym old) c.requires.new in
     let few : length items < 2 ^ 31 = subst (λ (l : List g.row.T.Denot). length l < 2 ^ 31) (sym old) c.requires.few in
-    index_pushed_so name_of items c.push_reserved.new.self.items x c.self.inside.lasts.items c.link_last.new.lasts.items c.self.inside.befores.items c.reserve_both.new.others.items
-    c.link_last.new.befores.items c.args.hash c.self.invariant new few c.requires.hash (c.push_reserved.ensures.items ∙ ap (λ (l : List g.row.T.Denot). l ++ x ∷ []) c.reserve_both.ensures.items)
-    c.reserve_both.ensures.others c.link_last.ensures.lasts c.link_last.ensures.befores
+    index_pushed_so name_of items c.reserve_both.new.items.items c.push_reserved.new.self.items x c.self.inside.lasts.items c.link_last.new.lasts.items c.self.inside.befores.items c.reserve_both.new.others.items
+    c.link_last.new.befores.items c.args.hash c.self.invariant new few c.requires.hash c.reserve_both.ensures.items c.push_reserved.ensures.items c.reserve_both.ensures.others c.link_last.ensures.lasts c.link_last.ensures.befores
 
 pub returns-clause-pushed : goal.returns-clause-pushed
 returns-clause-pushed g c =

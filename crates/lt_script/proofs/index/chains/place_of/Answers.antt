@@ -1,7 +1,20 @@
-use Rattle.std.proofs.Common.{◌≡◌, ◌∙◌, ◌+◌, ◌-◌, ℕ, List, Some, true, false, length, slice_get, slice_index, refl, sym, ap, subst, arith, bytes_eq, bit_and}
+use Rattle.std.proofs.Common.{◌≡◌, ◌∙◌, ◌+◌, ◌-◌, ◌<◌, ℕ, List, Some, true, false, length, slice_get, slice_index, refl, sym, ap, subst, arith, bytes_eq, bit_and}
 use Rattle.std.proofs.lemmas.Option.{slice_get_read}
-use Rattle.lt_script.proofs.IndexLemmas.{IsSought, sought_first, sought_next, sought_found, sought_none}
+use Rattle.lt_script.proofs.IndexLemmas.{IsSought, place_inside, sought_first, sought_next, sought_found, sought_none}
 use Rattle.lt_script.proofs.index.chains.place_of.Goals as goal
+
+pub bounds-lasts-spot : goal.bounds-lasts-spot
+bounds-lasts-spot g c = c.spot.ensures.inside
+
+pub bounds-items-place : goal.bounds-items-place
+bounds-items-place g c = place_inside c.loop-link.link (length c.args.items.now) c.loop-link-test.true c.loop-link.invariant.within
+
+pub bounds-befores-place : goal.bounds-befores-place
+bounds-befores-place g c =
+    subst (λ (n : ℕ). c.loop-link.link - 1 < n) (sym c.requires.index.count) (place_inside c.loop-link.link (length c.args.items.now) c.loop-link-test.true c.loop-link.invariant.within)
+
+pub returns-then-eq-clause-inside : goal.returns-then-eq-clause-inside
+returns-then-eq-clause-inside g c = place_inside c.loop-link.link (length c.args.items.now) c.loop-link-test.true c.loop-link.invariant.within
 
 pub loop-link-init : goal.loop-link-init
 loop-link-init g c =

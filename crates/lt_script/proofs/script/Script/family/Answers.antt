@@ -1,7 +1,7 @@
 use Rattle.std.proofs.Common.{◌∙◌, ◌<◌, ◌≤◌, ℕ, List, length, sym, ap, subst}
-use Rattle.lt_modes.specs.Script.{ScriptData, SetData, family_at}
+use Rattle.lt_modes.specs.Script.{ScriptData, SetData, family_at, family_of_set}
 use Rattle.lt_spec.specs.Script.{IsScript}
-use Rattle.lt_script.proofs.ScriptLemmas.{family_read, none_earlier}
+use Rattle.lt_script.proofs.ScriptLemmas.{read_at, none_earlier}
 use Rattle.lt_script.proofs.script.Script.family.Goals as goal
 
 pub bounds-items-set : goal.bounds-items-set
@@ -12,7 +12,7 @@ bounds-items-set c =
 pub returns-clause-family : goal.returns-clause-family
 returns-clause-family c =
     let sets = c.items.ensures ∙ ap (λ p. p.sets) c.deref.ensures ∙ ap (λ (s : ScriptData). s.sets) c.self.view_is in
-    family_read c.args.self.now.sets c.items.result.now c.args.set c.family.result c.index-items-set.result sets c.requires c.index-items-set.is c.family.ensures
+    c.family.ensures ∙ sym (ap family_of_set (read_at c.args.self.now.sets c.items.result.now c.args.set c.index-items-set.result sets c.requires c.index-items-set.is))
 
 pub returns-clause-earlier : goal.returns-clause-earlier
 returns-clause-earlier c =
