@@ -42,7 +42,6 @@ fn live_ending(ending: Ending) -> LiveEnding
 
 /// The script with the commands that the stations appended, the run of it that they made with all moves that were left,
 /// and how it ended.
-#[tactic(auto, using(lt_live::proofs::Finished::are_shares, lt_live::proofs::Finished::never_many))]
 pub(crate) fn end_run(
     alloc: Global,
     mut stations: Vec<Station>,

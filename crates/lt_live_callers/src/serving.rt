@@ -168,12 +168,12 @@ fn part<C: Drop>(
     let mut callers = Vec::new(alloc);
     let mut sessions = Vec::new(alloc);
     for desk in desks {
+        sessions.push(desk.session)?;
         callers.push(Called {
             caller: desk.caller,
             done: desk.done,
             refused: desk.refused,
         })?;
-        sessions.push(desk.session)?;
     }
     Ok((callers, sessions))
 }

@@ -3,11 +3,19 @@ use Rattle.std.proofs.Common.{List, sym, subst, ◌∙◌}
 use Rattle.lt_runner.specs.declared.parts.Parts.{Parts}
 use Rattle.lt_threads.specs.Meeting.{IsJoined}
 use Rattle.lt_threads.proofs.Whole.{all_grew}
-use Rattle.lt_live.proofs.Finished.{never_many}
+use Rattle.lt_live.proofs.Finished.{are_shares, never_many}
 use Rattle.lt_live_callers.specs.declared.ending.LiveEnding.{LiveEnding}
 use Rattle.lt_live_callers.specs.Served.{CallersEndSo}
 use Rattle.lt_live_callers.proofs.Grown.{settled_have_all, serves, ends, keeps, have_made}
 use Rattle.lt_live_callers.proofs.ending.end_run.Goals as goal
+
+pub settle_all-requires : goal.settle_all-requires
+settle_all-requires c = c.requires.live
+
+pub join-requires-clause-shares : goal.join-requires-clause-shares
+join-requires-clause-shares c =
+    are_shares c.args.stations.items c.settle_all.new.stations.items c.args.sessions.items c.settle_all.new.sessions.items c.deref.result.now
+    c.requires.live c.settle_all.ensures (c.deref.ensures.value ∙ c.take_runners-runners.ensures)
 
 pub join-requires-clause-few : goal.join-requires-clause-few
 join-requires-clause-few c =
@@ -22,6 +30,9 @@ join-requires-clause-all c =
 pub move_on-requires : goal.move_on-requires
 move_on-requires c =
     (subst (λ (rs : List Parts). IsJoined rs c.in_ok-script.script) c.deref.ensures.value c.in_ok-script.ensures).crew
+
+pub gather_logs-requires-clause-crew : goal.gather_logs-requires-clause-crew
+gather_logs-requires-clause-crew c = c.in_ok-ending.ensures.crew
 
 pub gather_logs-requires-clause-all : goal.gather_logs-requires-clause-all
 gather_logs-requires-clause-all c =
