@@ -6,6 +6,6 @@ times=${1:-2000}
 copy=$(mktemp -d) || exit 1
 trap 'rm -rf "$copy"' EXIT
 cp -a "$top/crates" "$top/crates.txt" "$top/HANDLES" "$copy" || exit 1
-cd "$copy/crates/lt_tests_calls" || exit 1
+cd "$copy/crates/lt_tests" || exit 1
 sed -i "s/^pub(crate) const TIMES: u64 = 1;/pub(crate) const TIMES: u64 = $times;/; s/^const IDLE: u64 = 1;/const IDLE: u64 = 20_000;/" src/gates.rt || exit 1
 rt try --test --seconds 3600
