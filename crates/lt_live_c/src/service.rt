@@ -38,7 +38,7 @@ impl Drop for Service {
 
 impl Service {
     /// The stations and sessions of the script, whose commands are left out.
-    #[tactic(auto, using(crate::proofs::Fitting::limit_fits, crate::proofs::Fitting::places_fit, crate::proofs::Fitting::length_fits, crate::proofs::Unopened::unfit, crate::proofs::Unopened::unread))]
+    #[tactic(auto, using(crate::proofs::Unopened::unread))]
     pub fn open(alloc: Global, text: &[u8], limit: u64, places: u32) -> Result<Service, u32>
         ensures opened { IfOk result (λ s. IsOpenedFrom text.now limit places s) }
         ensures whole { IfOk result (λ s. LiveScript s.stations.items s.sessions.items) }
@@ -52,7 +52,7 @@ impl Service {
     }
 
     /// The same of the script with further sets.
-    #[tactic(auto, using(crate::proofs::Fitting::limit_fits, crate::proofs::Fitting::places_fit, crate::proofs::Fitting::length_fits, crate::proofs::Unopened::unfit, crate::proofs::Unopened::unread, crate::proofs::Unopened::without_sets, crate::proofs::Unopened::no_sets))]
+    #[tactic(auto, using(crate::proofs::Unopened::unread, crate::proofs::Unopened::without_sets, crate::proofs::Unopened::no_sets))]
     pub fn open_sets(
         alloc: Global,
         text: &[u8],
