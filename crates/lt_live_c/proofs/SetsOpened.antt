@@ -1,5 +1,5 @@
 -- What follows where C is told the number of a set, and where a service is opened with further sets.
-use Rattle.std.proofs.Common.{◌≡◌, ◌≢◌, ◌<◌, ◌≤◌, ◌∷◌, [], ℕ, List, Ok, Err, Option, Some, None, refl, sym, ap, subst, arith, codes, length, ◌∙◌}
+use Rattle.std.proofs.Common.{◌≡◌, ◌≢◌, ◌≤◌, ◌∷◌, [], ℕ, List, Ok, Option, Some, None, refl, sym, ap, subst, arith, codes, length, ◌∙◌}
 use Rattle.std.proofs.lemmas.Bool.{false≢true}
 use Rattle.std.proofs.lemmas.Option.{same_Some}
 use Rattle.lt_modes.specs.declared.command.Command.TheVariants.{Lock}

@@ -1,10 +1,12 @@
--- Why nothing is opened.
-use Rattle.std.proofs.Common.{◌≡◌, ℕ, List, Ok, false, inl, inr, refl, arith}
+-- What is opened, and why nothing is.
+use Rattle.std.proofs.Common.{◌≡◌, ℕ, List, Result, Ok, Err, Some, false, inl, inr, refl, arith}
+use Rattle.std.specs.Prelude.{IfOk, IfErr}
 use Rattle.lt_modes.specs.Script.{ScriptData}
 use Rattle.lt_script.specs.Reading.{read_of}
 use Rattle.lt_live_c.specs.declared.code.TheConstants.{BAD_ARGUMENT, NO_MEMORY}
-use Rattle.lt_live_c.specs.NewSets.{SetWords}
-use Rattle.lt_live_c.specs.Opening.{fits_for_c, TextRefused, SetsRefused, OpenRefused, OpenSetsRefused}
+use Rattle.lt_live_c.specs.declared.service.Service.{Service}
+use Rattle.lt_live_c.specs.NewSets.{SetWords, with_next_sets}
+use Rattle.lt_live_c.specs.Opening.{fits_for_c, IsOpenedOf, IsOpenedFrom, IsOpenedWith, TextRefused, SetsRefused, OpenRefused, OpenSetsRefused}
 
 module _ (text : List ℕ) (limit places : ℕ) where
   pub unfit : fits_for_c text limit places ≡ false → OpenRefused BAD_ARGUMENT text limit places
@@ -23,6 +25,17 @@ module _ (text : List ℕ) (limit places : ℕ) where
     bad_script = λ e. absurd (omega (arith, e, is));
     only = inr (inr is);
   }
+
+  -- what was opened of the text's script
+  pub opened_from : (script : ScriptData) (made : Result Service ℕ) → read_of text ≡ Ok script
+      → IfOk made (IsOpenedOf script limit places) → IfOk made (IsOpenedFrom text limit places)
+  opened_from script (Ok s) read is = (script, read, is)
+  opened_from script (Err code) read is = tt
+
+  pub not_opened : (made : Result Service ℕ) → IfErr made (λ code. code ≡ NO_MEMORY)
+      → IfErr made (λ code. OpenRefused code text limit places)
+  not_opened (Ok s) is = tt
+  not_opened (Err code) is = no_memory code is
 
   -- the same where there are further sets
   module _ (sets : List SetWords) where
@@ -61,3 +74,14 @@ module _ (text : List ℕ) (limit places : ℕ) where
       bad_set = λ e. (script, read, h.bad_set e);
       only = inr (inr h.only);
     }
+
+    pub opened_with : (script whole : ScriptData) (made : Result Service ℕ) → read_of text ≡ Ok script
+        → with_next_sets script sets ≡ Some whole → IfOk made (IsOpenedOf whole limit places)
+        → IfOk made (IsOpenedWith text sets limit places)
+    opened_with script whole (Ok s) read added is = (script, whole, read, added, is)
+    opened_with script whole (Err code) read added is = tt
+
+    pub not_opened_with : (made : Result Service ℕ) → IfErr made (λ code. code ≡ NO_MEMORY)
+        → IfErr made (λ code. OpenSetsRefused code text sets limit places)
+    not_opened_with (Ok s) is = tt
+    not_opened_with (Err code) is = without_sets code (no_memory code is)

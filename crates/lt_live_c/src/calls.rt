@@ -71,7 +71,7 @@ pub fn submit(content: &mut Content, command: Option<Command>) -> u32
     }
 }
 
-#[tactic(auto, using(lt_live::proofs::Settling::same_sessions, crate::proofs::Refusing::may_not))]
+#[tactic(auto, using(lt_live::proofs::Settling::same_sessions))]
 fn submit_to(session: &mut Session, command: Option<Command>) -> u32
     ensures same { SameSession session.old session.new }
     ensures submits { Submits result command session.old session.new }

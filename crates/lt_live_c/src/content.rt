@@ -1,6 +1,14 @@
+// What a handle of C stands for.
+ghost use Rattle.std.specs.Prelude.{◌≡◌, ◌≢◌, true, IfOk, IfErr, OnOk};
+ghost use Rattle.lt_live_c.specs.declared.code.TheConstants.{WRONG_HANDLE};
+ghost use Rattle.lt_live_c.specs.Taking.{IsWholeService, stands_for_service, GivesTo, GiveRefusedBy};
+ghost use Rattle.lt_live_c.specs.Journals.{JournalIsOf, FinishRefused};
+
+use crate::code::{FORGOTTEN, NO_MEMORY, TOO_MANY, WRONG_HANDLE};
 use crate::journal::Journal;
 use crate::service::Service;
-use lt_live::{Session, Station};
+use lt_live::{FinishError, Session, Station};
+use std::alloc::Global;
 
 /// What a handle of C stands for.
 pub enum Content {
@@ -18,6 +26,44 @@ impl Drop for Content {
             Content::Station(station) => drop(station),
             Content::Session(session) => drop(session),
             Content::Journal(journal) => drop(journal),
+        }
+    }
+}
+
+impl Content {
+    /// Goes to the service, if it is a station or a session; else it comes back, with the code of why.
+    pub fn give_to(self, service: &mut Service) -> Result<(), (u32, Content)>
+        ensures gives { OnOk result (GivesTo self service.old service.new) }
+        ensures refused { IfErr result (λ back. (back.1 ≡ self) × GiveRefusedBy back.0 self service.old service.new) }
+    {
+        match self {
+            Content::Station(station) => match service.stations.push(station) {
+                Ok(()) => Ok(()),
+                Err(back) => Err((NO_MEMORY, Content::Station(back.value))),
+            },
+            Content::Session(session) => match service.sessions.push(session) {
+                Ok(()) => Ok(()),
+                Err(back) => Err((NO_MEMORY, Content::Session(back.value))),
+            },
+            other => Err((WRONG_HANDLE, other)),
+        }
+    }
+
+    /// The journal of the service's run, or the code of why there is none.
+    pub fn journal(self, alloc: Global) -> Result<Content, u32>
+        requires service { stands_for_service self ≡ true }
+        requires whole { IsWholeService self }
+        ensures journal { IfOk result (λ journal. JournalIsOf self journal) }
+        ensures refused { IfErr result (λ code. (code ≢ WRONG_HANDLE) × FinishRefused code self) }
+    {
+        match self {
+            Content::Service(service) => match service.finish(alloc) {
+                Ok(journal) => Ok(Content::Journal(journal)),
+                Err(FinishError::Forgotten) => Err(FORGOTTEN),
+                Err(FinishError::TooMany) => Err(TOO_MANY),
+                Err(FinishError::NoMemory) => Err(NO_MEMORY),
+            },
+            _ => unreachable!(),
         }
     }
 }

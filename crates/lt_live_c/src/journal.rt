@@ -9,12 +9,25 @@ use std::alloc::{AllocError, Global};
 
 /// The text of a script with the commands that were appended, the text of its run, and how many lines of it say what is
 /// held and who waits at the end.
-#[derive(Drop)]
 pub struct Journal {
     pub script: Vec<u8>,
     pub text: Vec<u8>,
     pub held: usize,
     pub waiting: usize,
+}
+
+// Written out, so that all places which let a journal go call this.
+impl Drop for Journal {
+    fn drop(self) {
+        let Journal {
+            script,
+            text,
+            held: _,
+            waiting: _,
+        } = self;
+        drop(script);
+        drop(text);
+    }
 }
 
 impl Journal {
@@ -31,10 +44,12 @@ impl Journal {
     pub fn of(alloc: Global, script: &Script, run: &Run) -> Result<Journal, AllocError>
         ensures { IfOk result (λ journal. TellsOf script.now run.now.entries journal) }
     {
+        let text = lt_journal::write(alloc, script, run, None)?;
+        let written = lt_script::print(alloc, script)?;
         let lines = closing_lines(alloc, script, run)?;
         Ok(Journal {
-            script: lt_script::print(alloc, script)?,
-            text: lt_journal::write(alloc, script, run, None)?,
+            script: written,
+            text,
             held: held_lines(&lines),
             waiting: waiting_lines(&lines),
         })

@@ -1,12 +1,12 @@
 // The stations and sessions of a script, until they are taken, and after they are given back.
-ghost use Rattle.std.specs.Prelude.{◌≡◌, ◌<◌, ◌≤◌, ◌-◌, ◌^◌, [], Ok, Some, length, map, IfOk, IfErr, IfSome, IfNone};
+ghost use Rattle.std.specs.Prelude.{◌≡◌, ◌≢◌, ◌<◌, ◌≤◌, ◌-◌, ◌^◌, [], Ok, Some, length, map, IfOk, IfErr, IfSome, IfNone};
 ghost use Rattle.lt_spec.specs.declared.moves.TheConstants.{MAX_MOVES_OF_SERVICE};
-ghost use Rattle.lt_spec.specs.declared.limits.TheConstants.{MAX_COMMANDS};
+ghost use Rattle.lt_spec.specs.declared.limits.TheConstants.{MAX_COMMANDS, MAX_SETS};
 ghost use Rattle.lt_script.specs.Reading.{read_of};
 ghost use Rattle.lt_live.specs.Stations.{IsOpen, most_share};
 ghost use Rattle.lt_live.specs.Live.{LiveScript};
 ghost use Rattle.lt_live.specs.declared.finishing.FinishError.TheVariants as errors;
-ghost use Rattle.lt_live_c.specs.Journals.{IsJournalOfService, SomeForgot, HaveTooMany};
+ghost use Rattle.lt_live_c.specs.Journals.{IsJournalOfService, SomeForgot, HaveTooMany, TellsOf};
 ghost use Rattle.lt_live_c.specs.NewSets.{words_of_set, with_next_sets};
 ghost use Rattle.lt_live_c.specs.Opening.{IsOpenedFrom, OpenRefused, IsOpenedWith, OpenSetsRefused, IsOpenedOf, fits_for_c, TextRefused, SetsRefused};
 ghost use Rattle.lt_live_c.specs.Serving.{has_all};
@@ -17,19 +17,28 @@ use crate::journal::Journal;
 use crate::limits::MAX_BYTES;
 use crate::new_sets::{NewSet, add_sets};
 use lt_live::{FinishError, Session, Station, finish, law_live_lasts, most_share, open};
+use lt_merge::Run;
 use lt_script::{MAX_COMMANDS, MAX_SETS, MAX_SETS_OF_SERVICE, ReadError, Script};
 use lt_spec::MAX_MOVES_OF_SERVICE;
 use std::alloc::{AllocError, Global};
 
-#[derive(Drop)]
 pub struct Service {
     pub stations: Vec<Station>,
     pub sessions: Vec<Session>,
 }
 
+// Written out, so that all places which let a service go call this.
+impl Drop for Service {
+    fn drop(self) {
+        let Service { stations, sessions } = self;
+        drop(stations);
+        drop(sessions);
+    }
+}
+
 impl Service {
     /// The stations and sessions of the script, whose commands are left out.
-    #[tactic(auto, using(crate::proofs::Fitting::limit_fits, crate::proofs::Fitting::places_fit, crate::proofs::Fitting::length_fits, crate::proofs::Unopened::unfit, crate::proofs::Unopened::unread, crate::proofs::Unopened::no_memory))]
+    #[tactic(auto, using(crate::proofs::Unopened::unread))]
     pub fn open(alloc: Global, text: &[u8], limit: u64, places: u32) -> Result<Service, u32>
         ensures opened { IfOk result (λ s. IsOpenedFrom text.now limit places s) }
         ensures whole { IfOk result (λ s. LiveScript s.stations.items s.sessions.items) }
@@ -39,12 +48,11 @@ impl Service {
             return Err(BAD_ARGUMENT);
         }
         let script = script_of(alloc, text)?;
-        let service = Service::start(alloc, &script, limit, places)?;
-        Ok(service)
+        Service::start(alloc, &script, limit, places)
     }
 
     /// The same of the script with further sets.
-    #[tactic(auto, using(crate::proofs::Fitting::limit_fits, crate::proofs::Fitting::places_fit, crate::proofs::Fitting::length_fits, crate::proofs::Unopened::unfit, crate::proofs::Unopened::unread, crate::proofs::Unopened::no_memory, crate::proofs::Unopened::without_sets, crate::proofs::Unopened::no_sets))]
+    #[tactic(auto, using(crate::proofs::Unopened::unread, crate::proofs::Unopened::without_sets, crate::proofs::Unopened::no_sets))]
     pub fn open_sets(
         alloc: Global,
         text: &[u8],
@@ -61,9 +69,8 @@ impl Service {
             return Err(BAD_ARGUMENT);
         }
         let script = script_of(alloc, text)?;
-        let script = with_sets(script, sets)?;
-        let service = Service::start(alloc, &script, limit, places)?;
-        Ok(service)
+        let whole = with_sets(script, sets)?;
+        Service::start(alloc, &whole, limit, places)
     }
 
     // The stations and sessions of the script, without its commands.
@@ -96,19 +103,15 @@ impl Service {
     }
 
     /// The journal of the run that the stations made. After an error all is dropped.
-    #[tactic(auto, using(crate::proofs::Finishing::is_journal))]
     pub fn finish(self, alloc: Global) -> Result<Journal, FinishError>
         requires { LiveScript self.stations.items self.sessions.items }
         ensures journal { IfOk result (λ journal. IsJournalOfService self journal) }
         ensures forgotten { IfErr result (λ error. error ≡ errors.Forgotten → SomeForgot self) }
         ensures many { IfErr result (λ error. error ≡ errors.TooMany → HaveTooMany self) }
     {
-        let (script, run) = finish(alloc, self.stations, self.sessions)?;
-        if script.sets() > MAX_SETS {
-            return Err(FinishError::TooMany);
-        }
-        let journal = Journal::of(alloc, &script, &run)?;
-        Ok(journal)
+        let Service { stations, sessions } = self;
+        let (script, run) = finish(alloc, stations, sessions)?;
+        journal_of(alloc, &script, &run)
     }
 
     /// Whether all stations and sessions that it gave out are back.
@@ -176,6 +179,18 @@ fn with_sets(mut script: Script, sets: &[NewSet<'_>]) -> Result<Script, u32>
         Ok(false) => Err(BAD_SET),
         Err(_) => Err(NO_MEMORY),
     }
+}
+
+// The journal of the run, if the text of a script may have all the sets.
+fn journal_of(alloc: Global, script: &Script, run: &Run) -> Result<Journal, FinishError>
+    ensures journal { IfOk result (λ journal. (length script.now.sets ≤ MAX_SETS) × TellsOf script.now run.now.entries journal) }
+    ensures many { IfErr result (λ error. (error ≢ errors.Forgotten) × (error ≡ errors.TooMany → MAX_SETS < length script.now.sets)) }
+{
+    if script.sets() > MAX_SETS {
+        return Err(FinishError::TooMany);
+    }
+    let journal = Journal::of(alloc, script, run)?;
+    Ok(journal)
 }
 
 // Whether the numbers are in range, and the text isn't too long.

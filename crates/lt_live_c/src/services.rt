@@ -1,21 +1,20 @@
 // The calls on services.
-ghost use Rattle.std.specs.Prelude.{◌≡◌, ◌≢◌, None, IsSome, map};
-ghost use Rattle.lt_live_c.specs.Taking.{IsWholeHandle, IsOfOther, HandleTakesStation, HandleTakesSession, HandleHasNoStation, HandleHasNoSession, HandleGives, HandleKeeps, HandleGiveRefused};
+ghost use Rattle.std.specs.Prelude.{◌≡◌, ◌≢◌, true, Some, None, IsSome, map};
+ghost use Rattle.lt_live_c.specs.Taking.{IsWholeService, stands_for_service as is_service, IsWholeHandle, IsOfOther, HandleTakesStation, HandleTakesSession, HandleHasNoStation, HandleHasNoSession, HandleGives, HandleKeeps, HandleGiveRefused};
 ghost use Rattle.lt_live_c.specs.Serving.{IsWholeHandleIfAll, HandleTellsServed, HandleNotTold};
 ghost use Rattle.lt_live_c.specs.NewSets.{words_of_set};
 ghost use Rattle.lt_live_c.specs.Opening.{HandleOpened, OpenRefused, HandleOpenedWith, OpenSetsRefused};
-ghost use Rattle.lt_live_c.specs.Journals.{HandleFinishes, HandleNotFinished};
+ghost use Rattle.lt_live_c.specs.Journals.{HandleFinishes, HandleNotFinished, FinishRefused};
 
 use crate::boxes::{put, room, take};
-use crate::code::{FORGOTTEN, NO_MEMORY, OK, TOO_MANY, WRONG_HANDLE};
+use crate::code::{NO_MEMORY, OK, WRONG_HANDLE};
 use crate::content::Content;
 use crate::handle::Handle;
 use crate::journal::Journal;
 use crate::new_sets::NewSet;
 use crate::service::Service;
 use crate::serving::tell_served;
-use crate::taking::{give_back, journal_of, next_session, next_station, stands_for_service};
-use lt_live::FinishError;
+use crate::taking::{give_back, next_session, next_station, stands_for_service};
 use std::alloc::Global;
 use std::mem::replace;
 
@@ -184,17 +183,27 @@ pub extern "C" fn lockrun_finish(alloc: Global, service: &mut Handle, journal: &
     ensures keeps { result ≢ OK → journal.new.value ≡ journal.old.value }
     ensures refused { result ≢ OK → HandleNotFinished result service.old.value }
 {
-    let mut room = take(alloc, service);
+    let room = take(alloc, service);
     if !stands_for_service(&room) {
         *service = Handle::of(room);
         return WRONG_HANDLE;
     }
+    finish_in(alloc, room, journal)
+}
+
+// The service in the box ends, and the handle stands for its journal then.
+fn finish_in(alloc: Global, mut room: Box<Content>, journal: &mut Handle) -> u32
+    requires service { is_service room.value ≡ true }
+    requires whole { IsWholeService room.value }
+    ensures journal { result ≡ OK → HandleFinishes (Some room.value) journal.new.value }
+    ensures right { result ≢ WRONG_HANDLE }
+    ensures keeps { result ≢ OK → journal.new.value ≡ journal.old.value }
+    ensures refused { result ≢ OK → FinishRefused result room.value }
+{
     let content = replace(&mut *room, Content::Journal(Journal::empty(alloc)));
-    match journal_of(alloc, content) {
+    match content.journal(alloc) {
         Ok(made) => put(room, made, journal),
-        Err(FinishError::Forgotten) => FORGOTTEN,
-        Err(FinishError::TooMany) => TOO_MANY,
-        Err(FinishError::NoMemory) => NO_MEMORY,
+        Err(code) => code,
     }
 }
 

@@ -38,7 +38,6 @@ fn tell_by(service: &mut Service) -> Result<Totals, u32>
     Ok(served_so_far(service))
 }
 
-#[tactic(auto, using(crate::proofs::Countable::are_countable))]
 fn served_so_far(service: &mut Service) -> Totals
     requires all { has_all service.old ≡ true }
     requires whole { LiveScript service.old.stations.items service.old.sessions.items }

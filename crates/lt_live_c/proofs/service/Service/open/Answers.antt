@@ -1,0 +1,28 @@
+-- What was opened of the text's script, or why nothing was.
+use Rattle.std.proofs.Common.{sym, ◌∙◌}
+use Rattle.lt_live_c.proofs.Fitting.{limit_fits, places_fit, length_fits}
+use Rattle.lt_live_c.proofs.Unopened.{opened_from, not_opened, unfit}
+use Rattle.lt_live_c.proofs.service.Service.open.Goals as goal
+
+pub returns-then-not-fits-clause-refused : goal.returns-then-not-fits-clause-refused
+returns-then-not-fits-clause-refused c =
+    unfit c.args.text.now c.args.limit c.args.places (sym c.fits.ensures ∙ c.if-not-fits.true)
+
+pub script_of-requires : goal.script_of-requires
+script_of-requires c = length_fits c.args.text.now c.args.limit c.args.places (sym c.fits.ensures ∙ c.if-not-fits.false)
+
+pub start-requires-clause-limit : goal.start-requires-clause-limit
+start-requires-clause-limit c =
+    limit_fits c.args.text.now c.args.limit c.args.places (sym c.fits.ensures ∙ c.if-not-fits.false)
+
+pub start-requires-clause-places : goal.start-requires-clause-places
+start-requires-clause-places c =
+    places_fit c.args.text.now c.args.limit c.args.places (sym c.fits.ensures ∙ c.if-not-fits.false)
+
+pub returns-clause-opened : goal.returns-clause-opened
+returns-clause-opened c =
+    opened_from c.args.text.now c.args.limit c.args.places _ c.start.result c.in_ok-script.ensures.read
+    c.start.ensures.opened
+
+pub returns-clause-refused : goal.returns-clause-refused
+returns-clause-refused c = not_opened c.args.text.now c.args.limit c.args.places c.start.result c.start.ensures.refused
