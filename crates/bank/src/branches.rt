@@ -46,14 +46,22 @@ fn add(script: &mut Script, name: &str, parent: Option<u32>) -> Result<u32> {
     }
 }
 
+fn add_account(
+    alloc: Global,
+    script: &mut Script,
+    number: u32,
+    account: u32,
+    parent: u32,
+) -> Result<u32> {
+    let name = format!(in alloc; "b{number}.{account}")?;
+    add(script, &name, Some(parent))
+}
+
 fn add_branch(alloc: Global, script: &mut Script, number: u32) -> Result<()> {
-    let parent = add(script, &format!(in alloc; "b{number}")?, None)?;
+    let name = format!(in alloc; "b{number}")?;
+    let parent = add(script, &name, None)?;
     for account in 0..ACCOUNTS {
-        add(
-            script,
-            &format!(in alloc; "b{number}.{account}")?,
-            Some(parent),
-        )?;
+        add_account(alloc, script, number, account, parent)?;
     }
     Ok(())
 }

@@ -19,10 +19,10 @@ use anyhow::{Result, bail};
 use branches::{CLIENTS, branches};
 use caller::{BankCaller, callers_of};
 use lt_checker::check_input;
-use lt_io::{ReaderSource, Source, WriterSink, read_all, write_all};
+use lt_io::{ReaderSource, Sink, Source, WriterSink, read_all, write_all};
 use lt_live_callers::{Called, Caller, Served, serve_callers};
 use lt_script::Script;
-use std::alloc::Global;
+use std::alloc::{AllocError, Global};
 use std::io::Print;
 use std::sync::atomic::Ordering;
 use std::thread::Threads;
@@ -80,33 +80,78 @@ fn work<R: Threads + Sync>(rt: &R, alloc: Global, script: &Script, bank: &Bank) 
     text_of(alloc, &served)
 }
 
-// Lets visitors make errands at the branches: the script and the journal of the run.
-fn visit<R: Threads + Sync>(rt: &R, alloc: Global, seed: u64) -> Result<Vec<u8>> {
-    let script = branches(alloc)?;
-    let visitors = (0..CLIENTS)
+// A visitor for each client of the branches.
+fn visitors_of(alloc: Global, seed: u64) -> Result<Vec<Visitor>, AllocError> {
+    (0..CLIENTS)
         .map(|client| Visitor::new(client, seed))
-        .collect(alloc)?;
-    let served = serve_callers(rt, alloc, &script, visitors, MOST_MOVES, THREADS, ROUNDS)?;
+        .collect(alloc)
+}
+
+// The script and the journal of the run, once all visitors came to their end.
+fn text_of_visits(alloc: Global, served: &Served<Visitor>) -> Result<Vec<u8>> {
     if !served.all_done() {
         bail!("the visitors didn't come to an end");
     }
     Ok(served.text(alloc)?)
 }
 
-fn main(rt: HostRuntime) -> Result<()> {
-    let alloc = rt.alloc();
-    if let Some(word) = env::args(&rt)?.nth(1) {
-        let text = visit(&rt, alloc, word.as_str().parse()?)?;
-        return Ok(write_all(&mut WriterSink::new(rt.stdout()), &text)?);
-    }
-    let script = script_of(alloc, &mut ReaderSource::new(rt.stdin()))?;
-    let bank = Bank::new(alloc, &script)?;
-    let text = work(&rt, alloc, &script, &bank)?;
-    print_accounts(&rt, &script, &bank)?;
+// Lets visitors make errands at the branches: the script and the journal of the run.
+fn visit<R: Threads + Sync>(rt: &R, alloc: Global, seed: u64) -> Result<Vec<u8>> {
+    let script = branches(alloc)?;
+    let visitors = visitors_of(alloc, seed)?;
+    let served = serve_callers(rt, alloc, &script, visitors, MOST_MOVES, THREADS, ROUNDS)?;
+    text_of_visits(alloc, &served)
+}
+
+// Writes the script and the journal of the errands that are drawn from this number.
+fn write_visits<R: Threads + Sync, K: Sink>(
+    rt: &R,
+    alloc: Global,
+    sink: &mut K,
+    number: &str,
+) -> Result<()> {
+    let text = visit(rt, alloc, number.parse()?)?;
+    Ok(write_all(sink, &text)?)
+}
+
+// Whether the journal of this text is one of a run of its script.
+fn is_of_run(alloc: Global, text: &[u8]) -> bool {
+    check_input(alloc, &mut ReaderSource::new(text)).is_ok()
+}
+
+fn print_day<R: Print>(
+    rt: &R,
+    alloc: Global,
+    script: &Script,
+    bank: &Bank,
+    text: &[u8],
+) -> Result<()> {
+    print_accounts(rt, script, bank)?;
     println!(rt; "all together: {}", bank.sum())?;
-    if check_input(alloc, &mut ReaderSource::new(text.as_slice())).is_err() {
+    if !is_of_run(alloc, text) {
         bail!("the journal isn't one of a run");
     }
     println!(rt; "the journal is accepted")?;
     Ok(())
+}
+
+// Lets the clerks and the auditor work at the accounts of a script, and prints what comes of it.
+fn keep_accounts<R: Threads + Sync + Print, S: Source>(
+    rt: &R,
+    alloc: Global,
+    source: &mut S,
+) -> Result<()> {
+    let script = script_of(alloc, source)?;
+    let bank = Bank::new(alloc, &script)?;
+    let text = work(rt, alloc, &script, &bank)?;
+    print_day(rt, alloc, &script, &bank, &text)
+}
+
+fn main(rt: HostRuntime) -> Result<()> {
+    let alloc = rt.alloc();
+    let number = env::args(&rt)?.nth(1);
+    match number {
+        Some(number) => write_visits(&rt, alloc, &mut WriterSink::new(rt.stdout()), &number),
+        None => keep_accounts(&rt, alloc, &mut ReaderSource::new(rt.stdin())),
+    }
 }

@@ -183,8 +183,10 @@ fn with_sets(mut script: Script, sets: &[NewSet<'_>]) -> Result<Script, u32>
 
 // The journal of the run, if the text of a script may have all the sets.
 fn journal_of(alloc: Global, script: &Script, run: &Run) -> Result<Journal, FinishError>
-    ensures journal { IfOk result (λ journal. (length script.now.sets ≤ MAX_SETS) × TellsOf script.now run.now.entries journal) }
-    ensures many { IfErr result (λ error. (error ≢ errors.Forgotten) × (error ≡ errors.TooMany → MAX_SETS < length script.now.sets)) }
+    ensures journal { IfOk result (λ journal.
+        (length script.now.sets ≤ MAX_SETS) × TellsOf script.now run.now.entries journal) }
+    ensures many { IfErr result (λ error.
+        (error ≢ errors.Forgotten) × (error ≡ errors.TooMany → MAX_SETS < length script.now.sets)) }
 {
     if script.sets() > MAX_SETS {
         return Err(FinishError::TooMany);
