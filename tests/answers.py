@@ -12,6 +12,10 @@ DONE, USAGE, REFUSED, STUCK, BAD, SHARE = 0, 1, 2, 3, 8, 10
 ONE_LOCK = 'nodes 1\nset s\nclient a at 0\na lock s write\na unlock s write\n'
 ITS_JOURNAL = 'move 1 0 act a\ngrant a s write\nmove 2 0 act a\nunlock a s write\nowner s 0 0\nend 2\n'
 
+# A script whose clients hold their locks at the end, on threads too.
+THREE_READERS = 'nodes 3\nset s\nclient a at 0\nclient b at 1\nclient c at 2\na lock s read\nb lock s read\nc lock s read\n'
+THEIR_LOCKS = ['held a s read 1', 'held b s read 1', 'held c s read 1']
+
 # Scripts, and what their runs in the fixed order end with.
 RUNS = [
     (ONE_LOCK, DONE, ITS_JOURNAL),
@@ -532,6 +536,11 @@ def runs():
             call('lockrun', ['check'], head + bad, BAD, '', f'lockrun: line {head.count(chr(10)) + k + 1}: journal')
     for program, words in [('lockrun', ['run']), ('lockrun', ['sim', '7']), ('locklive', [])]:
         call(program, words, ONE_LOCK, DONE, ITS_JOURNAL)
+    for program, words in [('lockrun', ['run']), ('locklive', [])]:
+        journal = call(program, words, THREE_READERS, DONE)
+        if [line for line in journal.splitlines() if line.startswith('held ')] != THEIR_LOCKS:
+            wrong.append(f'{program} of three readers: {journal}')
+        call('lockrun', ['check'], f'{THREE_READERS}journal\n{journal}', DONE, f'ok {journal.rsplit("end ", 1)[-1]}')
 
 
 def scripts():

@@ -25,10 +25,13 @@ enum { LOCKRUN_WAITS = 32, LOCKRUN_FOREVER = -1 };
 /* How often a caller looks before it turns other nodes too, yields, and naps; and the longest nap, in nanoseconds. */
 enum { LOCKRUN_OWN = 2, LOCKRUN_SPINS = 20, LOCKRUN_YIELDS = 200, LOCKRUN_LONGEST_NAP = 1000000 };
 
+/* Nodes, and callers, are so many bytes apart that what different threads write lies in different lines of the caches. */
+enum { LOCKRUN_APART = 128 };
+
 typedef struct {
     lockrun_station station;
     lockrun_flag busy;
-    char apart[64 - sizeof(lockrun_station) - sizeof(lockrun_flag)];
+    char apart[LOCKRUN_APART - sizeof(lockrun_station) - sizeof(lockrun_flag)];
 } lockrun_node;
 
 typedef struct {
@@ -45,6 +48,7 @@ typedef struct lockrun_caller {
     uint64_t dropped; /* how many locks the last LOCKRUN_DROPPED was of */
     uint32_t home;
     int waits;
+    char apart[LOCKRUN_APART - sizeof(lockrun_session) - sizeof(lockrun_nodes *) - sizeof(uint64_t) - 2 * sizeof(uint32_t)];
 } lockrun_caller;
 
 /* One turn of a node, unless another thread is turning it. */
@@ -179,7 +183,7 @@ static inline uint32_t lockrun_add_caller(lockrun_nodes *nodes) {
     lockrun_caller *grown = (lockrun_caller *)realloc(nodes->caller, (nodes->callers + 1) * sizeof *grown);
     if (!grown) { lockrun_free(&session); return LOCKRUN_NO_MEMORY; }
     nodes->caller = grown;
-    lockrun_caller caller = {session, nodes, 0, lockrun_home(&session), 0};
+    lockrun_caller caller = {session, nodes, 0, lockrun_home(&session), 0, {0}};
     nodes->caller[nodes->callers++] = caller;
     return LOCKRUN_OK;
 }

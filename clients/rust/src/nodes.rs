@@ -5,8 +5,12 @@ use crate::session::{Session, LONGEST_NAP};
 use std::sync::{Arc, Mutex, MutexGuard, TryLockError};
 use std::thread::sleep;
 
-/// The stations, each behind a lock that no thread waits for.
-pub(crate) struct Stations(Vec<Mutex<Handle>>);
+/// A station behind a lock that no thread waits for, in lines of the caches that no other one is in.
+#[repr(align(128))]
+struct Station(Mutex<Handle>);
+
+/// All stations.
+pub(crate) struct Stations(Vec<Station>);
 
 /// The nodes of an open script.
 pub struct Nodes {
@@ -58,7 +62,7 @@ pub fn open_sets(script: &str, sets: &[NewSet<'_>], limit: u64) -> Result<(Nodes
     check(unsafe { exports::lockrun_open_sets(text, length, sets.as_ptr(), sets.len(), limit, 4, &mut service) })?;
     let stations = take_all(&mut service, exports::lockrun_take_station)?;
     let sessions = take_all(&mut service, exports::lockrun_take_session)?;
-    let stations = Arc::new(Stations(stations.into_iter().map(Mutex::new).collect()));
+    let stations = Arc::new(Stations(stations.into_iter().map(Mutex::new).map(Station).collect()));
     let nodes = Nodes { service, stations: stations.clone(), clients: sessions.len() };
     Ok((nodes, sessions.into_iter().map(|raw| Session::new(raw, stations.clone())).collect()))
 }
@@ -85,7 +89,7 @@ fn take_all(service: &mut Handle, take: Take) -> Result<Vec<Handle>, Error> {
 impl Stations {
     /// A turn of a node, unless another thread is turning it: whether it made a move.
     pub(crate) fn turn(&self, node: usize) -> Result<bool, Error> {
-        let mut station = match self.0[node].try_lock() {
+        let mut station = match self.0[node].0.try_lock() {
             Ok(station) => station,
             Err(TryLockError::WouldBlock) => return Ok(false),
             Err(TryLockError::Poisoned(station)) => station.into_inner(),
@@ -161,7 +165,7 @@ impl Nodes {
         let sessions: Vec<Handle> = sessions.into_iter().map(Session::into_handle).collect();
         let stations = Arc::into_inner(self.stations).ok_or(Error::OtherSessions)?;
         for station in stations.0 {
-            let mut station = station.into_inner().unwrap_or_else(|poisoned| poisoned.into_inner());
+            let mut station = station.0.into_inner().unwrap_or_else(|poisoned| poisoned.into_inner());
             give(&mut self.service, &mut station)?;
         }
         for mut session in sessions {
@@ -171,8 +175,8 @@ impl Nodes {
     }
 }
 
-fn lock(station: &Mutex<Handle>) -> MutexGuard<'_, Handle> {
-    station.lock().unwrap_or_else(|poisoned| poisoned.into_inner())
+fn lock(station: &Station) -> MutexGuard<'_, Handle> {
+    station.0.lock().unwrap_or_else(|poisoned| poisoned.into_inner())
 }
 
 fn give(service: &mut Handle, given: &mut Handle) -> Result<(), Error> {

@@ -23,7 +23,9 @@ pub enum Mode {
     Write,
 }
 
-/// The session of one client. Its calls wait by turning the nodes. If it is dropped its locks stay held.
+/// The session of one client. Its calls wait by turning the nodes. If it is dropped its locks stay held. No two of them are in one
+/// line of the caches.
+#[repr(align(128))]
 pub struct Session {
     raw: Handle,
     stations: Arc<Stations>,

@@ -1,6 +1,6 @@
 // Before its first move each of two nodes waits until the other one comes to its own.
 use crate::gates::{Passes, TIMES};
-use crate::running::{ran, sink_of, source_of};
+use crate::running::{called, sink_of, source_of};
 use crate::telling::{holds, same};
 use lt_merge::Run;
 use lt_runner::Gate;
@@ -54,7 +54,7 @@ fn two_nodes_move_at_once(rt: HostRuntime) {
         let gate = Meeting {
             passes: Passes::new(number),
         };
-        let (served, _sink) = ran(&rt, rt.alloc(), USUAL, TWO_IN_TURN, &gate);
+        let (served, _sink) = called(&rt, rt.alloc(), USUAL, &["run"], TWO_IN_TURN, &gate);
         same(&rt, served.status, lt_serve::Status::Done);
         have_met(&rt, &gate, &served.run);
     }
@@ -66,7 +66,7 @@ fn two_stations_move_at_once(rt: HostRuntime) {
         passes: Passes::new(0),
     };
     let mut source = source_of(&rt, rt.alloc(), TWO_IN_TURN, 0);
-    let mut sink = sink_of(&rt, rt.alloc(), 0);
+    let mut sink = sink_of(&rt, rt.alloc(), 10, 0);
     let served = lt_live_serve::serve(&rt, rt.alloc(), &[], &mut source, &mut sink, &gate);
     same(&rt, served.status, lt_live_serve::Status::Done);
     have_met(&rt, &gate, &served.run);

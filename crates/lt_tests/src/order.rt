@@ -1,5 +1,5 @@
 use crate::gates::{Passes, TIMES};
-use crate::running::ran;
+use crate::running::called;
 use crate::telling::{holds, same};
 use lt_runner::Gate;
 use lt_serve::{Setup, Status};
@@ -90,7 +90,7 @@ fn goes_to<R: Abort + Threads + Sync>(
         passes: Passes::new(number),
         in_order,
     };
-    let (served, sink) = ran(rt, alloc, SETUP, TWO_ASK, &gate);
+    let (served, sink) = called(rt, alloc, SETUP, &["run"], TWO_ASK, &gate);
     same(rt, served.status, Status::Stuck);
     holds(rt, gate.passes.has_met(0));
     holds(rt, gate.passes.has_met(1));

@@ -1,4 +1,4 @@
-// What the word `run` comes to, with sources and sinks in memory.
+// What a program's words come to, with sources and sinks in memory.
 ghost use Rattle.std.specs.Prelude.{◌<◌, ◌≤◌};
 ghost use Rattle.lt_spec.specs.declared.moves.TheConstants.{MAX_MOVES};
 ghost use Rattle.lt_mail.specs.declared.opening.TheConstants.{MAX_CAPACITY};
@@ -24,22 +24,23 @@ pub(crate) fn source_of<R: Abort>(rt: &R, alloc: Global, text: &str, fails: u64)
     }
 }
 
-/// A sink that takes ten bytes at a time, and whose write of this number fails; the first one is 1.
-pub(crate) fn sink_of<R: Abort>(rt: &R, alloc: Global, fails: u64) -> MemorySink {
+/// A sink that takes so many bytes at a time, and whose write of this number fails; the first one is 1.
+pub(crate) fn sink_of<R: Abort>(rt: &R, alloc: Global, per_write: usize, fails: u64) -> MemorySink {
     MemorySink {
         bytes: Vec::new(alloc),
-        per_write: 10,
+        per_write,
         calls: 0,
         fails: Vec::from_slice(alloc, &[fails]).expect(rt, "memory"),
         faults: 0,
     }
 }
 
-/// Does what the word `run` says.
-pub(crate) fn run<R: Abort + Threads + Sync, G: Gate>(
+/// Does what these words say.
+pub(crate) fn call<R: Abort + Threads + Sync, G: Gate>(
     rt: &R,
     alloc: Global,
     setup: Setup,
+    words: &[&str],
     source: &mut MemorySource,
     sink: &mut MemorySink,
     gate: &G,
@@ -48,15 +49,20 @@ pub(crate) fn run<R: Abort + Threads + Sync, G: Gate>(
     requires capacity { (0 < setup.capacity) × (setup.capacity ≤ MAX_CAPACITY) }
     requires workers { (0 < setup.workers) × (setup.workers ≤ MAX_WORKERS) }
 {
-    let words = [String::from_str(alloc, "run").expect(rt, "memory")];
-    serve_with(rt, alloc, setup, words.as_slice(), source, sink, gate)
+    let mut given = Vec::new(alloc);
+    for word in words {
+        let word = String::from_str(alloc, word).expect(rt, "memory");
+        given.push(word).expect(rt, "memory");
+    }
+    serve_with(rt, alloc, setup, given.as_slice(), source, sink, gate)
 }
 
-/// Does what the word `run` says of this text, and returns the sink too. No read and no write fails.
-pub(crate) fn ran<R: Abort + Threads + Sync, G: Gate>(
+/// Does what these words say of this text, and returns the sink too. No read and no write fails.
+pub(crate) fn called<R: Abort + Threads + Sync, G: Gate>(
     rt: &R,
     alloc: Global,
     setup: Setup,
+    words: &[&str],
     text: &str,
     gate: &G,
 ) -> (Served, MemorySink)
@@ -65,7 +71,7 @@ pub(crate) fn ran<R: Abort + Threads + Sync, G: Gate>(
     requires workers { (0 < setup.workers) × (setup.workers ≤ MAX_WORKERS) }
 {
     let mut source = source_of(rt, alloc, text, 0);
-    let mut sink = sink_of(rt, alloc, 0);
-    let served = run(rt, alloc, setup, &mut source, &mut sink, gate);
+    let mut sink = sink_of(rt, alloc, 10, 0);
+    let served = call(rt, alloc, setup, words, &mut source, &mut sink, gate);
     (served, sink)
 }
