@@ -49,7 +49,8 @@ impl Out {
         }
     }
 
-    /// Makes room for so many further letters and event lines. Where the room is there, nothing changes.
+    /// Makes room for so many further letters and event lines. Where the room is there, nothing changes. If memory runs
+    /// out, there may be more room for letters than before.
     #[inline(always)]
     pub fn reserve(&mut self, letters: u32, events: u32) -> Result<(), AllocError>
         ensures posts { self.new.posts ≡ self.old.posts }

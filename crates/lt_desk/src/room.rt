@@ -12,7 +12,8 @@ impl Desk {
         self.parts.queue.room()
     }
 
-    /// Makes room for each node to owe word of as many asks as the queue has places for.
+    /// Makes room for each node to owe word of as many asks as the queue has places for. If memory runs out, some room
+    /// may have been made.
     pub fn reserve(&mut self) -> Result<(), AllocError>
         ensures desk { self.new.desk ≡ self.old.desk }
         ensures room { self.new.room ≡ self.old.room }
@@ -25,7 +26,8 @@ impl Desk {
         parts.table.reserve(asks)
     }
 
-    /// Makes room for so many asks in all, in the queue and as owed ones of each node.
+    /// Makes room for so many asks in all, in the queue and as owed ones of each node. If memory runs out, some room
+    /// may have been made.
     #[inline(always)]
     pub fn reserve_for(&mut self, asks: u32) -> Result<(), AllocError>
         ensures desk { self.new.desk ≡ self.old.desk }

@@ -93,7 +93,7 @@ fn other_entry(
     Ok(())
 }
 
-/// Writes the line of an event.
+/// Writes the line of an event. If memory runs out, a part of it may have been written.
 #[inline(always)]
 pub fn event_line(text: &mut Text, wording: &Wording, event: Event) -> Result<(), AllocError>
     ensures { OnOk result (text.new ≡ text.old ++ line_text wording.now (EventLine event)) }

@@ -17,7 +17,8 @@ pub fn write_line(alloc: Global, script: &Script, line: Line) -> Result<Vec<u8>,
     Ok(text.into_bytes())
 }
 
-/// Writes how the line is written behind what the text has so far.
+/// Writes how the line is written behind what the text has so far. If memory runs out, a part of it may have been
+/// written.
 pub fn write_words(text: &mut Text, script: &Script, line: Line) -> Result<(), AllocError>
     ensures { OnOk result (text.new ≡ text.old ++ spaced (line_words script.now line)) }
 {

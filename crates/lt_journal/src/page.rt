@@ -62,7 +62,7 @@ impl Page {
     #[inline(always)]
     pub fn make_room(&mut self, count: usize) -> Result<(), AllocError>
         requires { count ≤ 2 ^ 63 }
-        ensures text { OnOk result (self.new.text ≡ self.old.text) }
+        ensures text { self.new.text ≡ self.old.text }
         ensures room { OnOk result (count ≤ self.new.room) }
     {
         if count <= self.bytes.len() - self.len {
@@ -77,7 +77,7 @@ impl Page {
     #[tactic(auto, using(crate::proofs::Pages::longer))]
     fn grow(&mut self, count: usize) -> Result<(), AllocError>
         requires { count ≤ 2 ^ 63 }
-        ensures text { OnOk result (self.new.text ≡ self.old.text) }
+        ensures text { self.new.text ≡ self.old.text }
         ensures room { OnOk result (count ≤ self.new.room) }
     {
         if count > STEP {
@@ -90,7 +90,7 @@ impl Page {
     #[tactic(auto, using(crate::proofs::Pages::resized))]
     fn grow_far(&mut self, count: usize) -> Result<(), AllocError>
         requires { count ≤ 2 ^ 63 }
-        ensures text { OnOk result (self.new.text ≡ self.old.text) }
+        ensures text { self.new.text ≡ self.old.text }
         ensures room { OnOk result (count ≤ self.new.room) }
     {
         let end = self.bytes.len() + count;

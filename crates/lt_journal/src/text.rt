@@ -1,4 +1,4 @@
-ghost use Rattle.std.specs.Prelude.{◌≡◌, ◌<◌, ◌≤◌, [], ◌∷◌, ◌++◌, codes, length, OnOk, IfOk};
+ghost use Rattle.std.specs.Prelude.{◌≡◌, ◌<◌, ◌≤◌, [], ◌∷◌, ◌++◌, codes, length, OnOk, OnErr, IfOk};
 ghost use Rattle.std.specs.Fmt.{decimal};
 ghost use Rattle.lt_text.specs.Text.{after_space};
 
@@ -51,7 +51,8 @@ impl Text {
     /// Writes the first word of a line.
     #[inline(always)]
     pub fn first_word(&mut self, word: &str) -> Result<(), AllocError>
-        ensures { OnOk result (self.new ≡ self.old ++ word.now) }
+        ensures text { OnOk result (self.new ≡ self.old ++ word.now) }
+        ensures unchanged { OnErr result (self.new ≡ self.old) }
     {
         self.first(word.as_bytes())
     }
@@ -59,7 +60,8 @@ impl Text {
     /// The same of a word that is given as bytes.
     #[inline(always)]
     pub(crate) fn first(&mut self, word: &[u8]) -> Result<(), AllocError>
-        ensures { OnOk result (self.new ≡ self.old ++ word.now) }
+        ensures text { OnOk result (self.new ≡ self.old ++ word.now) }
+        ensures unchanged { OnErr result (self.new ≡ self.old) }
     {
         self.page.make_room(word.len())?;
         self.page.put(word);
@@ -68,11 +70,11 @@ impl Text {
 
     /// Writes a later word of a line.
     pub fn word(&mut self, word: &[u8]) -> Result<(), AllocError>
-        ensures { OnOk result (self.new ≡ self.old ++ after_space word.now) }
+        ensures text { OnOk result (self.new ≡ self.old ++ after_space word.now) }
+        ensures unchanged { OnErr result (self.new ≡ self.old) }
     {
-        self.page.make_room(1)?;
+        self.page.make_room(word.len() + 1)?;
         self.page.put(b" ");
-        self.page.make_room(word.len())?;
         self.page.put(word);
         Ok(())
     }
@@ -80,7 +82,8 @@ impl Text {
     /// Writes a number as a later word of a line.
     #[inline(always)]
     pub fn number(&mut self, number: u64) -> Result<(), AllocError>
-        ensures { OnOk result (self.new ≡ self.old ++ after_space (decimal number)) }
+        ensures text { OnOk result (self.new ≡ self.old ++ after_space (decimal number)) }
+        ensures unchanged { OnErr result (self.new ≡ self.old) }
     {
         if number >= 10_000 {
             return self.long_number(number);
@@ -94,7 +97,8 @@ impl Text {
     #[cold]
     #[inline(never)]
     fn long_number(&mut self, number: u64) -> Result<(), AllocError>
-        ensures { OnOk result (self.new ≡ self.old ++ after_space (decimal number)) }
+        ensures text { OnOk result (self.new ≡ self.old ++ after_space (decimal number)) }
+        ensures unchanged { OnErr result (self.new ≡ self.old) }
     {
         let mut digits = Buffer::new();
         self.word(digits.format(number).as_bytes())
@@ -182,7 +186,8 @@ impl Text {
 
     #[inline(always)]
     pub fn end_line(&mut self) -> Result<(), AllocError>
-        ensures { OnOk result (self.new ≡ self.old ++ 10 ∷ []) }
+        ensures text { OnOk result (self.new ≡ self.old ++ 10 ∷ []) }
+        ensures unchanged { OnErr result (self.new ≡ self.old) }
     {
         self.page.make_room(1)?;
         self.page.put(b"\n");

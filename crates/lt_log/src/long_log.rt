@@ -1,5 +1,5 @@
 ghost use Rattle.std.specs.Prelude.{◌≡◌, ◌+◌, ◌≤◌, ◌<◌, ◌^◌, [], ◌∷◌, ◌++◌, Some, length, IsOk, OnOk, IfOk, IsSome, IfSome, IfNone};
-ghost use Rattle.lt_merge.specs.Merging.{just_made, with_event, events_at};
+ghost use Rattle.lt_merge.specs.Merging.{just_made, with_event, made_at, events_at};
 
 use crate::history::History;
 use lt_merge::Run;
@@ -108,7 +108,8 @@ impl LongLog {
     }
 
     /// Makes room for one further move with so many events, if that makes fewer than 2^32 moves that are kept, and
-    /// fewer than 2^32 events of theirs: that many are refused as memory is.
+    /// fewer than 2^32 events of theirs: that many are refused as memory is. If memory runs out, some room may have
+    /// been made.
     #[inline(always)]
     pub fn reserve(&mut self, events: usize) -> Result<(), AllocError>
         ensures entries { self.new.entries ≡ self.old.entries }
@@ -146,6 +147,15 @@ impl LongLog {
         ensures room { self.old.room ≤ self.new.room + 1 }
     {
         self.kept.add_event(event);
+    }
+
+    /// The move at place `k`, which is kept.
+    pub fn made(&self, k: u64) -> Move
+        requires kept { self.now.gone ≤ k }
+        requires inside { k < length self.now.entries }
+        ensures { made_at self.now.entries k ≡ Some result }
+    {
+        self.kept.made((k - self.gone) as u32)
     }
 
     /// The events of the move at place `k`, which is kept.

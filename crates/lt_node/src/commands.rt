@@ -1,5 +1,5 @@
 // The commands of a script by their clients, which all nodes get in one pass over the script.
-ghost use Rattle.std.specs.Prelude.{◌≡◌, ◌<◌, ◌+◌, ◌==◌, ℕ, length, IfOk, OnOk, slice_set, if◌then◌else◌};
+ghost use Rattle.std.specs.Prelude.{◌≡◌, ◌<◌, ◌+◌, ◌==◌, ℕ, length, IfOk, OnOk, OnErr, slice_set, if◌then◌else◌};
 ghost use Rattle.lt_spec.specs.NodeMove.{home};
 ghost use Rattle.lt_node.specs.Clients.{HaveAmong, HaveFrom, ListsFrom, AreAtStart, with_request_at, progress_of, no_progress};
 
@@ -56,7 +56,7 @@ impl Commands {
         requires { HaveFrom script.now node self.old }
         ensures count { IfOk result (λ clients. length clients.items ≡ length script.now.clients) }
         ensures each { IfOk result (λ clients. AreAtStart script.now node clients.items) }
-        ensures left { OnOk result (HaveFrom script.now (node + 1) self.new) }
+        ensures left { HaveFrom script.now (node + 1) self.new }
     {
         take_own(alloc, &mut self.lists, script, node)
     }
@@ -109,7 +109,7 @@ fn take_own(
     requires { ListsFrom script.now node lists.old.items }
     ensures count { IfOk result (λ clients. length clients.items ≡ length script.now.clients) }
     ensures each { IfOk result (λ clients. AreAtStart script.now node clients.items) }
-    ensures left { OnOk result (ListsFrom script.now (node + 1) lists.new.items) }
+    ensures left { ListsFrom script.now (node + 1) lists.new.items }
 {
     let mut clients = Vec::with_capacity(alloc, usize::from(script.clients()))?;
     for client in 0..script.clients() {
@@ -133,6 +133,7 @@ fn take_next(
         ≡ if home script.now client == node then progress_of lists.old.items client else no_progress) }
     ensures left { OnOk result (lists.new.items
         ≡ if home script.now client == node then slice_set lists.old.items client no_progress else lists.old.items) }
+    ensures unchanged { OnErr result (lists.new.items ≡ lists.old.items) }
 {
     let mut taken = Client::with_room(alloc, 0)?;
     if script.home(client) == node {

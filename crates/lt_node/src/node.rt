@@ -1,4 +1,4 @@
-ghost use Rattle.std.specs.Prelude.{◌≡◌, ◌<◌, ◌+◌, ◌&&◌, ◌^◌, ℕ, not, length, IfOk, OnOk, slice_index_or};
+ghost use Rattle.std.specs.Prelude.{◌≡◌, ◌<◌, ◌+◌, ◌&&◌, ◌^◌, ℕ, not, length, IfOk, slice_index_or};
 ghost use Rattle.lt_modes.specs.Fits.{fits, numbers_of};
 ghost use Rattle.lt_desk.specs.LetterSeen.{letter_seen};
 ghost use Rattle.lt_core.specs.Steps.{rule_numbers as numbers_seen};
@@ -97,7 +97,8 @@ impl Node {
         Node::begin(alloc, script, node, homes, clients)
     }
 
-    /// The node at the start of the script. It takes the commands of its clients, and leaves those of later nodes.
+    /// The node at the start of the script. It takes the commands of its clients, and leaves those of later nodes, also if
+    /// memory runs out; its own clients' may then be lost.
     pub fn with_commands(
         alloc: Global,
         script: &Script,
@@ -110,7 +111,7 @@ impl Node {
         ensures gone { IfOk result (λ made. made.gone ≡ 0) }
         ensures me { IfOk result (λ made. made.me ≡ node) }
         ensures state { IfOk result (λ made. state_of made ≡ (start script.now).node node) }
-        ensures left { OnOk result (HaveFrom script.now (node + 1) commands.new) }
+        ensures left { HaveFrom script.now (node + 1) commands.new }
     {
         let homes = commands.homes(alloc)?;
         let clients = commands.take(alloc, script, node)?;

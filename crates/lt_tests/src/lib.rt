@@ -1,5 +1,6 @@
-//! Tests of streams, the mail, runners, the pool, sessions and stations, the checker, and the calls that run a script
-//! on threads, by the word `run` or on live sessions: a crate apart, so that none is proved again for its tests.
+//! Tests of streams, the desk's table, the mail, logs, runners, the pool, sessions and stations, the checker, and the
+//! calls that run a script on threads, by the word `run` or on live sessions: a crate apart, so that none is proved
+//! again for its tests.
 #![tactic(auto)]
 
 #[cfg(test)]
@@ -10,6 +11,8 @@ mod faults;
 mod gates;
 #[cfg(test)]
 mod live;
+#[cfg(test)]
+mod log;
 #[cfg(test)]
 mod mail;
 #[cfg(test)]
@@ -24,6 +27,8 @@ mod runner;
 mod running;
 #[cfg(test)]
 mod streams;
+#[cfg(test)]
+mod table;
 #[cfg(test)]
 mod telling;
 #[cfg(test)]

@@ -11,7 +11,7 @@ loop-client-preserved c =
     let script = c.args.script.now in
     let client = c.loop-client.client in
     let spelled : c.bytes.result.now ≡ after_space (client_name script client) =
-    c.bytes.ensures ∙ c.in_ok-word.ensures ∙ ap (λ (t : List ℕ). t ++ after_space c.client_name.result.now) c.clear.ensures ∙ ap after_space c.client_name.ensures in
+    c.bytes.ensures ∙ c.in_ok-word.ensures.text ∙ ap (λ (t : List ℕ). t ++ after_space c.client_name.result.now) c.clear.ensures ∙ ap after_space c.client_name.ensures in
     let own : IfSome c.new-word.result (λ word. word ≡ after_space (client_name script client)) =
     subst (λ (t : List ℕ). IfSome c.new-word.result (λ word. word ≡ t)) spelled c.new-word.ensures in
     subst (AreClientWords script) (sym c.in_ok-push.ensures.items)

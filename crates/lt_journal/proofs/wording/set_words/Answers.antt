@@ -11,7 +11,7 @@ loop-set-preserved c =
     let script = c.args.script.now in
     let set = c.loop-set.set in
     let spelled : c.bytes.result.now ≡ after_space (set_name script set) =
-    c.bytes.ensures ∙ c.in_ok-word.ensures ∙ ap (λ (t : List ℕ). t ++ after_space c.set_name.result.now) c.clear.ensures ∙ ap after_space c.set_name.ensures in
+    c.bytes.ensures ∙ c.in_ok-word.ensures.text ∙ ap (λ (t : List ℕ). t ++ after_space c.set_name.result.now) c.clear.ensures ∙ ap after_space c.set_name.ensures in
     let own : IfSome c.new-word.result (λ word. word ≡ after_space (set_name script set)) =
     subst (λ (t : List ℕ). IfSome c.new-word.result (λ word. word ≡ t)) spelled c.new-word.ensures in
     subst (AreSetWords script) (sym c.in_ok-push.ensures.items)

@@ -9,8 +9,8 @@ use Rattle.lt_core.specs.CoreData.{CoreData, desk_seen}
 use Rattle.lt_core.proofs.StepLemmas.{line_left, post_left}
 use Rattle.lt_core.proofs.one_set.Core.send_desk.Goals as goal
 
-pub hand_over-requires : goal.hand_over-requires
-hand_over-requires c = c.requires.epoch
+pub hand_over-requires-clause-epoch : goal.hand_over-requires-clause-epoch
+hand_over-requires-clause-epoch c = c.requires.epoch
 
 pub push_event-requires : goal.push_event-requires
 push_event-requires c = line_left _ c.args.out.now c.requires.fits.events
@@ -39,7 +39,7 @@ returns c =
     } in
     let to : c.ask-to.result.node ≡ v = ap (λ ask. ask.node) c.ask-to.ensures in
     let left : c.hand_over.new.self.desk ≡ leaving stamp s desk =
-    c.hand_over.ensures.desk (record s { desk = Some desk }) (record { here = refl; rows = refl; unanswered = c.stamps.ensures }) refl in
+    c.hand_over.ensures.desk (record s { desk = Some desk }) (record { here = refl; rows = refl; unanswered = c.stamps.ensures }) in
     let epoch : c.epoch-epoch.result ≡ desk.epoch + 1 = c.epoch-epoch.ensures ∙ ap (λ (d : Desk). d.epoch) left in
     let gone : s.desk ≡ None = ap (λ (core : CoreData). core.state.desk) c.self.view_is ∙ c.requires.gone in
     let links = c.set.ensures.links in

@@ -1,5 +1,4 @@
 use Rattle.std.proofs.Common.{ap, subst, sym}
-use Rattle.std.proofs.lemmas.Result.{on_ok_weaker}
 use Rattle.lt_node.specs.Clients.{CommandsData, ListsFrom}
 use Rattle.lt_node.proofs.CommandLemmas.{have_left}
 use Rattle.lt_node.proofs.commands.Commands.take.Goals as goal
@@ -8,4 +7,4 @@ pub take_own-requires : goal.take_own-requires
 take_own-requires c = subst (ListsFrom c.args.script.now c.args.node) (sym (ap (λ (d : CommandsData). d.lists) c.self.view_is)) c.requires.lists_are
 
 pub returns-clause-left : goal.returns-clause-left
-returns-clause-left c = on_ok_weaker c.take_own.result (λ left. have_left c.args.script.now c.args.node c.args.self.now _ c.requires (ap (λ (d : CommandsData). d.homes) c.self.view_is) left) c.take_own.ensures.left
+returns-clause-left c = have_left c.args.script.now c.args.node c.args.self.now _ c.requires (ap (λ (d : CommandsData). d.homes) c.self.view_is) c.take_own.ensures.left
