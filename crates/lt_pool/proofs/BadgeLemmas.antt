@@ -184,7 +184,9 @@ module _ {T : Type 0} (continues : T → T → Type 0) (firsts : List T) where
               has = o.has;
             };
         knows = λ j u p. ⊎_elim
-            (λ t. subst (Knows firsts s.words) t.1 (knows_on firsts s.words v both.splits both.out both.joined both.history k))
+            (λ t.
+            let on = knows_on firsts s.words v both.splits both.out both.joined both.history k in
+            subst (Knows firsts s.words) t.1 on)
             (λ t. r.knows j u t.1)
             (live_set s.views id j both u (lives j u p).1);
         apart = λ j i a b pj pi e. both_apart j i a b (lives j a pj).1 (lives i b pi).1 e;

@@ -169,7 +169,8 @@ module _ {T : Type 0} (continues : T → T → Type 0) (firsts : List T) where
   pub view_changes : (s : State (Option T) (View T)) (id : ℕ) (v : View T)
       (claimed : List ℕ) (refused : List (ℕ × ℕ)) (history : List Access) (homes : Homes T)
       → Rule s → IsLive s.views id v
-      → Recorded firsts s.words (slice_set s.views id (record v { claimed = claimed; refused = refused; history = history }))
+      → Recorded firsts s.words
+      (slice_set s.views id (record v { claimed = claimed; refused = refused; history = history }))
       → ((i : ℕ) → Has i claimed → Has i v.claimed) → ((i : ℕ) → Has i v.claimed → Has i claimed)
       → AllDiffer claimed → NoneReadZero refused
       → length homes ≡ length s.homes → ((i : ℕ) → (Has i v.claimed → ⊥) → get_elem? homes i ≡ get_elem? s.homes i)
@@ -190,7 +191,8 @@ module _ {T : Type 0} (continues : T → T → Type 0) (firsts : List T) where
       (λ j u ne. r.knows j u)
 
   -- the slots of a badge come into another order
-  pub reorders : (s : State (Option T) (View T)) (id : ℕ) (v : View T) (claimed : List ℕ) → Rule s → IsLive s.views id v
+  pub reorders : (s : State (Option T) (View T)) (id : ℕ) (v : View T) (claimed : List ℕ)
+      → Rule s → IsLive s.views id v
       → Recorded firsts s.words (slice_set s.views id (record v { claimed = claimed }))
   reorders s id v claimed r is =
       let w = record v { claimed = claimed } in

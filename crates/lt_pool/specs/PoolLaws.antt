@@ -55,7 +55,7 @@ module _ {T : Type 0} where
         → (first : View T) → IsLive s.views 0 first
         → (first.number ≡ 0) × AllNumbersDiffer s.views first × AllNumbersAreLow s.views first
 
-    -- where the rule holds before and after a step that was refused a slot, the slot's word is the one that the step tells
+    -- where the rule holds before and after a step that was refused a slot, the slot's word is the one that it tells
     abbrev pub EachRefusalIsTrue : Type 0
     EachRefusalIsTrue =
         (firsts : List T) (s t : State (Option T) (View T)) → Kept continues firsts s → Kept continues firsts t

@@ -10,7 +10,8 @@ use crate::same::Same;
 impl<T: Same> Pool<T> {
     /// Takes the item of a slot out of the pool, in one step on the slot's word.
     ///
-    /// Where the slot isn't free, the error is the word that this step read.
+    /// Where the slot isn't free, the error is the word that this step read. The step is the last access in the
+    /// badge's history, and between it and the badge's access before there are those of other badges alone.
     pub fn claim(&self, badge: &mut Badge<T>, slot: u8) -> Result<T, u64>
         requires of { badge.old.pool ≡ self.now }
         requires inside { slot < length self.now.firsts }

@@ -14,8 +14,8 @@ pub fn law_numbers<T: Same>()
     ensures { EachNumberIsOne T.continues }
 {}
 
-/// A step that the rule allows, and that adds a refused claim to its badge's history, found the word that it tells: it
-/// is still in the slot's word after the step.
+/// A step that the rule allows, and that adds a refused claim to its badge's history, found the word that it tells:
+/// that word is still in the slot's word after the step.
 pub fn law_refused_word<T: Same>()
     ensures { EachRefusalIsTrue T.continues }
 {}

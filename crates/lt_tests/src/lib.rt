@@ -1,9 +1,12 @@
-//! Tests of streams, the mail, runners, the pool, sessions and stations, the checker, and the calls that run a script
-//! on threads, by the word `run` or on live sessions: a crate apart, so that none is proved again for its tests.
+//! Tests of streams, the counts of tables and queues, the mail, runners, the pool, sessions and stations, the checker,
+//! and the calls that run a script on threads, by the word `run` or on live sessions: a crate apart, so that none is
+//! proved again for its tests.
 #![tactic(auto)]
 
 #[cfg(test)]
 mod checker;
+#[cfg(test)]
+mod counted;
 #[cfg(test)]
 mod faults;
 #[cfg(test)]

@@ -8,8 +8,14 @@ compare_exchange-found-requires g c =
 
 pub returns-then-found-ne0-clause-err : goal.returns-then-found-ne0-clause-err
 returns-then-found-ne0-clause-err g c =
-    (search rules, refused_slot _ _ _ c.args.seat.now.me c.compare_exchange-found.new.seat.me (search rules) (c.compare_exchange-found.ensures.2.1 (search rules)))
+    let was = c.args.seat.now.me in
+    let is = c.compare_exchange-found.new.seat.me in
+    let refused = c.compare_exchange-found.ensures.2.1 in
+    (search rules, refused_slot _ _ _ was is (search rules) (refused (search rules)))
 
 pub returns-clause-ok : goal.returns-clause-ok
 returns-clause-ok g c =
-    takes_slot g.T.Same.continues _ _ c.args.seat.now.me c.compare_exchange-found.new.seat.me (search rules) (c.compare_exchange-found.ensures.2.0 (search rules))
+    let was = c.args.seat.now.me in
+    let is = c.compare_exchange-found.new.seat.me in
+    let takes = c.compare_exchange-found.ensures.2.0 in
+    takes_slot g.T.Same.continues _ _ was is (search rules) (takes (search rules))
