@@ -18,7 +18,7 @@ pub fn visit<G: Gate>(
     requires of { badge.old.pool ≡ pool.now }
     requires inside { node < length pool.now.firsts }
     requires free { badge.old.claimed ≡ [] }
-    ensures badge { badge.new ≡ record badge.old { refused = badge.new.refused } }
+    ensures badge { badge.new ≡ record badge.old { refused = badge.new.refused; history = badge.new.history } }
     ensures visited { OnSome result (badge.new.refused ≡ badge.old.refused) }
     ensures turned { IfSome result (IsVisit pool.now.firsts node) }
     ensures refused { result ≡ None → IsRefusedVisit node badge.old.refused badge.new.refused }

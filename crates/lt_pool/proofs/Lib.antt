@@ -1,7 +1,10 @@
 pub mod RuleLemmas
 pub mod ViewLemmas
+pub mod HistoryLemmas
+pub mod Recording
 pub mod Forwarding
 pub mod StepLemmas
 pub mod BadgeLemmas
 pub mod OpeningLemmas
 pub mod ClosingLemmas
+pub mod LawLemmas

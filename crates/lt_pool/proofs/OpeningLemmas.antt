@@ -6,6 +6,7 @@ use lib.ListN.{get_elem?}
 use Rattle.atomic_table.specs.Table.{opening}
 use Rattle.lt_pool.specs.declared.view.View.{View}
 use Rattle.lt_pool.specs.Views.{first_view}
+use Rattle.lt_pool.specs.History.{KnowsAllBy}
 use Rattle.lt_pool.specs.Rule.{IsLive, Knows, Kept}
 
 module _ {T : Type 0} where
@@ -27,6 +28,7 @@ module _ {T : Type 0} (continues : T → T → Type 0) (firsts : List T) where
       → Kept continues firsts (opening (replicate (count + 1) 0) (map Some firsts) (first_view firsts))
   opens_with_noughts count wide itself = record {
     wide = length-replicate (count + 1) 0 ∙ ap (λ n. n + 1) (sym wide);
+    unused = get_or-replicate (count + 1) 0 0 0 (omega arith);
     rows = length-map (map Some firsts) math.some ∙ length-map firsts Some;
     free = λ i li z.
         let h = item_there firsts i li in
@@ -43,6 +45,16 @@ module _ {T : Type 0} (continues : T → T → Type 0) (firsts : List T) where
       others = λ j v p ne. absurd (ne (only_first (first_view firsts) v j p).0);
       below = λ n h. absurd h;
       counted = refl;
+      joined = record { differ = tt; spent = λ j v p h. h; below = λ n h. absurd h };
+    };
+    recorded = record {
+      history = [];
+      found = tt;
+      left = λ i li. get_or-replicate (count + 1) (i + 1) 0 0 (omega arith);
+      known = λ j v p.
+          subst (λ (x : View T). KnowsAllBy x.number x.history []) (only_first (first_view firsts) v j p).1 refl;
+      latest = (0, first_view firsts, record { there = refl; live = refl }, refl);
+      by = λ u p. tt;
     };
   }
 

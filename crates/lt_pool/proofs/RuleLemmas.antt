@@ -6,11 +6,14 @@ use mathlib.Core.Option as math
 use lib.ListN.{get_elem?}
 use Rattle.atomic_table.specs.Table.{State}
 use Rattle.atomic_table.proofs.Lists.{set_here, set_else}
-use Rattle.lt_pool.specs.Rule.{Has, without_first, AllDiffer, ContinuesAt, NoneReadZero, IsLive, Owner, Knows, Home, Kept}
+use Rattle.lt_pool.specs.Rule.{Has, without_first, AllDiffer, ContinuesAt, NoneReadZero, IsLive, Owner, Knows, Recorded, Home, Kept}
 use Rattle.lt_pool.specs.declared.view.View.{View}
+use Rattle.lt_pool.specs.declared.view.Access.{Access}
+use Rattle.lt_pool.specs.History.{taking, refusal, freeing}
 use Rattle.lt_pool.specs.Views.{claimed_more, refused_more, claimed_less}
 use Rattle.lt_pool.specs.PoolLaws.{AtHome, InOneHand}
-use Rattle.lt_pool.proofs.ViewLemmas.{SameBadge, word_here, word_else, live_set, set_live, apart_stays, first_stays, owner_stays}
+use Rattle.lt_pool.proofs.ViewLemmas.{SameBadge, word_here, word_else, first_word, live_set, set_live, apart_stays, first_stays, owner_stays}
+use Rattle.lt_pool.proofs.Recording.{records, record_stays}
 use Rattle.lt_pool.proofs.Forwarding.{Homes}
 
 -- the two cases of a test on numbers
@@ -60,6 +63,20 @@ length-without i (x ∷ xs) h =
 pub without_front : (i : ℕ) (xs : List ℕ) → without_first i (i ∷ xs) ≡ xs
 without_front i xs = ap (λ t. cond t xs (i ∷ without_first i xs)) (eq-eqb i i refl)
 
+pub has_push : (i x : ℕ) (xs : List ℕ) → Has i (xs ++ x ∷ []) → Has i xs ⊎ (i ≡ x)
+has_push i x [] h = ⊎_elim (λ e. inr e) (λ t. absurd t) h
+has_push i x (y ∷ ys) h = ⊎_elim
+    (λ e. inl (inl e))
+    (λ t. ⊎_elim (λ u. inl (inr u)) (λ e. inr e) (has_push i x ys t))
+    h
+
+pub differ_push : (xs : List ℕ) (x : ℕ) → AllDiffer xs → (Has x xs → ⊥) → AllDiffer (xs ++ x ∷ [])
+differ_push [] x d new = ((λ h. h), tt)
+differ_push (y ∷ ys) x d new = (
+  (λ h. ⊎_elim (λ t. d.0 t) (λ e. new (inl (sym e))) (has_push y x ys h)),
+  differ_push ys x d.1 (λ h. new (inr h)),
+)
+
 pub none_in_none : (n : ℕ) (xs : List ℕ) → length xs ≡ 0 → Has n xs → ⊥
 none_in_none n [] e h = h
 none_in_none n (x ∷ xs) e h = absurd (omega arith)
@@ -72,9 +89,9 @@ none_zero_push [] i word ne h = (ne, tt)
 none_zero_push (x ∷ xs) i word ne h = (h.0, none_zero_push xs i word ne h.1)
 
 module _ {T : Type 0} where
-  same_badge : (v : View T) (claimed : List ℕ) (refused : List (ℕ × ℕ)) → v.live ≡ true
-      → SameBadge v (record v { claimed = claimed; refused = refused })
-  same_badge v claimed refused live = record {
+  same_badge : (v : View T) (claimed : List ℕ) (refused : List (ℕ × ℕ)) (history : List Access) → v.live ≡ true
+      → SameBadge v (record v { claimed = claimed; refused = refused; history = history })
+  same_badge v claimed refused history live = record {
     firsts = refl;
     live = live;
     number = refl;
@@ -127,13 +144,15 @@ module _ {T : Type 0} (continues : T → T → Type 0) (firsts : List T) where
 
   -- a step of seat `id`, whose view becomes w
   after_step : (s : State (Option T) (View T)) (id : ℕ) (v w : View T) (words : List ℕ) (homes : Homes T)
-      → Rule s → IsLive s.views id v → SameBadge v w → length words ≡ length s.words → length homes ≡ length s.homes
+      → Rule s → IsLive s.views id v → SameBadge v w → length words ≡ length s.words → slice_index words 0 ≡ 0
+      → length homes ≡ length s.homes → Recorded firsts words (slice_set s.views id w)
       → ((i : ℕ) → i < length firsts → slice_index words (i + 1) ≡ 0 → Home continues firsts homes i)
       → ((i : ℕ) → i < length firsts → slice_index words (i + 1) ≢ 0 → Owner (slice_set s.views id w) i)
       → Knows firsts words w → ((j : ℕ) (u : View T) → j ≢ id → IsLive s.views j u → Knows firsts words u)
       → Rule record { words = words; homes = homes; views = slice_set s.views id w }
-  after_step s id v w words homes r is same wide rows free taken mine others = record {
+  after_step s id v w words homes r is same wide unused rows recorded free taken mine others = record {
     wide = wide ∙ r.wide;
+    unused = unused;
     rows = rows ∙ r.rows;
     free = free;
     taken = taken;
@@ -143,23 +162,27 @@ module _ {T : Type 0} (continues : T → T → Type 0) (firsts : List T) where
         (live_set s.views id j w u pj);
     apart = apart_stays s.views id v w is same.number r.apart;
     first = first_stays s.views id v w is same r.first;
+    recorded = recorded;
   }
 
   -- the view changes but keeps its slots, in whatever order, and what is at home in the other slots stays
   pub view_changes : (s : State (Option T) (View T)) (id : ℕ) (v : View T)
-      (claimed : List ℕ) (refused : List (ℕ × ℕ)) (homes : Homes T) → Rule s → IsLive s.views id v
+      (claimed : List ℕ) (refused : List (ℕ × ℕ)) (history : List Access) (homes : Homes T)
+      → Rule s → IsLive s.views id v
+      → Recorded firsts s.words
+      (slice_set s.views id (record v { claimed = claimed; refused = refused; history = history }))
       → ((i : ℕ) → Has i claimed → Has i v.claimed) → ((i : ℕ) → Has i v.claimed → Has i claimed)
       → AllDiffer claimed → NoneReadZero refused
       → length homes ≡ length s.homes → ((i : ℕ) → (Has i v.claimed → ⊥) → get_elem? homes i ≡ get_elem? s.homes i)
       → Rule record {
         words = s.words;
         homes = homes;
-        views = slice_set s.views id (record v { claimed = claimed; refused = refused });
+        views = slice_set s.views id (record v { claimed = claimed; refused = refused; history = history });
       }
-  view_changes s id v claimed refused homes r is back forth differ refusals rows else =
-      let w = record v { claimed = claimed; refused = refused } in
+  view_changes s id v claimed refused history homes r is recorded back forth differ refusals rows else =
+      let w = record v { claimed = claimed; refused = refused; history = history } in
       let k = r.knows id v is in
-      after_step s id v w s.words homes r is (same_badge v claimed refused is.live) refl rows
+      after_step s id v w s.words homes r is (same_badge v claimed refused history is.live) refl r.unused rows recorded
       (λ i li free.
       let h = r.free i li free in
       record { item = h.item; there = else i (not_free s id i v r is free) ∙ h.there; fits = h.fits })
@@ -167,30 +190,50 @@ module _ {T : Type 0} (continues : T → T → Type 0) (firsts : List T) where
       record { told = k.told; claims = λ i h. k.claims i (back i h); differ = differ; refusals = refusals }
       (λ j u ne. r.knows j u)
 
-  pub refuses : (s : State (Option T) (View T)) (id i word : ℕ) (v : View T) → Rule s → IsLive s.views id v → word ≢ 0
-      → Rule record { words = s.words; homes = s.homes; views = slice_set s.views id (refused_more i word v) }
-  refuses s id i word v r is ne =
+  -- the slots of a badge come into another order
+  pub reorders : (s : State (Option T) (View T)) (id : ℕ) (v : View T) (claimed : List ℕ)
+      → Rule s → IsLive s.views id v
+      → Recorded firsts s.words (slice_set s.views id (record v { claimed = claimed }))
+  reorders s id v claimed r is =
+      let w = record v { claimed = claimed } in
+      record_stays firsts s.words s.views id v w is is.live refl refl refl r.recorded
+
+  pub refuses : (s : State (Option T) (View T)) (id i word : ℕ) (v : View T) (r : Rule s) → i < length firsts
+      → IsLive s.views id v → slice_index s.words (i + 1) ≡ word → word ≢ 0
+      → Rule record {
+        words = s.words;
+        homes = s.homes;
+        views = slice_set s.views id (refused_more i word r.recorded.history v);
+      }
+  refuses s id i word v r li is found ne =
       let k = r.knows id v is in
-      view_changes s id v v.claimed (v.refused ++ (i, word) ∷ []) s.homes r is (λ j h. h) (λ j h. h) k.differ
+      let history = refusal v.number i word ∷ r.recorded.history in
+      let w = refused_more i word r.recorded.history v in
+      let recorded = records firsts s.words s.words s.views id v w (refusal v.number i word)
+      r.apart r.first is is.live refl r.recorded refl refl li (sym found) found (λ j other. refl) in
+      view_changes s id v v.claimed w.refused history s.homes r is recorded (λ j h. h) (λ j h. h) k.differ
       (none_zero_push v.refused i word ne k.refusals) refl (λ j not. refl)
 
   pub goes_out : (s : State (Option T) (View T)) (id i : ℕ) (v : View T)
-      → i < length firsts → Rule s → IsLive s.views id v
+      → i < length firsts → (r : Rule s) → IsLive s.views id v
       → slice_index s.words (i + 1) ≡ 0
       → Rule record {
         words = slice_set s.words (i + 1) (v.number + 1);
         homes = slice_set s.homes i math.none;
-        views = slice_set s.views id (claimed_more i v);
+        views = slice_set s.views id (claimed_more i r.recorded.history v);
       }
   goes_out s id i v li r is free =
-      let w = claimed_more i v in
+      let w = claimed_more i r.recorded.history v in
       let n = v.number + 1 in
       let words = slice_set s.words (i + 1) n in
       let wide = r.wide in
       let here : slice_index words (i + 1) ≡ n = word_here s.words i n (omega arith) in
       let k = r.knows id v is in
-      after_step s id v w words (slice_set s.homes i math.none) r is (same_badge v (i ∷ v.claimed) v.refused is.live)
-      (length-set s.words (i + 1) n) (length-set s.homes i math.none)
+      let recorded = records firsts s.words words s.views id v w (taking v.number i)
+      r.apart r.first is is.live refl r.recorded refl refl li (sym free) here (λ j ne. word_else s.words i j n ne) in
+      after_step s id v w words (slice_set s.homes i math.none) r is
+      (same_badge v (i ∷ v.claimed) v.refused w.history is.live)
+      (length-set s.words (i + 1) n) (first_word s.words i n ∙ r.unused) (length-set s.homes i math.none) recorded
       (λ j lj z. dite (ℕ_discrete j i)
       (λ e. let nought : n ≡ 0 = sym here ∙ (ap (λ x. slice_index words (x + 1)) (sym e) ∙ z) in absurd (omega arith))
       (λ ne. let h = r.free j lj (sym (word_else s.words i j n ne) ∙ z) in
@@ -212,22 +255,26 @@ module _ {T : Type 0} (continues : T → T → Type 0) (firsts : List T) where
 
   pub comes_home : (s : State (Option T) (View T)) (id i : ℕ) (v : View T) (item : T)
       → i < length firsts → Has i v.claimed
-      → ContinuesAt continues firsts i item → Rule s → IsLive s.views id v
+      → ContinuesAt continues firsts i item → (r : Rule s) → IsLive s.views id v
       → Rule record {
         words = slice_set s.words (i + 1) 0;
         homes = slice_set s.homes i (math.some (Some item));
-        views = slice_set s.views id (claimed_less i v);
+        views = slice_set s.views id (claimed_less i r.recorded.history v);
       }
   comes_home s id i v item li has fits r is =
-      let w = claimed_less i v in
+      let w = claimed_less i r.recorded.history v in
       let words = slice_set s.words (i + 1) 0 in
       let homes = slice_set s.homes i (math.some (Some item)) in
       let wide = r.wide in
       let rows = r.rows in
       let here : slice_index words (i + 1) ≡ 0 = word_here s.words i 0 (omega arith) in
       let k = r.knows id v is in
-      after_step s id v w words homes r is (same_badge v (without_first i v.claimed) v.refused is.live)
-      (length-set s.words (i + 1) 0) (length-set s.homes i (math.some (Some item)))
+      let recorded = records firsts s.words words s.views id v w (freeing v.number i)
+      r.apart r.first is is.live refl r.recorded refl refl li (sym (k.claims i has).1) here
+      (λ j ne. word_else s.words i j 0 ne) in
+      after_step s id v w words homes r is (same_badge v (without_first i v.claimed) v.refused w.history is.live)
+      (length-set s.words (i + 1) 0) (first_word s.words i 0 ∙ r.unused) (length-set s.homes i (math.some (Some item)))
+      recorded
       (λ j lj z. dite (ℕ_discrete j i)
       (λ e. subst (Home continues firsts homes) (sym e)
       record { item = item; there = set_here s.homes i (math.some (Some item)) (omega arith); fits = fits })

@@ -10,8 +10,8 @@ use Rattle.atomic_table.proofs.Lists.{exchanged}
 use Rattle.lt_pool.specs.declared.view.View.{View}
 use Rattle.lt_pool.specs.Rule.{Has, without_first, ContinuesAt, IsLive, Kept, empty_hands}
 use Rattle.lt_pool.specs.Views.{claimed_more, refused_more, claimed_less, brought_forward}
-use Rattle.lt_pool.specs.Steps.{Mine, Claims, Forwards, Releases, Takes, forwarded}
-use Rattle.lt_pool.proofs.RuleLemmas.{has_without, without_keeps, without_it, differ_without, refuses, goes_out, comes_home, view_changes}
+use Rattle.lt_pool.specs.Steps.{Mine, Before, Claims, Forwards, Releases, Takes, IsRefused, IsReleased, forwarded}
+use Rattle.lt_pool.proofs.RuleLemmas.{has_without, without_keeps, without_it, differ_without, reorders, refuses, goes_out, comes_home, view_changes}
 use Rattle.lt_pool.proofs.Forwarding.{Homes, brings}
 
 -- the slot of the word after that of slot i
@@ -19,6 +19,18 @@ slot_back : (i : ℕ) → (i + 1) - 1 ≡ i
 slot_back i = omega arith
 
 module _ {T : Type 0} where
+  -- the slot of the word that a step is on
+  pub takes_slot : (continues : T → T → Type 0) (word i : ℕ) (m m' : Mine T) → word ≡ i + 1
+      → Takes continues (word - 1) m m' → Takes continues i m m'
+  takes_slot continues word i m m' e t = subst (λ j. Takes continues j m m') (ap (λ n. n - 1) e ∙ slot_back i) t
+
+  pub refused_slot : (word i found : ℕ) (m m' : Mine T) → word ≡ i + 1
+      → IsRefused (word - 1) found m m' → IsRefused i found m m'
+  refused_slot word i found m m' e t = subst (λ j. IsRefused j found m m') (ap (λ n. n - 1) e ∙ slot_back i) t
+
+  pub released_slot : (word i : ℕ) (m m' : Mine T) → word ≡ i + 1 → IsReleased (word - 1) m m' → IsReleased i m m'
+  released_slot word i m m' e t = subst (λ j. IsReleased j m m') (ap (λ n. n - 1) e ∙ slot_back i) t
+
   -- a compare and exchange of 0 for `mine` on the word of slot i
   abbrev pub claim_step : ℕ → ℕ → ℕ → Step (Option T)
   claim_step slots i mine = step slots (i + 1) 0 mine math.none
@@ -52,15 +64,18 @@ module _ {T : Type 0} (continues : T → T → Type 0) (firsts : List T) where
       × Claims continues (claim_step slots i mine) m word (w, carried_after m.1 a))
       (λ free.
       let h = r.free i li free in
-      let w = claimed_more i m.0 in
+      let b : Before m = (r.recorded.history, r.recorded.known id m.0 is) in
+      let w = claimed_more i b.0 m.0 in
       let fits = subst (λ (f : List T). ContinuesAt continues f i h.item) (sym told) h.fits in
-      let taken = subst (λ j. Takes continues j m (w, (i, Some h.item) ∷ m.1)) back (h.item, refl, fits) in
+      let taken = subst (λ j. Takes continues j m (w, (i, Some h.item) ∷ m.1)) back (h.item, b, refl, fits) in
       let kept = goes_out continues firsts s id i m.0 li r is free in
       (w, takes i (Some h.item), h.there, kept, ((λ z. taken), (λ nz. absurd (nz free)))))
       (λ nz.
-      let w = refused_more i word m.0 in
-      let kept = same_word s i s.homes (slice_set s.views id w) (refuses continues firsts s id i word m.0 r is nz) in
-      let refused = ap (λ j. (refused_more j word m.0, m.1)) back in
+      let b : Before m = (r.recorded.history, r.recorded.known id m.0 is) in
+      let w = refused_more i word b.0 m.0 in
+      let stays = refuses continues firsts s id i word m.0 r li is refl nz in
+      let kept = same_word s i s.homes (slice_set s.views id w) stays in
+      let refused = subst (λ j. IsRefused j word m (w, m.1)) back (b, refl) in
       (w, keeps, tt, kept, ((λ z. absurd (nz z)), (λ other. refused))))
 
   pub claims : (slots id i mine : ℕ) (m : Mine T) → i < length firsts → m.0.live ≡ true → m.0.firsts ≡ firsts
@@ -83,7 +98,8 @@ module _ {T : Type 0} (continues : T → T → Type 0) (firsts : List T) where
       let homes_wide = r.rows in
       let b = brings s.homes i v.claimed has k.differ (λ j h. subst (λ n. j < n) (sym homes_wide) (k.claims j h).0) in
       let homes = homes_after s.homes (empty_hands v.claimed) b.act in
-      let kept = view_changes continues firsts s id v (i ∷ without_first i v.claimed) v.refused homes r is
+      let kept = view_changes continues firsts s id v (i ∷ without_first i v.claimed) v.refused v.history homes r is
+      (reorders continues firsts s id v (i ∷ without_first i v.claimed) r is)
       (λ j. ⊎_elim (λ e. subst (λ x. Has x v.claimed) (sym e) has) (has_without i j v.claimed))
       (λ j h. dite (ℕ_discrete j i) (λ e. inl e) (λ ne. inr (without_keeps i j v.claimed ne h)))
       (without_it i v.claimed k.differ, differ_without i v.claimed k.differ)
@@ -100,10 +116,12 @@ module _ {T : Type 0} (continues : T → T → Type 0) (firsts : List T) where
       → m.1 ≡ (i, Some item) ∷ rest m.1 → ContinuesAt continues firsts i item → i < length firsts
       → Allows Rule slots id m (i + 1) (λ _. 0) (λ _. Releases (word_step slots i) m 0)
   releases slots id i m item live has front fits li s r rows here bound =
-      let w = claimed_less i m.0 in
-      let kept = comes_home continues firsts s id i m.0 item li has fits r record { there = here; live = live } in
+      let is : IsLive s.views id m.0 = record { there = here; live = live } in
+      let b : Before m = (r.recorded.history, r.recorded.known id m.0 is) in
+      let w = claimed_less i b.0 m.0 in
+      let kept = comes_home continues firsts s id i m.0 item li has fits r is in
       let told : Releases (word_step slots i) m 0 (w, rest m.1) =
-      ap (λ j. (claimed_less j m.0, rest m.1)) (sym (slot_back i)) in
+      (b, ap (λ j. (claimed_less j b.0 m.0, rest m.1)) (sym (slot_back i))) in
       subst
       (λ c. (u : View T) × (a : Act (Option T)) × Valid s.homes c a × Rule (stepped s (i + 1) 0 id c u a)
       × Releases (word_step slots i) m 0 (u, carried_after c a))

@@ -1,12 +1,12 @@
 -- The views and the words of a table after one of them changed.
-use Rattle.std.proofs.Common.{◌≡◌, ◌≢◌, ◌⊎◌, ℕ, zero, suc, ◌+◌, ◌<◌, ◌≤◌, true, List, [], ◌∷◌, ◌++◌, length, slice_index, slice_set, sym, refl, ap, ◌∙◌, subst, inl, inr, ⊎_elim, get_or-set_other, get_or-set_same, arith}
+use Rattle.std.proofs.Common.{◌≡◌, ◌≢◌, ◌⊎◌, ℕ, zero, suc, ◌+◌, ◌<◌, ◌≤◌, true, false, true≢false, List, [], ◌∷◌, ◌++◌, length, slice_index, slice_set, sym, refl, ap, ◌∙◌, subst, inl, inr, ⊎_elim, get_or-set_other, get_or-set_same, arith}
 use mathlib.Core.Logic.{dite}
 use mathlib.Core.Option.{some, some-injective, some-ne-none}
 use native.Mathlib.Decide.{ℕ_discrete}
 use lib.ListN.{get_elem?}
-use Rattle.atomic_table.proofs.Lists.{at_set, set_here, set_else}
+use Rattle.atomic_table.proofs.Lists.{at_set, set_here, set_else, at_longer}
 use Rattle.lt_pool.specs.declared.view.View.{View}
-use Rattle.lt_pool.specs.Rule.{Has, IsLive, Apart, First, Owner}
+use Rattle.lt_pool.specs.Rule.{Has, AllDiffer, IsLive, Apart, AreJoined, First, Owner}
 
 pub word_here : (words : List ℕ) (i n : ℕ) → i + 1 < length words → slice_index (slice_set words (i + 1) n) (i + 1) ≡ n
 word_here words i n inside = get_or-set_same words (i + 1) n 0 inside
@@ -14,6 +14,9 @@ word_here words i n inside = get_or-set_same words (i + 1) n 0 inside
 pub word_else : (words : List ℕ) (i j n : ℕ) → j ≢ i
     → slice_index (slice_set words (i + 1) n) (j + 1) ≡ slice_index words (j + 1)
 word_else words i j n ne = get_or-set_other words (i + 1) (j + 1) n 0 (λ e. ne (omega arith))
+
+pub first_word : (words : List ℕ) (i n : ℕ) → slice_index (slice_set words (i + 1) n) 0 ≡ slice_index words 0
+first_word words i n = get_or-set_other words (i + 1) 0 n 0 (λ e. absurd (omega arith))
 
 module _ {A : Type 0} where
   pub there_below : (l : List A) (i : ℕ) (a : A) → get_elem? l i ≡ some a → i < length l
@@ -51,6 +54,23 @@ module _ {T : Type 0} where
       → IsLive (slice_set views id w) j u
   else_live views id j u w ne is = record { there = set_else views id j w ne ∙ is.there; live = is.live }
 
+  -- the live seats after the view of one became that of a badge that isn't live: the others
+  pub left_live : (views : List (View T)) (id j : ℕ) (u spent : View T) → spent.live ≡ false
+      → IsLive (slice_set views id spent) j u → (j ≢ id) × IsLive views j u
+  left_live views id j u spent gone p = ⊎_elim
+      (λ t. absurd (true≢false (sym p.live ∙ (sym (ap (λ (x : View T). x.live) t.1) ∙ gone))))
+      (λ t. t)
+      (live_set views id j spent u p)
+
+  -- the live seats after a seat was added: those before, and the new one
+  pub live_push : (views : List (View T)) (new u : View T) (j : ℕ) → IsLive (views ++ new ∷ []) j u
+      → IsLive views j u ⊎ ((j ≡ length views) × (new ≡ u))
+  live_push views new u j p =
+      ⊎_elim (λ t. inl record { there = t; live = p.live }) (λ t. inr t) (at_push views new u j p.there)
+
+  pub push_live : (views : List (View T)) (new u : View T) (j : ℕ) → IsLive views j u → IsLive (views ++ new ∷ []) j u
+  push_live views new u j p = record { there = at_longer views (new ∷ []) j u p.there; live = p.live }
+
   -- v and w are views of one live badge, which split off and joined no other in between
   pub record SameBadge (v w : View T) : Type 0 where
     pub firsts : w.firsts ≡ v.firsts
@@ -75,6 +95,31 @@ module _ {T : Type 0} where
       (live_set views id k w b pk))
       (live_set views id j w a pj)
 
+  -- a live badge had this number
+  abbrev pub WasLive : List (View T) → ℕ → Type 0
+  WasLive views n = (j : ℕ) × (v : View T) × IsLive views j v × (v.number ≡ n)
+
+  pub same_numbers : (views : List (View T)) (id : ℕ) (v w : View T) → IsLive views id v → w.number ≡ v.number
+      → (j : ℕ) (u : View T) → IsLive (slice_set views id w) j u → WasLive views u.number
+  same_numbers views id v w is same j u p = ⊎_elim
+      (λ t. (id, v, is, sym same ∙ ap (λ (x : View T). x.number) t.1))
+      (λ t. (j, u, t.1, refl))
+      (live_set views id j w u p)
+
+  -- the numbers that were joined, where the numbers of the live badges are among those before
+  pub joined_stay : (views after : List (View T)) (f w : View T) → f.joined ≡ w.joined → f.splits ≡ w.splits
+      → ((j : ℕ) (u : View T) → IsLive after j u → WasLive views u.number) → AreJoined views f → AreJoined after w
+  joined_stay views after f w joined splits was a = record {
+    differ = subst AllDiffer joined a.differ;
+    spent = λ j u p has.
+        let old = was j u p in
+        a.spent old.0 old.1 old.2
+        (subst (λ n. Has n f.joined) (sym old.3) (subst (Has u.number) (sym joined) has));
+    below = λ n has.
+        let b = a.below n (subst (Has n) (sym joined) has) in
+        (b.0, subst (λ k. n ≤ k) splits b.1);
+  }
+
   -- the first badge itself goes on
   first_goes_on : (views : List (View T)) (id : ℕ) (v w : View T) → IsLive views id v → SameBadge v w → id ≡ 0
       → First views → First (slice_set views id w)
@@ -82,8 +127,8 @@ module _ {T : Type 0} where
       let one : f.view ≡ v = one_live views 0 id f.view v f.is is (sym z) in
       let out : f.view.out ≡ w.out = ap (λ (x : View T). x.out) one ∙ sym same.out in
       let splits : f.view.splits ≡ w.splits = ap (λ (x : View T). x.splits) one ∙ sym same.splits in
-      let joined : length f.view.joined ≡ length w.joined =
-      ap (λ (x : View T). length x.joined) one ∙ ap length (sym same.joined) in
+      let joined : f.view.joined ≡ w.joined = ap (λ (x : View T). x.joined) one ∙ sym same.joined in
+      let joins : length f.view.joined ≡ length w.joined = ap length joined in
       let outs : length f.view.out ≡ length w.out = ap length out in
       let counted = f.counted in
       record {
@@ -96,6 +141,8 @@ module _ {T : Type 0} where
             (live_set views id j w u pj);
         below = λ n h. let b = f.below n (subst (Has n) (sym out) h) in (b.0, subst (λ k. n ≤ k) splits b.1);
         counted = omega arith;
+        joined = joined_stay views (slice_set views id w) f.view w joined splits
+            (same_numbers views id v w is same.number) f.joined;
       }
 
   pub first_stays : (views : List (View T)) (id : ℕ) (v w : View T) → IsLive views id v → SameBadge v w
@@ -115,6 +162,8 @@ module _ {T : Type 0} where
             (live_set views id j w u pj);
         below = f.below;
         counted = f.counted;
+        joined = joined_stay views (slice_set views id w) f.view f.view refl refl
+            (same_numbers views id v w is same.number) f.joined;
       })
 
   -- an owner of slot i stays one where its view changes and keeps the slot

@@ -6,6 +6,8 @@ use lib.ListN.{get_elem?}
 use mathlib.Core.Option as math
 use Rattle.atomic_table.specs.Table.{State}
 use Rattle.lt_pool.specs.declared.view.View.{View}
+use Rattle.lt_pool.specs.declared.view.Access.{Access}
+use Rattle.lt_pool.specs.History.{left_in, FindsWhatWasLeft, AreByUpTo, KnowsAllBy}
 
 -- x continues the first item of slot i
 abbrev pub ContinuesAt : {T : Type 0} → (T → T → Type 0) → List T → ℕ → T → Type 0
@@ -63,6 +65,13 @@ module _ {T : Type 0} where
   abbrev pub Apart : List (View T) → Type 0
   Apart views = (j k : ℕ) (v w : View T) → IsLive views j v → IsLive views k w → v.number ≡ w.number → j ≡ k
 
+  -- The numbers of the badges that were joined differ, from each other and from those of live ones.
+  -- They are from 1 to the number of splits.
+  pub record AreJoined (views : List (View T)) (first : View T) : Type 0 where
+    pub differ : AllDiffer first.joined
+    pub spent : (j : ℕ) (v : View T) → IsLive views j v → Has v.number first.joined → ⊥
+    pub below : (n : ℕ) → Has n first.joined → (0 < n) × (n ≤ first.splits)
+
   -- Seat 0 is of the first badge, which has number 0.
   -- Each other live badge was split off it and not joined since; those have numbers from 1 to the number of splits.
   pub record First (views : List (View T)) : Type 0 where
@@ -72,6 +81,7 @@ module _ {T : Type 0} where
     pub others : (j : ℕ) (v : View T) → IsLive views j v → j ≢ 0 → Has v.number view.out
     pub below : (n : ℕ) → Has n view.out → (0 < n) × (n ≤ view.splits)
     pub counted : length view.out + length view.joined ≡ view.splits
+    pub joined : AreJoined views view
 
   -- a live badge has claimed slot i
   pub record Owner (views : List (View T)) (i : ℕ) : Type 0 where
@@ -87,6 +97,17 @@ module _ {T : Type 0} where
     pub differ : AllDiffer v.claimed
     pub refusals : NoneReadZero v.refused
 
+  -- The pool's history: all accesses so far, the latest before the others.
+  -- Each found what those before it left, and what they leave is in the words of the slots.
+  -- Each live badge knows all accesses up to the last one of its own, and one knows them all.
+  pub record Recorded (firsts : List T) (words : List ℕ) (views : List (View T)) : Type 0 where
+    pub history : List Access
+    pub found : FindsWhatWasLeft history
+    pub left : (i : ℕ) → i < length firsts → slice_index words (i + 1) ≡ left_in i history
+    pub known : (j : ℕ) (v : View T) → IsLive views j v → KnowsAllBy v.number v.history history
+    pub latest : (j : ℕ) × (v : View T) × IsLive views j v × (v.history ≡ history)
+    pub by : (first : View T) → IsLive views 0 first → AreByUpTo first.splits history
+
   module _ (continues : T → T → Type 0) where
     -- the item of slot i is at home, and continues its first one
     pub record Home (firsts : List T) (homes : List (math.Option (Option T))) (i : ℕ) : Type 0 where
@@ -94,13 +115,15 @@ module _ {T : Type 0} where
       pub there : get_elem? homes i ≡ some (some (Some item))
       pub fits : ContinuesAt continues firsts i item
 
-    -- There is a word for each slot, and one before them.
+    -- There is a word for each slot, and one before them, which is 0.
     -- Where a slot's word is 0, its item is at home; else a live badge has claimed it.
     pub record Kept (firsts : List T) (s : State (Option T) (View T)) : Type 0 where
       pub wide : length s.words ≡ length firsts + 1
+      pub unused : slice_index s.words 0 ≡ 0
       pub rows : length s.homes ≡ length firsts
       pub free : (i : ℕ) → i < length firsts → slice_index s.words (i + 1) ≡ 0 → Home firsts s.homes i
       pub taken : (i : ℕ) → i < length firsts → slice_index s.words (i + 1) ≢ 0 → Owner s.views i
       pub knows : (j : ℕ) (v : View T) → IsLive s.views j v → Knows firsts s.words v
       pub apart : Apart s.views
       pub first : First s.views
+      pub recorded : Recorded firsts s.words s.views

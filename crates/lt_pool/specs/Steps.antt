@@ -2,6 +2,8 @@
 use Rattle.std.specs.Prelude.{◌≡◌, ◌≢◌, ◌-◌, ℕ, true, List, ◌∷◌, Option, Some}
 use Rattle.atomic_table.specs.Table.{Me, Step, rest}
 use Rattle.lt_pool.specs.declared.view.View.{View}
+use Rattle.lt_pool.specs.declared.view.Access.{Access}
+use Rattle.lt_pool.specs.History.{KnowsAllBy}
 use Rattle.lt_pool.specs.Rule.{without_first, ContinuesAt, empty_hands}
 use Rattle.lt_pool.specs.Views.{claimed_more, refused_more, claimed_less, brought_forward}
 
@@ -20,22 +22,29 @@ module _ {T : Type 0} where
   HasItem continues firsts i m =
       (item : T) × (m.1 ≡ (i, Some item) ∷ rest m.1) × ContinuesAt continues firsts i item
 
+  -- the accesses before one that the badge makes: those that it knows of, and what others made since
+  abbrev pub Before : Mine T → Type 0
+  Before m = (before : List Access) × KnowsAllBy m.0.number m.0.history before
+
   -- slot i was free and is claimed: in it lies an item that continues its first one
   abbrev pub Takes : (T → T → Type 0) → ℕ → Mine T → Mine T → Type 0
   Takes continues i m m' =
-      (item : T) × (m' ≡ (claimed_more i m.0, (i, Some item) ∷ m.1)) × ContinuesAt continues m.0.firsts i item
+      (item : T)
+      × (b : Before m)
+      × (m' ≡ (claimed_more i b.0 m.0, (i, Some item) ∷ m.1))
+      × ContinuesAt continues m.0.firsts i item
 
   -- slot i was refused, for the word found
   abbrev pub IsRefused : ℕ → ℕ → Mine T → Mine T → Type 0
-  IsRefused i found m m' = m' ≡ (refused_more i found m.0, m.1)
+  IsRefused i found m m' = (b : Before m) × (m' ≡ (refused_more i found b.0 m.0, m.1))
 
   -- slot i is before the others
   abbrev pub forwarded : ℕ → Mine T → Mine T
   forwarded i m = (brought_forward i m.0, empty_hands (i ∷ without_first i m.0.claimed))
 
   -- slot i, which was before the others, was given back
-  abbrev pub released : ℕ → Mine T → Mine T
-  released i m = (claimed_less i m.0, rest m.1)
+  abbrev pub IsReleased : ℕ → Mine T → Mine T → Type 0
+  IsReleased i m m' = (b : Before m) × (m' ≡ (claimed_less i b.0 m.0, rest m.1))
 
   -- the slot whose word a step is on
   abbrev pub slot_of : Step (Option T) → ℕ
@@ -52,4 +61,4 @@ module _ {T : Type 0} where
 
   -- the store that makes a slot free again
   abbrev pub Releases : Step (Option T) → Mine T → ℕ → Mine T → Type 0
-  Releases st m found m' = m' ≡ released (slot_of st) m
+  Releases st m found m' = IsReleased (slot_of st) m m'

@@ -2,6 +2,8 @@
 use Rattle.std.specs.Prelude.{◌+◌, ℕ, true, false, List, [], ◌∷◌, ◌++◌}
 use Rattle.atomic_table.specs.Seated.{TableId}
 use Rattle.lt_pool.specs.declared.view.View.{View}
+use Rattle.lt_pool.specs.declared.view.Access.{Access}
+use Rattle.lt_pool.specs.History.{taking, refusal, freeing, longer}
 use Rattle.lt_pool.specs.Rule.{without_first}
 use Rattle.lt_pool.specs.PoolData.{BadgeData}
 
@@ -15,6 +17,7 @@ module _ {T : Type 0} where
     refused = v.refused;
     splits = v.splits;
     joined = v.joined;
+    history = v.history;
   }
 
   -- a live badge with this number that has done nothing
@@ -27,6 +30,7 @@ module _ {T : Type 0} where
     splits = 0;
     out = [];
     joined = [];
+    history = [];
     firsts = firsts;
   }
 
@@ -34,17 +38,19 @@ module _ {T : Type 0} where
   abbrev pub first_view : List T → View T
   first_view firsts = new_view firsts 0
 
-  -- slot i was claimed
-  abbrev pub claimed_more : ℕ → View T → View T
-  claimed_more i v = record v { claimed = i ∷ v.claimed }
+  -- slot i was claimed, after these accesses
+  abbrev pub claimed_more : ℕ → List Access → View T → View T
+  claimed_more i before v = record v { claimed = i ∷ v.claimed; history = taking v.number i ∷ before }
 
-  -- slot i was refused, for this word
-  abbrev pub refused_more : ℕ → ℕ → View T → View T
-  refused_more i word v = record v { refused = v.refused ++ (i, word) ∷ [] }
+  -- slot i was refused, for this word, after these accesses
+  abbrev pub refused_more : ℕ → ℕ → List Access → View T → View T
+  refused_more i word before v =
+      record v { refused = v.refused ++ (i, word) ∷ []; history = refusal v.number i word ∷ before }
 
-  -- slot i was given back
-  abbrev pub claimed_less : ℕ → View T → View T
-  claimed_less i v = record v { claimed = without_first i v.claimed }
+  -- slot i was given back, after these accesses
+  abbrev pub claimed_less : ℕ → List Access → View T → View T
+  claimed_less i before v =
+      record v { claimed = without_first i v.claimed; history = freeing v.number i ∷ before }
 
   -- slot i stands before the others that were claimed
   abbrev pub brought_forward : ℕ → View T → View T
@@ -60,7 +66,11 @@ module _ {T : Type 0} where
 
   -- the badge with the second view was joined in
   abbrev pub joined_more : View T → View T → View T
-  joined_more v w = record v { out = without_first w.number v.out; joined = v.joined ++ w.number ∷ [] }
+  joined_more v w = record v {
+    out = without_first w.number v.out;
+    joined = v.joined ++ w.number ∷ [];
+    history = longer v.history w.history;
+  }
 
   -- what is left of the view of a badge that was joined into the first one
   abbrev pub spent_view : View T

@@ -29,7 +29,7 @@ impl<T: Same> Pool<T> {
         requires of { (badge.old.pool ≡ self.now) × (other.pool ≡ self.now) }
         requires first { badge.old.number ≡ 0 }
         requires other { (other.number ≢ 0) × (other.claimed ≡ []) }
-        ensures { badge.new ≡ after_join other.number badge.old }
+        ensures { badge.new ≡ after_join other badge.old }
     {
         let Badge { seat, .. } = other;
         self.table.shared.join_seat::<JoinIn>(&mut badge.seat, seat);

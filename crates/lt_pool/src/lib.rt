@@ -12,6 +12,6 @@ mod same;
 mod steps;
 mod view;
 
-pub use laws::law_one_place;
+pub use laws::{law_numbers, law_one_place, law_refused_word};
 pub use pool::{Badge, Pool};
 pub use same::Same;

@@ -1,7 +1,7 @@
 // The steps of a seat on the word of a slot.
 ghost use Rattle.std.specs.Prelude.{◌≡◌, ◌≢◌, ◌<◌, true, length, OnOk, IfErr};
 ghost use Rattle.lt_pool.specs.Rule.{Has, empty_hands};
-ghost use Rattle.lt_pool.specs.Steps.{HasItem, Takes, IsRefused, forwarded, released};
+ghost use Rattle.lt_pool.specs.Steps.{HasItem, Takes, IsRefused, IsReleased, forwarded};
 
 use crate::pool::Pool;
 use crate::rule::{Claim, Forward, Release};
@@ -57,7 +57,7 @@ impl<T: Same> Pool<T> {
         requires item { HasItem T.continues self.now.firsts slot seat.old.me }
         requires inside { slot < length self.now.firsts }
         ensures of { seat.new.table_id ≡ seat.old.table_id }
-        ensures released { seat.new.me ≡ released slot seat.old.me }
+        ensures released { IsReleased slot seat.old.me seat.new.me }
     {
         let word = usize::from(slot) + 1;
         self.table.shared.store::<Release>(seat, word, 0);

@@ -1,5 +1,15 @@
 use std::collections::LinkedList;
 
+/// A step on the word of a slot: the number of the badge that made it, what it found there, and what it left.
+///
+/// No value of it is made: the rule and the contracts alone speak of it.
+pub struct Access {
+    pub by: u64,
+    pub slot: u64,
+    pub found: u64,
+    pub left: u64,
+}
+
 /// What a badge knows. No value of it is made: the rule and the contracts alone speak of it.
 pub struct View<T> {
     pub number: u64,
@@ -15,6 +25,8 @@ pub struct View<T> {
     pub out: LinkedList<u64>,
     // The numbers of those that were, the last one at the end.
     pub joined: LinkedList<u64>,
+    // The accesses of all badges up to the last one of its own, the latest before the others.
+    pub history: LinkedList<Access>,
     // The items that the pool was made of.
     pub firsts: LinkedList<T>,
 }

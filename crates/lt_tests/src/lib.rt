@@ -1,10 +1,12 @@
-//! Tests of streams, the desk's table, the mail, logs, runners, the pool, sessions and stations, the checker, and the
-//! calls that run a script on threads, by the word `run` or on live sessions: a crate apart, so that none is proved
-//! again for its tests.
+//! Tests of streams, the counts of tables and queues, the mail, logs, runners, the pool, sessions and stations, the
+//! checker, and the calls that run a script on threads, by the word `run` or on live sessions: a crate apart, so that
+//! none is proved again for its tests.
 #![tactic(auto)]
 
 #[cfg(test)]
 mod checker;
+#[cfg(test)]
+mod counted;
 #[cfg(test)]
 mod faults;
 #[cfg(test)]
@@ -27,8 +29,6 @@ mod runner;
 mod running;
 #[cfg(test)]
 mod streams;
-#[cfg(test)]
-mod table;
 #[cfg(test)]
 mod telling;
 #[cfg(test)]

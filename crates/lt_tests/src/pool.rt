@@ -17,7 +17,9 @@ impl Same for Named {
 
 #[test]
 fn a_slot_is_one_badges_at_a_time(rt: HostRuntime) {
-    let items = vec![in rt.alloc(); Named { name: 0 }, Named { name: 1 }].expect(&rt, "memory");
+    let items = vec![in rt.alloc(); Named { name: 0 }, Named { name: 1 }, Named { name: 2 }].expect(
+        &rt, "memory",
+    );
     let (pool, mut first) = Pool::new(rt.alloc(), items).expect(&rt, "memory");
     let mut second = pool.split(&mut first);
 
@@ -36,5 +38,8 @@ fn a_slot_is_one_badges_at_a_time(rt: HostRuntime) {
 
     pool.join(&mut first, second);
     let items = pool.close(first).ok().expect(&rt, "memory");
-    same(&rt, items.len(), 2);
+    same(&rt, items.len(), 3);
+    for (slot, item) in items.into_iter().enumerate() {
+        same(&rt, usize::from(item.name), slot);
+    }
 }

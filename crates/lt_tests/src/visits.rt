@@ -22,8 +22,8 @@ fn visit_taken<R: Abort>(
 )
     requires of { (first.old.pool ≡ pool.now) × (other.old.pool ≡ pool.now) }
     requires free { (first.old.claimed ≡ []) × (1 < length pool.now.firsts) }
-    ensures first { first.new ≡ record first.old { refused = first.new.refused } }
-    ensures other { other.new ≡ other.old }
+    ensures first { first.new ≡ record first.old { refused = first.new.refused; history = first.new.history } }
+    ensures other { other.new ≡ record other.old { history = other.new.history } }
 {
     let station = pool.claim(other, 1).expect(rt, "the station");
     same(rt, visit(pool, first, 1, &Open), None);
@@ -33,7 +33,7 @@ fn visit_taken<R: Abort>(
 // Visits both stations so often that a reply comes.
 fn visit_both(pool: &Pool<Station>, badge: &mut Badge<Station>)
     requires { (badge.old.pool ≡ pool.now) × (badge.old.claimed ≡ []) × (1 < length pool.now.firsts) }
-    ensures { badge.new ≡ record badge.old { refused = badge.new.refused } }
+    ensures { badge.new ≡ record badge.old { refused = badge.new.refused; history = badge.new.history } }
 {
     for _ in 0_u8..4 {
         visit(pool, badge, 0, &Open);

@@ -13,7 +13,7 @@ give-requires-clause-item g c =
 pub returns-clause-visit : goal.returns-clause-visit
 returns-clause-visit g c = inr (
   ap (λ (b : BadgeData Parts). b.refused) c.note.ensures.badge
-      ∙ (ap (λ (b : BadgeData Parts). b.refused) c.give.ensures ∙ ap (λ (b : BadgeData Parts). b.refused) c.in-Ok.ensures.ok),
+      ∙ (ap (λ (b : BadgeData Parts). b.refused) c.give.ensures.badge ∙ ap (λ (b : BadgeData Parts). b.refused) c.in-Ok.ensures.ok),
   record {
     x = c.in-Ok.runner;
     y = c.work_on-visit.new.runner;
