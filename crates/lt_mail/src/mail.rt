@@ -1,7 +1,7 @@
 ghost use Rattle.std.specs.Prelude.{◌≡◌, ◌≢◌, ◌+◌, ◌≤◌, ◌<◌, ◌⊎◌, ℕ, [], ◌∷◌, ◌++◌, length, true, IfSome, IfNone, IsOk, OnOk, OnErr, MatchBool};
 ghost use mathlib.Core.List.{IsPrefix};
 ghost use Rattle.lt_desk.specs.LetterSeen.{letter_seen};
-ghost use Rattle.lt_mail.specs.Words.{out_at, in_at, outs_count, ins_count, sent_to, given_to, waiting_to, taken_from, known_from, if_to, if_from, places_to, IsFullTo, HasRoomFor, SameEnds, Sees};
+ghost use Rattle.lt_mail.specs.Words.{out_at, in_at, outs_count, ins_count, sent_to, given_to, waiting_to, taken_from, known_from, if_to, if_from, places_to, end_at, IsFullTo, HasRoomFor, SameEnds, Sees};
 ghost use Rattle.std.specs.VecDeque.{deque_len, deque_capacity};
 ghost use Rattle.lt_mail.specs.Passing.{LooksAtSome, SawNone, KeepsSent, OutChanges, InChanges, Puts, Flushes, Takes, TakesKnown, TakesNone, FindsNoLetter, Saw};
 
@@ -64,6 +64,7 @@ impl Mail {
         requires room { HasRoomFor self.old 1 }
         ensures sent { (node : ℕ) → sent_to self.new node ≡ sent_to self.old node ++ if_to to (letter_seen letter) node }
         ensures given { (node : ℕ) → given_to self.new node ≡ given_to self.old node }
+        ensures rings { (node : ℕ) → end_at self.new node ≡ end_at self.old node }
         ensures room { (letters : ℕ) → HasRoomFor self.old (letters + 1) → HasRoomFor self.new letters }
         ensures ins { (node : ℕ) → in_at self.new node ≡ in_at self.old node }
         ensures ends { SameEnds self.old self.new }
@@ -164,6 +165,7 @@ impl Mail {
         ensures room { OnOk result (HasRoomFor self.new letters) }
         ensures kept { (further : ℕ) → HasRoomFor self.old further → HasRoomFor self.new further }
         ensures full { HasRoomFor self.old letters → IsOk result }
+        ensures outs { (node : ℕ) → out_at self.new node ≡ out_at self.old node }
         ensures ins { (node : ℕ) → in_at self.new node ≡ in_at self.old node }
         ensures ends { SameEnds self.old self.new }
     {
@@ -205,6 +207,9 @@ impl Mail {
     #[tactic(auto, using(crate::proofs::FlushLemmas::passed_kept))]
     pub fn flush_all(&mut self)
         ensures sent { (node : ℕ) → sent_to self.new node ≡ sent_to self.old node }
+        ensures given { (node : ℕ) → IsPrefix (given_to self.old node) (given_to self.new node) }
+        ensures first { (node : ℕ) → length (given_to self.new node) < places_to self.new node
+            → waiting_to self.new node ≡ [] }
         ensures stops { (node : ℕ) → (waiting_to self.new node ≡ []) ⊎ IsFullTo self.new node }
         ensures ins { (node : ℕ) → in_at self.new node ≡ in_at self.old node }
         ensures ends { SameEnds self.old self.new }
@@ -237,6 +242,7 @@ impl Mail {
         requires peer { to < outs_count self.old }
         requires room { HasRoomFor self.old 1 }
         ensures lane { OutChanges (Puts letter) self.old self.new to }
+        ensures rings { (node : ℕ) → end_at self.new node ≡ end_at self.old node }
         ensures room { (letters : ℕ) → HasRoomFor self.old (letters + 1) → HasRoomFor self.new letters }
     {
         self.waiting.push_back_reserved(Post { to, letter });
