@@ -1,5 +1,5 @@
 -- Runners that work in two halves.
-use Rattle.std.proofs.Common.{◌≡◌, ℕ, zero, suc, ◌<◌, ◌++◌, List, [], ◌∷◌, inl, inr, ◌⊎◌, length, refl, ap, subst, ◌∙◌, arith, slice_index_or}
+use Rattle.std.proofs.Common.{◌≡◌, ℕ, zero, suc, ◌<◌, ◌++◌, List, [], ◌∷◌, inl, inr, ◌⊎◌, length, refl, ap, ◌∙◌, arith, slice_index_or, slice_set}
 use Rattle.lt_runner.specs.declared.parts.Parts.{Parts}
 use Rattle.lt_runner.specs.declared.turning.Worked.{Worked}
 use Rattle.lt_runner.specs.declared.turning.Worked.TheVariants.{Idle, Full, NoMemory}
@@ -92,12 +92,11 @@ same_at_worst NoMemory patience none a b h = (h.1.at_once none).1
 
 -- How all were left.
 
-pub none_worked : (patience : ℕ) (xs : List Parts) → length xs ≡ 0 → AllWorked Idle patience xs xs
-none_worked patience [] none = record { each = tt; one = inl refl }
-none_worked patience (x ∷ xs) none = absurd (omega (arith, none))
-
-pub one_worked : (answer : Worked) (patience : ℕ) (a b : Parts) → WorkLeaves answer patience a b → AllWorked answer patience (a ∷ []) (b ∷ [])
-one_worked answer patience a b h = record { each = (at_worst answer patience a b h, tt); one = inr (inl h) }
+pub alone_worked : (answer : Worked) (patience : ℕ) (xs : List Parts) (other b : Parts) → length xs ≡ 1
+    → WorkLeaves answer patience (slice_index_or xs 0 other) b → AllWorked answer patience xs (slice_set xs 0 b)
+alone_worked answer patience [] other b alone h = absurd (omega (arith, alone))
+alone_worked answer patience (x ∷ []) other b alone h = record { each = (at_worst answer patience x b h, tt); one = inr (inl h) }
+alone_worked answer patience (x ∷ y ∷ xs) other b alone h = absurd (omega (arith, alone))
 
 pub both_worked : (r s : Worked) (patience : ℕ) (xs us ys vs : List Parts) → AllWorked r patience xs ys → AllWorked s patience us vs
     → AllWorked (worse_of r s) patience (xs ++ us) (ys ++ vs)
