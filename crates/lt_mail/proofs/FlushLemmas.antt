@@ -11,7 +11,8 @@ use Rattle.lt_mail.specs.Opening.{IsFresh, Opened, Opening}
 use Rattle.lt_mail.specs.declared.lane.OutEnd.{OutEnd}
 use Rattle.lt_mail.specs.declared.lane.InLane.{InLane}
 use Rattle.lt_mail.specs.Passing.{OutChanges, KeepsSent, Puts, Flushes, is_tried, Passes, Passed, is_held, LaneGoes, LaneAt, Passing}
-use Rattle.lt_mail.proofs.LookLemmas.{same_ends_in, passed_given, passed_first}
+use Rattle.lt_mail.proofs.LookLemmas.{same_ends_in}
+use Rattle.lt_mail.proofs.RingLemmas.{passed_given, passed_first}
 use Rattle.lt_mail.proofs.PassLemmas.{last_here, last_other, first_passed}
 use Rattle.lt_mail.proofs.OpeningLemmas.{some_same, none_is_some}
 

@@ -48,9 +48,9 @@ fn see_letters(out: &mut Mail, into: &mut Mail)
     taker.ring.slots_beside(&mut sender.ring);
 }
 
-/// Looks at the ring from one node to another from both of its ends: the outbox is flushed, and then the taking end knows
-/// all letters in the ring, so that it knows one where one was sent and not taken, and one at each place where the outbox
-/// still has some.
+/// Looks at the ring from one node to another from both of its ends: the outbox is flushed, and then the taking end
+/// knows all letters in the ring, so that it knows one where one was sent and not taken, and one at each place where
+/// the outbox still has some.
 pub fn beside(out: &mut Mail, into: &mut Mail)
     requires link { AreLinked out.old into.old }
     ensures sent { (node : ℕ) → sent_to out.new node ≡ sent_to out.old node }

@@ -1,13 +1,13 @@
-ghost use Rattle.std.specs.Prelude.{◌≡◌, ◌≢◌, ◌+◌, ◌≤◌, ◌<◌, ◌⊎◌, ℕ, [], ◌∷◌, ◌++◌, length, true, IfSome, IfNone, IsOk, OnOk, OnErr, MatchBool};
+ghost use Rattle.std.specs.Prelude.{◌≡◌, ◌≢◌, ◌+◌, ◌≤◌, ◌<◌, ◌⊎◌, ℕ, [], ◌∷◌, ◌++◌, length, true, IfSome, IfNone, IsOk, OnOk, MatchBool};
 ghost use mathlib.Core.List.{IsPrefix};
 ghost use Rattle.lt_desk.specs.LetterSeen.{letter_seen};
 ghost use Rattle.lt_mail.specs.Words.{out_at, in_at, outs_count, ins_count, sent_to, given_to, waiting_to, taken_from, known_from, if_to, if_from, places_to, end_at, IsFullTo, HasRoomFor, SameEnds, Sees};
-ghost use Rattle.std.specs.VecDeque.{deque_len, deque_capacity};
 ghost use Rattle.lt_mail.specs.Passing.{LooksAtSome, SawNone, KeepsSent, OutChanges, InChanges, Puts, Flushes, Takes, TakesKnown, TakesNone, FindsNoLetter, Saw};
 
 use crate::in_lanes::InLanes;
 use crate::lane::OutEnd;
 use crate::passing::pass;
+use crate::room::make_room;
 use lt_desk::{Letter, Post};
 use std::alloc::AllocError;
 use std::collections::VecDeque;
@@ -34,18 +34,6 @@ impl Drop for Mail {
         drop(outs);
         drop(ins);
         drop(waiting);
-    }
-}
-
-// How many places a new list has for so many letters: few sizes, so that the memory of one list serves another, and that
-// one is seldom made anew. A move of a node sends up to 153 letters among 16 nodes, and up to 537 among 64.
-fn places_for(letters: usize) -> usize
-    ensures { letters ≤ result }
-{
-    match letters {
-        0..=160 => 160,
-        161..=544 => 544,
-        _ => letters,
     }
 }
 
@@ -216,24 +204,6 @@ impl Mail {
     {
         pass(&mut self.outs, &mut self.waiting, None);
     }
-}
-
-// Makes room in the list for so many further letters.
-fn make_room(waiting: &mut VecDeque<Post>, letters: usize) -> Result<(), AllocError>
-    ensures items { waiting.new.items ≡ waiting.old.items }
-    ensures len { deque_len waiting.new ≡ deque_len waiting.old }
-    ensures room { OnOk result (deque_len waiting.new + letters ≤ deque_capacity waiting.new) }
-    ensures kept { deque_capacity waiting.old ≤ deque_capacity waiting.new }
-    ensures full { OnErr result (deque_capacity waiting.old < deque_len waiting.old + letters) }
-{
-    if letters <= waiting.capacity() - waiting.len() {
-        return Ok(());
-    }
-    if waiting.is_empty() {
-        let alloc = *waiting.allocator();
-        *waiting = VecDeque::with_capacity(alloc, places_for(letters))?;
-    }
-    waiting.reserve(letters)
 }
 
 // What one lane of a mail does.

@@ -20,7 +20,8 @@ use Rattle.lt_runner.specs.declared.parts.Parts.{Parts}
 use Rattle.lt_runner.specs.Kept.{HandStays, SameRunner, AsSeen, CouldMove, IsFlushed, HasPassedOn, KeepsRings, MovedOne, TurnEnds, Grew}
 use Rattle.lt_runner.specs.Choices.{may_take, act_choice, choice_by, next_choice}
 use Rattle.lt_runner.proofs.ChoiceLemmas.{act_takes_nothing}
-use Rattle.lt_mail.proofs.LookLemmas.{ends_same, given_all, given_stays, full_stays}
+use Rattle.lt_mail.proofs.LookLemmas.{ends_same}
+use Rattle.lt_mail.proofs.RingLemmas.{given_all, given_stays, full_stays}
 use Rattle.lt_runner.proofs.KeptLemmas.{same_join, seen_join, resting}
 
 -- What is found or told is one thing alone.

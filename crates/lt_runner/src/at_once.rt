@@ -12,8 +12,6 @@ use crate::turning::Worked;
 use std::thread::{Threads, join_mut};
 
 /// Calls `work` of each runner, on as many threads as there are runners. Where no thread can be made the caller's works.
-///
-/// The answer is NoMemory where one answered so, else Full where one answered so, else Idle.
 pub fn all_at_once<R: Threads + Sync, G: Gate>(
     rt: &R,
     runners: &mut [Runner],

@@ -13,7 +13,7 @@ use crate::runner::Runner;
 use lt_mail::{Mail, beside};
 
 impl Runner {
-    /// Looks at the ring to another runner from both of its ends; a second call, of the other one, looks at the ring back.
+    /// Looks at the ring to another runner from both of its ends; a call of the other one looks at the ring back.
     #[tactic(auto, using(crate::proofs::Fetched::linked))]
     pub fn meet(&mut self, taker: &mut Runner)
         requires { AreBeside self.old taker.old }

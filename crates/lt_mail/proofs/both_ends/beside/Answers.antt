@@ -1,5 +1,6 @@
 -- What the two ends did, in words of the mails.
-use Rattle.lt_mail.proofs.LookLemmas.{gives_given, sees_known, met_first, met_stops}
+use Rattle.lt_mail.proofs.LookLemmas.{gives_given, sees_known}
+use Rattle.lt_mail.proofs.RingLemmas.{met_first, met_stops}
 use Rattle.lt_mail.proofs.both_ends.beside.Goals as goal
 
 pub returns-clause-given : goal.returns-clause-given
