@@ -1,7 +1,7 @@
 -- A ring that is looked at from both of its ends.
-use Rattle.std.proofs.Common.{◌≡◌, refl, ap, ℕ, ◌<◌, inl, inr, List, [], ◌++◌, length, Option, Some, None, sym, subst, arith, ◌∙◌, append_assoc, length-append, ◌⊎◌, slice_get}
+use Rattle.std.proofs.Common.{◌≡◌, refl, ap, ℕ, ◌<◌, ◌≤◌, inl, inr, List, [], ◌++◌, length, Option, Some, None, sym, subst, arith, ◌∙◌, append_assoc, length-append, ◌⊎◌, slice_get}
 use Rattle.std.proofs.lemmas.Option.{slice_get_within}
-use Rattle.rtrb.specs.Ring.{known_free}
+use Rattle.rtrb.specs.Ring.{known_free, producer_capacity}
 use Rattle.lt_desk.specs.declared.letter.Letter.{Letter}
 use Rattle.lt_mail.specs.declared.lane.OutEnd.{OutEnd}
 use Rattle.lt_mail.specs.declared.lane.InLane.{InLane}
@@ -108,8 +108,28 @@ both_met b c (Some d) i None p f l s k = absurd k
 both_met b None (Some d) i (Some j) p f l s k = absurd l
 both_met None (Some c) (Some d) i (Some j) p f l s k = absurd f
 both_met (Some b) (Some c) (Some d) None (Some j) p f l s k = absurd s
-both_met (Some b) (Some c) (Some d) (Some i) (Some j) p f l s k = record { whole = k; moves = by_stop f.stops }
+both_met (Some b) (Some c) (Some d) (Some i) (Some j) p f l s k = record {
+  whole = k;
+  moves = by_stop f.stops;
+  stops = by_places f.stops;
+  first = λ few. l.outbox ∙ f.first (omega (arith, few, l.ring.1, ap (λ (letters : List Letter). length letters) l.ring_given));
+}
   where
+    by_places : (outbox_letters c ≡ []) ⊎ (known_free c.end.ring ≡ 0) → (outbox_letters d ≡ []) ⊎ (producer_capacity d.end.ring ≤ length (known j))
+    by_places (inl none) = inl (l.outbox ∙ none)
+    by_places (inr full) = inr (omega (
+      arith,
+      full,
+      f.places,
+      f.ring.1,
+      l.ring.1,
+      p.1,
+      length-append (taken j) (known j),
+      ap (λ (letters : List Letter). length letters) k,
+      ap (λ (letters : List Letter). length letters) l.ring_given,
+      ap (λ (letters : List Letter). length letters) s.taken,
+    ))
+
     by_stop : (outbox_letters c ≡ []) ⊎ (known_free c.end.ring ≡ 0) → (outbox_letters d ≡ []) ⊎ (0 < length (known j))
     by_stop (inl none) = inl (l.outbox ∙ none)
     by_stop (inr full) = inr (omega (

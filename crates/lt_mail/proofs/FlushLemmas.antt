@@ -1,16 +1,18 @@
 -- The first two of the mails that were opened.
 use Rattle.std.proofs.Common.{◌≡◌, ℕ, ◌<◌, List, [], ◌∷◌, Some, length, sym, ap, arith, ◌∙◌, refl, Bool, true, false, inl, inr, ◌++◌, Option, None, subst, append_assoc, append-nil, ◌≤◌, slice_get, slice_index_or, remove, ◌⊎◌, replicate, eq-eqb, ne_eqb}
 use Rattle.std.proofs.lemmas.Option.{slice_get_cases, slice_get_within}
+use mathlib.Core.List.{IsPrefix}
 use Rattle.rtrb.specs.Ring.{known_free, sent, producer_capacity}
 use Rattle.lt_desk.specs.declared.letter.Letter.{Letter}
 use Rattle.lt_desk.specs.declared.letter.Post.{Post}
 use Rattle.lt_mail.specs.declared.mail.Mail.{Mail}
-use Rattle.lt_mail.specs.Words.{AreLinked, OutLane, letters_to, lane_of, sent_by, outbox_letters, seen, Alike, Both, SameOut, SameIn, out_at, in_at, outs_count, on_out, waiting_to, IsFullTo, lane_in, taken, known, end_at, on_in, ins_count, IsOpenLink}
+use Rattle.lt_mail.specs.Words.{AreLinked, OutLane, letters_to, lane_of, sent_by, outbox_letters, seen, Alike, Both, SameOut, SameIn, out_at, in_at, outs_count, on_out, given_to, places_to, waiting_to, IsFullTo, lane_in, taken, known, end_at, on_in, ins_count, IsOpenLink}
 use Rattle.lt_mail.specs.Opening.{IsFresh, Opened, Opening}
 use Rattle.lt_mail.specs.declared.lane.OutEnd.{OutEnd}
 use Rattle.lt_mail.specs.declared.lane.InLane.{InLane}
 use Rattle.lt_mail.specs.Passing.{OutChanges, KeepsSent, Puts, Flushes, is_tried, Passes, Passed, is_held, LaneGoes, LaneAt, Passing}
 use Rattle.lt_mail.proofs.LookLemmas.{same_ends_in}
+use Rattle.lt_mail.proofs.RingLemmas.{passed_given, passed_first}
 use Rattle.lt_mail.proofs.PassLemmas.{last_here, last_other, first_passed}
 use Rattle.lt_mail.proofs.OpeningLemmas.{some_same, none_is_some}
 
@@ -84,6 +86,15 @@ all_flushed a b h node = by_lane (out_at a node) (out_at b node) refl (h.lanes n
     by_lane None (Some y) now p = absurd p
     by_lane (Some x) None now p = absurd p
     by_lane (Some x) (Some y) now p = full y now p.stops
+
+-- each ring was given more, and the first letters find their places
+pub all_given : (a b : Mail) → Passed None a.outs.items a.waiting.items b.outs.items b.waiting.items
+    → (node : ℕ) → IsPrefix (given_to a node) (given_to b node)
+all_given a b h node = passed_given (out_at a node) (out_at b node) (h.lanes node)
+
+pub all_first : (a b : Mail) → Passed None a.outs.items a.waiting.items b.outs.items b.waiting.items
+    → (node : ℕ) → length (given_to b node) < places_to b node → waiting_to b node ≡ []
+all_first a b h node = passed_first (out_at a node) (out_at b node) (h.lanes node)
 
 both_there : (R : OutLane → OutLane → Type 0) (x y : Option OutLane) (lane : OutLane) → x ≡ Some lane → Alike R x y → Both R x y
 both_there R None y lane there h = absurd (cc)

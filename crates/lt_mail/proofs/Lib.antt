@@ -1,4 +1,5 @@
 pub mod LookLemmas
+pub mod RingLemmas
 pub mod PassLemmas
 pub mod FlushLemmas
 pub mod OneLemmas

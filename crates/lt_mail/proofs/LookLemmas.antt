@@ -136,7 +136,7 @@ fewer_letters m more fewer less h = omega (arith, h, less)
 
 -- the mail with the same ends and the same letters that wait
 pub same_mail : (a b : Mail) → b.me ≡ a.me → b.outs.items ≡ a.outs.items → b.ins ≡ a.ins → b.waiting.items ≡ a.waiting.items
-    → KeepsSent a b × ((node : ℕ) → given_to b node ≡ given_to a node)
+    → KeepsSent a b × ((node : ℕ) → given_to b node ≡ given_to a node) × ((node : ℕ) → out_at b node ≡ out_at a node)
 same_mail a b me outs ins waiting = (
   record {
     sent = λ node. ap (on_out sent_by) (same_out node);
@@ -149,6 +149,7 @@ same_mail a b me outs ins waiting = (
     };
   },
   λ node. ap (on_out ring_given) (same_out node),
+  same_out,
 )
   where
     same_out : (node : ℕ) → out_at b node ≡ out_at a node

@@ -177,10 +177,12 @@ pub record Sees (x y : InLane) : Type 0 where
   pub taken : taken y ≡ taken x
   pub learnt : IsPrefix (known x) (known y)
 
--- all letters in the ring are known, and it has one where the outbox does
+-- all letters in the ring are known, and it has one where the outbox does, and one at each place
 pub record IsMet (out : OutLane) (into : InLane) : Type 0 where
   pub whole : taken into ++ known into ≡ ring_given out
   pub moves : (outbox_letters out ≡ []) ⊎ (0 < length (known into))
+  pub stops : (outbox_letters out ≡ []) ⊎ (producer_capacity out.end.ring ≤ length (known into))
+  pub first : length (ring_given out) < producer_capacity out.end.ring → outbox_letters out ≡ []
 
 -- the sending end may know more places to be free
 pub record LooksAgain (x y : OutLane) : Type 0 where

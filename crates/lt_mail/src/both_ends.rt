@@ -1,7 +1,7 @@
 // Both ends of a ring at once.
-ghost use Rattle.std.specs.Prelude.{◌≡◌, ◌≢◌, ℕ, [], ◌++◌};
+ghost use Rattle.std.specs.Prelude.{◌≡◌, ◌≢◌, ◌<◌, ◌≤◌, ◌⊎◌, ℕ, [], ◌++◌, length};
 ghost use mathlib.Core.List.{IsPrefix};
-ghost use Rattle.lt_mail.specs.Words.{out_at, in_at, sent_to, given_to, waiting_to, taken_from, known_from, SameEnds, Both, AreLinked, IsMet, LaneGives, Sees, LooksAgain, KnowsPlaces, KnowsLetters};
+ghost use Rattle.lt_mail.specs.Words.{out_at, in_at, sent_to, given_to, waiting_to, taken_from, known_from, places_to, SameEnds, Both, AreLinked, IsMet, LaneGives, Sees, LooksAgain, KnowsPlaces, KnowsLetters};
 ghost use Rattle.lt_mail.specs.Passing.{OutChanges, InChanges};
 
 use crate::mail::Mail;
@@ -48,12 +48,17 @@ fn see_letters(out: &mut Mail, into: &mut Mail)
     taker.ring.slots_beside(&mut sender.ring);
 }
 
-/// Looks at the ring from one node to another from both of its ends: the outbox is flushed, and then the taking end knows
-/// all letters in the ring, so that it knows one where one was sent and not taken.
+/// Looks at the ring from one node to another from both of its ends: the outbox is flushed, and then the taking end
+/// knows all letters in the ring, so that it knows one where one was sent and not taken, and one at each place where
+/// the outbox still has some.
 pub fn beside(out: &mut Mail, into: &mut Mail)
     requires link { AreLinked out.old into.old }
     ensures sent { (node : ℕ) → sent_to out.new node ≡ sent_to out.old node }
     ensures given { IsPrefix (given_to out.old into.old.me) (given_to out.new into.old.me) }
+    ensures first { length (given_to out.new into.old.me) < places_to out.new into.old.me
+        → waiting_to out.new into.old.me ≡ [] }
+    ensures stops { (waiting_to out.new into.old.me ≡ [])
+        ⊎ (places_to out.new into.old.me ≤ length (known_from into.new out.old.me)) }
     ensures out_ends { SameEnds out.old out.new }
     ensures out_ins { (node : ℕ) → in_at out.new node ≡ in_at out.old node }
     ensures out_others { (node : ℕ) → node ≢ into.old.me → out_at out.new node ≡ out_at out.old node }

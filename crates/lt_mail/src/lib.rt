@@ -9,6 +9,7 @@ mod looking;
 mod mail;
 mod opening;
 mod passing;
+mod room;
 
 pub use both_ends::beside;
 pub use mail::Mail;

@@ -1,13 +1,13 @@
-ghost use Rattle.std.specs.Prelude.{◌≡◌, ◌≢◌, ◌+◌, ◌≤◌, ◌<◌, ◌⊎◌, ℕ, [], ◌∷◌, ◌++◌, length, true, IfSome, IfNone, IsOk, OnOk, OnErr, MatchBool};
+ghost use Rattle.std.specs.Prelude.{◌≡◌, ◌≢◌, ◌+◌, ◌≤◌, ◌<◌, ◌⊎◌, ℕ, [], ◌∷◌, ◌++◌, length, true, IfSome, IfNone, IsOk, OnOk, MatchBool};
 ghost use mathlib.Core.List.{IsPrefix};
 ghost use Rattle.lt_desk.specs.LetterSeen.{letter_seen};
-ghost use Rattle.lt_mail.specs.Words.{out_at, in_at, outs_count, ins_count, sent_to, given_to, waiting_to, taken_from, known_from, if_to, if_from, places_to, IsFullTo, HasRoomFor, SameEnds, Sees};
-ghost use Rattle.std.specs.VecDeque.{deque_len, deque_capacity};
+ghost use Rattle.lt_mail.specs.Words.{out_at, in_at, outs_count, ins_count, sent_to, given_to, waiting_to, taken_from, known_from, if_to, if_from, places_to, end_at, IsFullTo, HasRoomFor, SameEnds, Sees};
 ghost use Rattle.lt_mail.specs.Passing.{LooksAtSome, SawNone, KeepsSent, OutChanges, InChanges, Puts, Flushes, Takes, TakesKnown, TakesNone, FindsNoLetter, Saw};
 
 use crate::in_lanes::InLanes;
 use crate::lane::OutEnd;
 use crate::passing::pass;
+use crate::room::make_room;
 use lt_desk::{Letter, Post};
 use std::alloc::AllocError;
 use std::collections::VecDeque;
@@ -37,18 +37,6 @@ impl Drop for Mail {
     }
 }
 
-// How many places a new list has for so many letters: few sizes, so that the memory of one list serves another, and that
-// one is seldom made anew. A move of a node sends up to 153 letters among 16 nodes, and up to 537 among 64.
-fn places_for(letters: usize) -> usize
-    ensures { letters ≤ result }
-{
-    match letters {
-        0..=160 => 160,
-        161..=544 => 544,
-        _ => letters,
-    }
-}
-
 // What a node does with its mail.
 impl Mail {
     /// The node whose mail it is.
@@ -64,6 +52,7 @@ impl Mail {
         requires room { HasRoomFor self.old 1 }
         ensures sent { (node : ℕ) → sent_to self.new node ≡ sent_to self.old node ++ if_to to (letter_seen letter) node }
         ensures given { (node : ℕ) → given_to self.new node ≡ given_to self.old node }
+        ensures rings { (node : ℕ) → end_at self.new node ≡ end_at self.old node }
         ensures room { (letters : ℕ) → HasRoomFor self.old (letters + 1) → HasRoomFor self.new letters }
         ensures ins { (node : ℕ) → in_at self.new node ≡ in_at self.old node }
         ensures ends { SameEnds self.old self.new }
@@ -164,6 +153,7 @@ impl Mail {
         ensures room { OnOk result (HasRoomFor self.new letters) }
         ensures kept { (further : ℕ) → HasRoomFor self.old further → HasRoomFor self.new further }
         ensures full { HasRoomFor self.old letters → IsOk result }
+        ensures outs { (node : ℕ) → out_at self.new node ≡ out_at self.old node }
         ensures ins { (node : ℕ) → in_at self.new node ≡ in_at self.old node }
         ensures ends { SameEnds self.old self.new }
     {
@@ -205,6 +195,9 @@ impl Mail {
     #[tactic(auto, using(crate::proofs::FlushLemmas::passed_kept))]
     pub fn flush_all(&mut self)
         ensures sent { (node : ℕ) → sent_to self.new node ≡ sent_to self.old node }
+        ensures given { (node : ℕ) → IsPrefix (given_to self.old node) (given_to self.new node) }
+        ensures first { (node : ℕ) → length (given_to self.new node) < places_to self.new node
+            → waiting_to self.new node ≡ [] }
         ensures stops { (node : ℕ) → (waiting_to self.new node ≡ []) ⊎ IsFullTo self.new node }
         ensures ins { (node : ℕ) → in_at self.new node ≡ in_at self.old node }
         ensures ends { SameEnds self.old self.new }
@@ -213,30 +206,13 @@ impl Mail {
     }
 }
 
-// Makes room in the list for so many further letters.
-fn make_room(waiting: &mut VecDeque<Post>, letters: usize) -> Result<(), AllocError>
-    ensures items { waiting.new.items ≡ waiting.old.items }
-    ensures len { deque_len waiting.new ≡ deque_len waiting.old }
-    ensures room { OnOk result (deque_len waiting.new + letters ≤ deque_capacity waiting.new) }
-    ensures kept { deque_capacity waiting.old ≤ deque_capacity waiting.new }
-    ensures full { OnErr result (deque_capacity waiting.old < deque_len waiting.old + letters) }
-{
-    if letters <= waiting.capacity() - waiting.len() {
-        return Ok(());
-    }
-    if waiting.is_empty() {
-        let alloc = *waiting.allocator();
-        *waiting = VecDeque::with_capacity(alloc, places_for(letters))?;
-    }
-    waiting.reserve(letters)
-}
-
 // What one lane of a mail does.
 impl Mail {
     pub(crate) fn put_on(&mut self, to: u8, letter: Letter)
         requires peer { to < outs_count self.old }
         requires room { HasRoomFor self.old 1 }
         ensures lane { OutChanges (Puts letter) self.old self.new to }
+        ensures rings { (node : ℕ) → end_at self.new node ≡ end_at self.old node }
         ensures room { (letters : ℕ) → HasRoomFor self.old (letters + 1) → HasRoomFor self.new letters }
     {
         self.waiting.push_back_reserved(Post { to, letter });

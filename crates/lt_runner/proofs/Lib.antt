@@ -5,3 +5,4 @@ pub mod ChoiceLemmas
 pub mod TurnLemmas
 pub mod Forgotten
 pub mod ReadyLemmas
+pub mod AtOnceLemmas

@@ -10,7 +10,7 @@ use Rattle.lt_law_own_lines.proofs.Moves.{acts_reach_peers, takes_reach_peers}
 use Rattle.lt_desk.specs.DeskData.{OutData}
 use Rattle.lt_desk.specs.LetterSeen.{letter_seen}
 use Rattle.lt_node.specs.NodeData.{NodeData, NodeDoes, state_of}
-use Rattle.lt_mail.specs.Words.{on_in, sent_to, taken, in_at, outs_count, HasRoomFor, if_to, SameEnds}
+use Rattle.lt_mail.specs.Words.{on_in, sent_to, taken, in_at, end_at, outs_count, HasRoomFor, if_to, SameEnds}
 use Rattle.lt_mail.specs.declared.lane.InLane.{InLane}
 use Rattle.lt_mail.specs.declared.mail.Mail.{Mail}
 use Rattle.lt_mail.proofs.LookLemmas.{ends_join, ends_same, fewer_letters}
@@ -147,20 +147,22 @@ next_post nodes me a b all left rest post h first = (
 
 -- nothing is put yet
 pub none_posted : (nodes me : ℕ) (m : Mail) (out : OutData) → CanPost nodes me m out.posts → Posting nodes me m m out out
-none_posted nodes me m out can = record { ends = ends_same m; sent = λ node. refl; ins = λ node. refl; can = can; out = refl }
+none_posted nodes me m out can = record { ends = ends_same m; sent = λ node. refl; rings = λ node. refl; ins = λ node. refl; can = can; out = refl }
 
 -- the first of the letters that are left is put into its outbox
 pub one_posted : (nodes me : ℕ) (a b c : Mail) (all left rest : OutData) (post : Post) → Posting nodes me a b all left
     → left.posts ≡ post ∷ rest.posts → rest ≡ record left { posts = rest.posts }
     → ((node : ℕ) → sent_to c node ≡ sent_to b node ++ if_to post.to post.letter node)
+    → ((node : ℕ) → end_at c node ≡ end_at b node)
     → ((letters : ℕ) → HasRoomFor b (letters + 1) → HasRoomFor c letters)
     → ((node : ℕ) → in_at c node ≡ in_at b node) → SameEnds b c → Posting nodes me a c all rest
-one_posted nodes me a b c all left rest post h first others sent room ins ends = record {
+one_posted nodes me a b c all left rest post h first others sent rings room ins ends = record {
   ends = ends_join a b c h.ends ends;
   sent = λ node. ap (λ (letters : List Letter). letters ++ letters_for node rest.posts) (sent node)
       ∙ (append_assoc (sent_to b node) (if_to post.to post.letter node) (letters_for node rest.posts)
       ∙ (ap (λ (letters : List Letter). sent_to b node ++ letters) (sym (one_more node post rest.posts) ∙ ap (λ (posts : List Post). letters_for node posts) (sym first))
       ∙ h.sent node));
+  rings = λ node. rings node ∙ h.rings node;
   ins = λ node. ins node ∙ h.ins node;
   can = record {
     count = ends.counts.0 ∙ h.can.count;
@@ -177,6 +179,7 @@ all_posted nodes me a b all left h none = (
   record {
     ends = h.ends;
     sent = λ node. sym (append-nil (sent_to b node)) ∙ (ap (λ (posts : List Post). sent_to b node ++ letters_for node posts) (sym none) ∙ h.sent node);
+    rings = h.rings;
     ins = h.ins;
   },
   h.out ∙ ap (λ (posts : List Post). record all { posts = posts }) none,

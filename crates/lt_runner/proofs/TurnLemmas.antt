@@ -1,13 +1,14 @@
 -- What a turn says after a look.
-use Rattle.std.proofs.Common.{◌≡◌, ◌≢◌, ℕ, ◌+◌, ◌<◌, inl, inr, List, [], ◌∷◌, ◌++◌, Option, Some, None, Bool, true, false, length, refl, sym, ap, arith, ◌∙◌, if◌then◌else◌, ◌⊎◌, append-nil, append_assoc, length-append}
+use Rattle.std.proofs.Common.{◌≡◌, ◌≢◌, ℕ, ◌+◌, ◌<◌, inl, inr, List, [], ◌∷◌, ◌++◌, Option, Some, None, Bool, true, false, length, refl, sym, ap, subst, arith, ◌∙◌, if◌then◌else◌, ◌⊎◌, append-nil, append_assoc, length-append}
 use Rattle.std.proofs.lemmas.List.{length_push}
+use mathlib.Core.List.{IsPrefix}
 use Rattle.lt_modes.specs.Script.{ScriptData}
 use Rattle.lt_modes.specs.State as rules
 use Rattle.lt_desk.specs.LetterSeen.{letter_seen}
 use Rattle.lt_spec.specs.World.{Logged}
 use Rattle.lt_spec.specs.NodeMove.{NodeState}
 use Rattle.lt_node.specs.NodeData.{state_of}
-use Rattle.lt_mail.specs.Words.{outbox_letters, on_out, out_at, waiting_to, IsFullTo, OutLane}
+use Rattle.lt_mail.specs.Words.{outbox_letters, on_out, out_at, sent_to, given_to, waiting_to, IsFullTo, OutLane}
 use Rattle.lt_runner.specs.declared.choice.Choice.{Choice}
 use Rattle.lt_runner.specs.declared.choice.Choice.TheVariants.{Nothing, Act, Take}
 use Rattle.lt_runner.specs.declared.turning.Found.TheVariants as found
@@ -16,10 +17,11 @@ use Rattle.lt_runner.specs.declared.turning.Turned.{Turned}
 use Rattle.lt_runner.specs.declared.turning.Turned.TheVariants.{Moved, Quiet, Full, NoMemory}
 use Rattle.lt_runner.specs.declared.parts.Hand.{Hand}
 use Rattle.lt_runner.specs.declared.parts.Parts.{Parts}
-use Rattle.lt_runner.specs.Kept.{HandStays, SameRunner, AsSeen, CouldMove, IsFlushed, MovedOne, TurnEnds, Grew}
+use Rattle.lt_runner.specs.Kept.{HandStays, SameRunner, AsSeen, CouldMove, IsFlushed, HasPassedOn, KeepsRings, MovedOne, TurnEnds, Grew}
 use Rattle.lt_runner.specs.Choices.{may_take, act_choice, choice_by, next_choice}
 use Rattle.lt_runner.proofs.ChoiceLemmas.{act_takes_nothing}
 use Rattle.lt_mail.proofs.LookLemmas.{ends_same}
+use Rattle.lt_mail.proofs.RingLemmas.{given_all, given_stays, full_stays}
 use Rattle.lt_runner.proofs.KeptLemmas.{same_join, seen_join, resting}
 
 -- What is found or told is one thing alone.
@@ -41,6 +43,15 @@ moved_tells same = absurd (cc)
 
 pub no_memory_tells : NoMemory ≢ Quiet
 no_memory_tells same = absurd (cc)
+
+pub quiet_not_moved : Quiet ≢ Moved
+quiet_not_moved same = absurd (cc)
+
+pub full_not_moved : Full ≢ Moved
+full_not_moved same = absurd (cc)
+
+pub no_memory_not_moved : NoMemory ≢ Moved
+no_memory_not_moved same = absurd (cc)
 
 -- Turns one after the other.
 
@@ -116,6 +127,27 @@ flushed_later a b outs h node = by_end (h node)
     by_end : (waiting_to a.mail node ≡ []) ⊎ IsFullTo a.mail node → (waiting_to b.mail node ≡ []) ⊎ IsFullTo b.mail node
     by_end (inl none) = inl (ap (λ (o : Option OutLane). on_out outbox_letters o) (outs node) ∙ none)
     by_end (inr full) = inr (full.0, outs node ∙ full.1, full.2)
+
+-- What was flushed is passed on, and is so after letters are put into the outboxes.
+
+pub passed_on : (a m b : Parts) → AsSeen a m → IsFlushed m → KeepsRings m b → HasPassedOn a b
+passed_on a m b h flushed rings node = by_end (flushed node)
+  where
+    by_end : (waiting_to m.mail node ≡ []) ⊎ IsFullTo m.mail node → IsPrefix (sent_to a.mail node) (given_to b.mail node) ⊎ IsFullTo b.mail node
+    by_end (inl none) = inl (
+      [],
+      append-nil (sent_to a.mail node)
+          ∙ (sym (h.sent node) ∙ (given_all m.mail node none ∙ sym (given_stays m.mail b.mail node (rings node)))),
+    )
+    by_end (inr full) = inr (full_stays m.mail b.mail node (rings node) full)
+
+pub rings_same : (a : Parts) → KeepsRings a a
+rings_same a node = refl
+
+-- what was sent before a look was sent after it
+pub passed_later : (a m b : Parts) → AsSeen a m → HasPassedOn m b → HasPassedOn a b
+passed_later a m b h passed node =
+    subst (λ (letters : List rules.Letter). IsPrefix letters (given_to b.mail node) ⊎ IsFullTo b.mail node) (h.sent node) (passed node)
 
 -- the log goes on where nothing happened
 pub seen_grew : (a b c : Parts) → Grew a b → AsSeen b c → Grew a c

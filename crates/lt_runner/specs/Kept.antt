@@ -10,7 +10,7 @@ use Rattle.lt_spec.specs.FixedOrder.{Plays}
 use Rattle.lt_law_own_lines.specs.WaitingLaws.{NodeNames}
 use Rattle.lt_desk.specs.LetterSeen.{letter_seen}
 use Rattle.lt_node.specs.NodeData.{state_of}
-use Rattle.lt_mail.specs.Words.{outs_count, ins_count, sent_to, waiting_to, taken_from, known_from, IsFullTo, SameEnds, out_at, in_at, given_to, Both, IsOpenLink}
+use Rattle.lt_mail.specs.Words.{outs_count, ins_count, sent_to, waiting_to, taken_from, known_from, IsFullTo, SameEnds, out_at, in_at, end_at, given_to, places_to, Both, IsOpenLink}
 use Rattle.lt_mail.specs.declared.mail.Mail.{Mail}
 use Rattle.lt_mail.proofs.LookLemmas.{ends_same}
 use Rattle.lt_runner.specs.declared.parts.Parts.{Parts}
@@ -118,6 +118,14 @@ FindEnds found.Full p = IsFull p
 abbrev pub IsFlushed : Parts → Type 0
 IsFlushed p = (node : ℕ) → (waiting_to p.mail node ≡ []) ⊎ IsFullTo p.mail node
 
+-- each letter that was sent before is in its ring, or that ring is full
+abbrev pub HasPassedOn : Parts → Parts → Type 0
+HasPassedOn a b = (node : ℕ) → IsPrefix (sent_to a.mail node) (given_to b.mail node) ⊎ IsFullTo b.mail node
+
+-- no letter went to a ring
+abbrev pub KeepsRings : Parts → Parts → Type 0
+KeepsRings a b = (node : ℕ) → end_at b.mail node ≡ end_at a.mail node
+
 -- one move was made
 abbrev pub MovedOne : Parts → Parts → Type 0
 MovedOne a b = (entry : Logged) × (b.log.entries ≡ a.log.entries ++ entry ∷ [])
@@ -157,6 +165,13 @@ AreBeside x y = Both IsOpenLink (out_at x.mail y.node.me) (in_at y.mail x.node.m
 pub record HasMet (a b : ℕ) (x y : Parts) : Type 0 where
   pub whole : taken_from y.mail a ++ known_from y.mail a ≡ given_to x.mail b
   pub moves : y.hand ≡ None → known_from y.mail a ≡ [] → waiting_to x.mail b ≡ []
+
+-- whatever node b has in hand: nothing waits to be sent where nothing is known to come, nor where the ring was given
+-- fewer letters than it has places; and else a letter is known at each place
+pub record FlushesTo (a b : ℕ) (x y : Parts) : Type 0 where
+  pub moves : known_from y.mail a ≡ [] → waiting_to x.mail b ≡ []
+  pub first : length (given_to x.mail b) < places_to x.mail b → waiting_to x.mail b ≡ []
+  pub stops : (waiting_to x.mail b ≡ []) ⊎ (places_to x.mail b ≤ length (known_from y.mail a))
 
 -- where no letter is in hand, none is known to come
 abbrev pub HasFetched : Parts → Type 0

@@ -3,3 +3,4 @@ pub mod Choices
 pub mod Ready
 pub mod Polled
 pub mod Posting
+pub mod AtOnce

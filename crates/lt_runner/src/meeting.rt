@@ -2,7 +2,7 @@
 ghost use Rattle.std.specs.Prelude.{◌≡◌, ◌≢◌, ◌<◌, None, IfSome, IfNone, length};
 ghost use Rattle.lt_mail.specs.Words.{ins_count, known_from};
 ghost use Rattle.lt_runner.specs.Choices.{next_choice};
-ghost use Rattle.lt_runner.specs.Kept.{RunnerInvariant, AreBeside, HasMet, LooksTo, LooksFrom, HasFetched, Fetches, Knows, NoneKnown, is_move};
+ghost use Rattle.lt_runner.specs.Kept.{RunnerInvariant, AreBeside, HasMet, FlushesTo, LooksTo, LooksFrom, HasFetched, Fetches, Knows, NoneKnown, is_move};
 ghost use Rattle.lt_spec.specs.NodeMove.{node_waits};
 ghost use Rattle.lt_node.specs.NodeData.{state_of};
 
@@ -13,13 +13,14 @@ use crate::runner::Runner;
 use lt_mail::{Mail, beside};
 
 impl Runner {
-    /// Looks at the ring to another runner from both of its ends.
+    /// Looks at the ring to another runner from both of its ends; a call of the other one looks at the ring back.
     #[tactic(auto, using(crate::proofs::Fetched::linked))]
     pub fn meet(&mut self, taker: &mut Runner)
         requires { AreBeside self.old taker.old }
         ensures sender { LooksTo taker.old.node.me self.old self.new }
         ensures taker { LooksFrom self.old.node.me taker.old taker.new }
         ensures met { HasMet self.old.node.me taker.old.node.me self.new taker.new }
+        ensures flushed { FlushesTo self.old.node.me taker.old.node.me self.new taker.new }
     {
         beside(
             &mut self.parts.as_mut().mail,

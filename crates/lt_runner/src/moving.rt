@@ -3,7 +3,7 @@ ghost use Rattle.std.specs.Prelude.{◌≡◌, ◌≢◌, IsOk, OnOk};
 ghost use Rattle.lt_runner.specs.declared.choice.Choice.TheVariants as choices;
 ghost use Rattle.lt_runner.specs.declared.turning.Found.TheVariants as finds;
 ghost use Rattle.lt_runner.specs.Choices.{next_choice};
-ghost use Rattle.lt_runner.specs.Kept.{SameRunner, AsSeen, CouldMove, IsFlushed, FindEnds, MovedOne};
+ghost use Rattle.lt_runner.specs.Kept.{SameRunner, AsSeen, CouldMove, IsFlushed, KeepsRings, FindEnds, MovedOne};
 ghost use Rattle.lt_runner.specs.Ready.{HasMemoryFor};
 
 use crate::choice::Choice;
@@ -31,6 +31,7 @@ impl Runner {
         ensures could { CouldMove self.new }
         ensures memory { OnOk result (HasMemoryFor choice self.new) }
         ensures full { HasMemoryFor choice self.old → IsOk result }
+        ensures flushed { IsFlushed self.old → IsFlushed self.new }
     {
         self.parts.as_mut().reserve(choice)
     }
@@ -42,6 +43,7 @@ impl Runner {
         requires memory { HasMemoryFor choice self.old }
         ensures same { SameRunner self.old self.new }
         ensures moved { MovedOne self.old self.new }
+        ensures rings { KeepsRings self.old self.new }
     {
         self.parts.as_mut().make(choice);
     }

@@ -66,6 +66,7 @@ impl Parts {
         ensures hand { self.new.hand ≡ self.old.hand }
         ensures ready { OnOk result (RunnerCanAct client self.new) }
         ensures full { RunnerCanAct client self.old → IsOk result }
+        ensures outs { (node : ℕ) → out_at self.new.mail node ≡ out_at self.old.mail node }
     {
         self.reserve_for_act(client)?;
         self.reserve_rest()
@@ -79,6 +80,7 @@ impl Parts {
         ensures seen { AsSeen self.old self.new }
         ensures ready { OnOk result (RunnerCanTake self.new) }
         ensures full { RunnerCanTake self.old → IsOk result }
+        ensures outs { (node : ℕ) → out_at self.new.mail node ≡ out_at self.old.mail node }
     {
         self.reserve_for_hand()?;
         self.reserve_rest()
@@ -124,6 +126,7 @@ impl Parts {
         ensures node { (self.new.node ≡ self.old.node) × (self.new.out ≡ self.old.out) }
         ensures room { OnOk result (CanLog self.new) }
         ensures full { CanLog self.old → IsOk result }
+        ensures outs { (node : ℕ) → out_at self.new.mail node ≡ out_at self.old.mail node }
     {
         self.log.reserve(self.out.event_room())?;
         self.mail.reserve(self.out.post_room())

@@ -7,7 +7,7 @@ ghost use Rattle.lt_runner.specs.declared.choice.Choice.TheVariants as choices;
 ghost use Rattle.lt_runner.specs.declared.turning.Turned.TheVariants as turns;
 ghost use Rattle.lt_runner.specs.declared.turning.Worked.TheVariants as answers;
 ghost use Rattle.lt_runner.specs.Choices.{act_choice, next_choice};
-ghost use Rattle.lt_runner.specs.Kept.{RunnerInvariant, HasAll, AsSeen, IsFlushed, Grew, TurnEnds, WorkEnds};
+ghost use Rattle.lt_runner.specs.Kept.{RunnerInvariant, HasAll, AsSeen, IsFlushed, HasPassedOn, Grew, TurnEnds, WorkEnds};
 ghost use Rattle.lt_runner.specs.Ready.{StartsWith};
 
 use crate::gate::Gate;
@@ -108,6 +108,7 @@ impl Runner {
     pub fn work<G: Gate>(&mut self, patience: u32, gate: &G) -> Worked
         ensures grew { Grew self.old self.new }
         ensures ends { WorkEnds result patience self.new }
+        ensures flushed { 0 < patience → IsFlushed self.new }
         ensures at_once { patience ≡ 0 → (result ≡ answers.Idle) × (self.new ≡ self.old) }
     {
         self.parts.as_mut().work(patience, gate)
@@ -117,6 +118,8 @@ impl Runner {
     pub fn turn<G: Gate>(&mut self, gate: &G) -> Turned
         ensures grew { Grew self.old self.new }
         ensures ends { TurnEnds result self.old self.new }
+        ensures passed { HasPassedOn self.old self.new }
+        ensures flushed { result ≢ turns.Moved → IsFlushed self.new }
         ensures shown { next_choice self.old ≢ choices.Nothing → result ≢ turns.Quiet }
     {
         self.parts.as_mut().turn(gate)

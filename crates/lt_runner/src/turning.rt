@@ -1,11 +1,12 @@
 // Turns of a runner.
-ghost use Rattle.std.specs.Prelude.{◌≡◌, ◌≢◌, ◌<◌, IsOk, OnOk, IsTrue, IsFalse, length};
+ghost use Rattle.std.specs.Prelude.{◌≡◌, ◌≢◌, ◌<◌, ℕ, IsOk, OnOk, IsTrue, IsFalse, length};
 ghost use Rattle.lt_runner.specs.declared.choice.Choice.TheVariants as choices;
 ghost use Rattle.lt_runner.specs.declared.turning.Found.TheVariants as finds;
 ghost use Rattle.lt_runner.specs.declared.turning.Turned.TheVariants as endings;
 ghost use Rattle.lt_runner.specs.Choices.{next_choice};
-ghost use Rattle.lt_runner.specs.Kept.{RunnerInvariant, SameRunner, AsSeen, CouldMove, IsFlushed, FindEnds, MovedOne, TurnEnds, Grew, WorkEnds};
+ghost use Rattle.lt_runner.specs.Kept.{RunnerInvariant, SameRunner, AsSeen, CouldMove, IsFlushed, HasPassedOn, KeepsRings, FindEnds, MovedOne, TurnEnds, Grew, WorkEnds};
 ghost use Rattle.lt_runner.specs.Ready.{HasMemoryFor};
+ghost use Rattle.lt_mail.specs.Words.{out_at};
 ghost use Rattle.lt_runner.specs.declared.turning.Worked.TheVariants as answers;
 
 use crate::choice::{Choice, choose};
@@ -80,6 +81,7 @@ impl Parts {
         ensures could { CouldMove self.new }
         ensures memory { OnOk result (HasMemoryFor choice self.new) }
         ensures full { HasMemoryFor choice self.old → IsOk result }
+        ensures outs { (node : ℕ) → out_at self.new.mail node ≡ out_at self.old.mail node }
     {
         match choice {
             Choice::Nothing => Ok(()),
@@ -97,6 +99,7 @@ impl Parts {
         ensures kept { RunnerInvariant self.new }
         ensures same { SameRunner self.old self.new }
         ensures moved { MovedOne self.old self.new }
+        ensures rings { KeepsRings self.old self.new }
     {
         match choice {
             Choice::Nothing => {}
@@ -111,6 +114,8 @@ impl Parts {
         ensures kept { RunnerInvariant self.new }
         ensures same { SameRunner self.old self.new }
         ensures ends { TurnEnds result self.old self.new }
+        ensures passed { HasPassedOn self.old self.new }
+        ensures flushed { result ≢ endings.Moved → IsFlushed self.new }
         ensures choice { next_choice self.old ≢ choices.Nothing → result ≢ endings.Quiet }
     {
         match self.find() {
@@ -135,6 +140,8 @@ impl Parts {
         ensures grew { Grew self.old self.new }
         ensures moved { IsTrue result → MovedOne self.old self.new }
         ensures none { IsFalse result → AsSeen self.old self.new × CouldMove self.new }
+        ensures passed { IsFlushed self.old → HasPassedOn self.old self.new }
+        ensures flushed { IsFalse result → IsFlushed self.old → IsFlushed self.new }
         ensures full { HasMemoryFor choice self.old → IsTrue result }
     {
         if self.reserve(choice).is_err() {
@@ -153,6 +160,7 @@ impl Parts {
         ensures kept { RunnerInvariant self.new }
         ensures grew { Grew self.old self.new }
         ensures ends { WorkEnds result patience self.new }
+        ensures flushed { 0 < patience → IsFlushed self.new }
         ensures at_once { patience ≡ 0 → (result ≡ answers.Idle) × (self.new ≡ self.old) }
     {
         let mut quiet = 0;

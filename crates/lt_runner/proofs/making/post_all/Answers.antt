@@ -11,5 +11,5 @@ put-requires-clause-peer c =
 pub loop-post-preserved : goal.loop-post-preserved
 loop-post-preserved c =
     one_posted c.args._nodes c.args._me c.args.mail.now c.loop-post.mail c.put.new.self c.args.out.now c.loop-post.out c.next_letter.new.self
-    (post_seen c.in-Some.post) c.loop-post.invariant c.in-Some.ensures.first c.next_letter.ensures.rest c.put.ensures.sent c.put.ensures.room
+    (post_seen c.in-Some.post) c.loop-post.invariant c.in-Some.ensures.first c.next_letter.ensures.rest c.put.ensures.sent c.put.ensures.rings c.put.ensures.room
     c.put.ensures.ins c.put.ensures.ends

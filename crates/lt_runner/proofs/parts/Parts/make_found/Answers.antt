@@ -1,6 +1,6 @@
 -- The move is made, or there is no memory for it.
 use Rattle.std.proofs.Common.{◌∙◌, sym, refl, true≢false}
-use Rattle.lt_runner.proofs.TurnLemmas.{later_moved, later_grew, seen_grew, grew_self}
+use Rattle.lt_runner.proofs.TurnLemmas.{later_moved, later_grew, seen_grew, grew_self, flushed_later, passed_on, rings_same}
 use Rattle.lt_runner.proofs.ReadyLemmas.{no_error}
 use Rattle.lt_runner.proofs.parts.Parts.make_found.Goals as goal
 
@@ -22,6 +22,14 @@ returns-then-is_err-clause-grew g c =
 
 pub returns-then-is_err-clause-none : goal.returns-then-is_err-clause-none
 returns-then-is_err-clause-none g c = λ none. (c.reserve.ensures.seen, c.reserve.ensures.could)
+
+pub returns-then-is_err-clause-passed : goal.returns-then-is_err-clause-passed
+returns-then-is_err-clause-passed g c = λ flushed.
+    passed_on c.args.self.now c.reserve.new.self c.reserve.new.self c.reserve.ensures.seen
+    (flushed_later c.args.self.now c.reserve.new.self c.reserve.ensures.outs flushed) (rings_same c.reserve.new.self)
+
+pub returns-then-is_err-clause-flushed : goal.returns-then-is_err-clause-flushed
+returns-then-is_err-clause-flushed g c = λ none flushed. flushed_later c.args.self.now c.reserve.new.self c.reserve.ensures.outs flushed
 
 pub make-requires-clause-kept : goal.make-requires-clause-kept
 make-requires-clause-kept g c = c.reserve.ensures.kept
@@ -51,3 +59,11 @@ returns-clause-none g c = λ none. absurd (true≢false none)
 
 pub returns-clause-full : goal.returns-clause-full
 returns-clause-full g c = λ room. refl
+
+pub returns-clause-passed : goal.returns-clause-passed
+returns-clause-passed g c = λ flushed.
+    passed_on c.args.self.now c.reserve.new.self c.make.new.self c.reserve.ensures.seen
+    (flushed_later c.args.self.now c.reserve.new.self c.reserve.ensures.outs flushed) c.make.ensures.rings
+
+pub returns-clause-flushed : goal.returns-clause-flushed
+returns-clause-flushed g c = λ none. absurd (true≢false none)

@@ -1,5 +1,5 @@
 -- What is there to be made stays so.
-use Rattle.std.proofs.Common.{◌∙◌, sym, subst, OnOk}
+use Rattle.std.proofs.Common.{◌∙◌, refl, sym, subst, OnOk}
 use Rattle.lt_runner.specs.declared.choice.Choice.{Choice}
 use Rattle.lt_runner.specs.Ready.{HasMemoryFor}
 use Rattle.lt_runner.proofs.TurnLemmas.{choice_stays, take_lasts, could_act, could_take}
@@ -37,6 +37,9 @@ returns-in-Nothing-clause-memory c = absurd (c.requires.could.choice (c.requires
 pub returns-in-Nothing-clause-full : goal.returns-in-Nothing-clause-full
 returns-in-Nothing-clause-full c = absurd (c.requires.could.choice (c.requires.chosen ∙ c.in-Nothing.is))
 
+pub returns-in-Nothing-clause-outs : goal.returns-in-Nothing-clause-outs
+returns-in-Nothing-clause-outs c = λ node. refl
+
 -- A command.
 
 pub returns-in-Act-clause-kept : goal.returns-in-Act-clause-kept
@@ -61,6 +64,9 @@ pub returns-in-Act-clause-full : goal.returns-in-Act-clause-full
 returns-in-Act-clause-full c =
     λ room. c.reserve_act.ensures.full (subst (λ (choice : Choice). HasMemoryFor choice c.args.self.now) c.in-Act.is room)
 
+pub returns-in-Act-clause-outs : goal.returns-in-Act-clause-outs
+returns-in-Act-clause-outs c = c.reserve_act.ensures.outs
+
 -- A letter.
 
 pub returns-in-Take-clause-kept : goal.returns-in-Take-clause-kept
@@ -84,3 +90,6 @@ returns-in-Take-clause-memory c =
 pub returns-in-Take-clause-full : goal.returns-in-Take-clause-full
 returns-in-Take-clause-full c =
     λ room. c.reserve_take.ensures.full (subst (λ (choice : Choice). HasMemoryFor choice c.args.self.now) c.in-Take.is room)
+
+pub returns-in-Take-clause-outs : goal.returns-in-Take-clause-outs
+returns-in-Take-clause-outs c = c.reserve_take.ensures.outs

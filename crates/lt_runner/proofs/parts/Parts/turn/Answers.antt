@@ -1,6 +1,7 @@
 -- The look, and then the move.
+use Rattle.std.proofs.Common.{refl}
 use Rattle.lt_runner.specs.declared.turning.Turned.TheVariants.{Moved, NoMemory}
-use Rattle.lt_runner.proofs.TurnLemmas.{full_tells, moved_tells, no_memory_tells, same_later, turn_later}
+use Rattle.lt_runner.proofs.TurnLemmas.{full_tells, moved_tells, no_memory_tells, same_later, turn_later, passed_on, passed_later, rings_same}
 use Rattle.lt_runner.proofs.parts.Parts.turn.Goals as goal
 
 pub find-requires : goal.find-requires
@@ -18,6 +19,13 @@ returns-in-Quiet-clause-same g c = c.find.ensures.seen.same
 pub returns-in-Quiet-clause-ends : goal.returns-in-Quiet-clause-ends
 returns-in-Quiet-clause-ends g c = (c.find.ensures.seen, c.in-Quiet.ensures.ends)
 
+pub returns-in-Quiet-clause-passed : goal.returns-in-Quiet-clause-passed
+returns-in-Quiet-clause-passed g c =
+    passed_on c.args.self.now c.find.new.self c.find.new.self c.find.ensures.seen c.find.ensures.flushed (rings_same c.find.new.self)
+
+pub returns-in-Quiet-clause-flushed : goal.returns-in-Quiet-clause-flushed
+returns-in-Quiet-clause-flushed g c = λ other. c.find.ensures.flushed
+
 pub returns-in-Quiet-clause-choice : goal.returns-in-Quiet-clause-choice
 returns-in-Quiet-clause-choice g c = λ some same. c.find.ensures.shown some c.in-Quiet.is
 
@@ -29,6 +37,13 @@ returns-in-Full-clause-same g c = c.find.ensures.seen.same
 
 pub returns-in-Full-clause-ends : goal.returns-in-Full-clause-ends
 returns-in-Full-clause-ends g c = (c.find.ensures.seen, c.in-Full.ensures.ends)
+
+pub returns-in-Full-clause-passed : goal.returns-in-Full-clause-passed
+returns-in-Full-clause-passed g c =
+    passed_on c.args.self.now c.find.new.self c.find.new.self c.find.ensures.seen c.find.ensures.flushed (rings_same c.find.new.self)
+
+pub returns-in-Full-clause-flushed : goal.returns-in-Full-clause-flushed
+returns-in-Full-clause-flushed g c = λ other. c.find.ensures.flushed
 
 pub returns-in-Full-clause-choice : goal.returns-in-Full-clause-choice
 returns-in-Full-clause-choice g c = λ some. full_tells
@@ -45,6 +60,13 @@ returns-then-make_found-clause-ends g c =
     turn_later Moved c.args.self.now c.find.new.self c.make_found.new.self c.find.ensures.seen
     (c.make_found.ensures.moved c.if-make_found.true, c.in-Move.ensures.ends.1.place)
 
+pub returns-then-make_found-clause-passed : goal.returns-then-make_found-clause-passed
+returns-then-make_found-clause-passed g c =
+    passed_later c.args.self.now c.find.new.self c.make_found.new.self c.find.ensures.seen (c.make_found.ensures.passed c.find.ensures.flushed)
+
+pub returns-then-make_found-clause-flushed : goal.returns-then-make_found-clause-flushed
+returns-then-make_found-clause-flushed g c = λ other. absurd (other refl)
+
 pub returns-then-make_found-clause-choice : goal.returns-then-make_found-clause-choice
 returns-then-make_found-clause-choice g c = λ some. moved_tells
 
@@ -59,6 +81,13 @@ pub returns-else-make_found-clause-ends : goal.returns-else-make_found-clause-en
 returns-else-make_found-clause-ends g c =
     turn_later NoMemory c.args.self.now c.find.new.self c.make_found.new.self c.find.ensures.seen
     (c.make_found.ensures.none c.if-make_found.false)
+
+pub returns-else-make_found-clause-passed : goal.returns-else-make_found-clause-passed
+returns-else-make_found-clause-passed g c =
+    passed_later c.args.self.now c.find.new.self c.make_found.new.self c.find.ensures.seen (c.make_found.ensures.passed c.find.ensures.flushed)
+
+pub returns-else-make_found-clause-flushed : goal.returns-else-make_found-clause-flushed
+returns-else-make_found-clause-flushed g c = λ other. c.make_found.ensures.flushed c.if-make_found.false c.find.ensures.flushed
 
 pub returns-else-make_found-clause-choice : goal.returns-else-make_found-clause-choice
 returns-else-make_found-clause-choice g c = λ some. no_memory_tells

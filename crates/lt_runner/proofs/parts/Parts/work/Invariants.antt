@@ -1,6 +1,6 @@
 -- The loop of turns.
 use Rattle.std.proofs.Common.{◌≡◌, ◌<◌, ◌+◌, ◌-◌, ◌*◌, length}
-use Rattle.lt_runner.specs.Kept.{RunnerInvariant, Grew, RunnerIsQuiet}
+use Rattle.lt_runner.specs.Kept.{RunnerInvariant, Grew, IsFlushed, RunnerIsQuiet}
 use Rattle.lt_runner.proofs.parts.Parts.work.Given as goal
 
 abbrev pub invariant-loop-quiet : goal.invariant-loop-quiet
@@ -8,6 +8,7 @@ invariant-loop-quiet g l = record {
   kept : RunnerInvariant l.self;
   grew : Grew l.initial.self l.self;
   ended : 0 < l.quiet → RunnerIsQuiet l.self;
+  flushed : 0 < l.quiet → IsFlushed l.self;
   none : l.fn.patience ≡ 0 → l.self ≡ l.initial.self;
 }
 
