@@ -11,3 +11,6 @@ pub mod Settling
 pub mod StationPairs
 pub mod Moments
 pub mod EqualShares
+pub mod InHand
+pub mod Taking
+pub mod Moves

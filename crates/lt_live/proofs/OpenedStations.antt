@@ -12,7 +12,7 @@ use Rattle.lt_spec.specs.World.{Logged}
 use Rattle.lt_runner.specs.declared.parts.Parts.{Parts}
 use Rattle.lt_threads.specs.Pushes.{IsFirstCrew}
 use Rattle.lt_live.specs.declared.ends.Seat.{Seat}
-use Rattle.lt_live.specs.Seats.{IsSeat, KnowAll, LooksBeside, HasToldAll}
+use Rattle.lt_live.specs.Seats.{IsSeat, KnowAll, LooksBeside, HasToldAll, IsFullOfReplies}
 use Rattle.lt_live.specs.Stations.{IsSeatOf, StationData, AreOthers, IsNewSession, HasSeat, runner_of, SeatsBefore, Opens, AreSeatless, HaveNoCommands, IsStation, IsSeated, SeatLooks}
 use Rattle.lt_live.specs.declared.ends.Session.{Session}
 use Rattle.lt_live.specs.declared.limits.TheConstants.{LETTER_PLACES}
@@ -258,9 +258,9 @@ station_looked p seats place s t d y h at here looks =
     station_set p seats place d y h there looks.seat.client (seat_of_looked p s t d y (h.each place d there) looks)
 
 pub seat_looked : (log : List Logged) (seats : List Seat) (place : ℕ) (s t : Session) (d y : Seat) → place ≡ s.place → slice_get seats s.place ≡ Some d
-    → AreTwoEnds t y → KnowAll t y → LooksBeside log s t d y → HasToldAll log y ⊎ (0 < length (known_replies t))
+    → AreTwoEnds t y → KnowAll t y → LooksBeside log s t d y → HasToldAll log y ⊎ IsFullOfReplies t y → HasToldAll log y ⊎ (0 < length (known_replies t))
     → SeatLooks log s t seats (slice_set seats place y)
-seat_looked log seats place s t d y at here link beside looks moves = record {
+seat_looked log seats place s t d y at here link beside looks stops moves = record {
   x = d;
   y = y;
   before = here;
@@ -269,6 +269,7 @@ seat_looked log seats place s t d y at here link beside looks moves = record {
   link = link;
   beside = beside;
   looks = looks;
+  stops = stops;
   moves = moves;
   others = λ k apart. set_other seats place y k (λ e. apart (e ∙ at));
 }

@@ -18,7 +18,8 @@ use Rattle.lt_runner.specs.Choices.{next_choice}
 use Rattle.lt_runner.specs.declared.parts.Hand.{Hand}
 use Rattle.lt_runner.specs.Kept.{HandStays, AsSeen, Grew, TurnEnds, with_appended}
 use Rattle.lt_runner.proofs.TurnLemmas.{same_self}
-use Rattle.lt_live.specs.Stations.{may_ask, may_append, has_set, is_neighbour, IsStation, EachSeat, SeatAt, OnlyAppends, with_all, CanNotAppend, NoneCanAppend, SomeCanAppend, MayHandOver, HandMayGo, MoveEnds, SeatTurns, StationTurns, HaveCursors}
+use Rattle.lt_live.specs.Submitting.{may_ask, has_set, is_neighbour}
+use Rattle.lt_live.specs.Stations.{may_append, IsStation, EachSeat, SeatAt, OnlyAppends, with_all, CanNotAppend, NoneCanAppend, SomeCanAppend, MayHandOver, HandMayGo, MoveEnds, SeatTurns, StationTurns, HaveCursors}
 use Rattle.lt_live.specs.declared.ends.Seat.{Seat}
 use Rattle.lt_live.specs.Seats.{TakesIn, TellsSeat}
 use Rattle.lt_live.proofs.SeatLists.{each_before, each_after, each_join}

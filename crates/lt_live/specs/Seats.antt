@@ -1,7 +1,7 @@
 -- How far a client was told of a log.
 use Rattle.std.specs.Prelude.{◌≤◌, ℕ, List, [], ◌++◌, Option, Some, None, length, take, slice_get, ◌==◌, if◌then◌else◌, ◌≡◌, ◌+◌, ◌⊎◌, ◌<◌, Bool, true, false, ◌∷◌, filter_map}
 use mathlib.Core.List.{IsPrefix}
-use Rattle.rtrb.specs.Ring.{known_free}
+use Rattle.rtrb.specs.Ring.{known_free, producer_capacity}
 use Rattle.lt_modes.specs.declared.event.Event.{Event}
 use Rattle.lt_modes.specs.declared.event.Event.TheVariants.{Grant, Wait, Try, Unlock, NotHeld as NoLock, Change, DropAll, Busy as Waiting, Copy, Freeze, Token}
 use Rattle.lt_modes.specs.declared.command.Command.{Command}
@@ -12,7 +12,7 @@ use Rattle.lt_live.specs.declared.reply.Reply.{Reply}
 use Rattle.lt_live.specs.declared.reply.Reply.TheVariants.{Granted, True, False, Unlocked, NotHeld, Changed, Dropped, Busy}
 use Rattle.lt_live.specs.declared.ends.Session.{Session}
 use Rattle.lt_live.specs.declared.ends.Seat.{Seat}
-use Rattle.lt_live.specs.Words.{submitted, polled, known_replies, taken, known_commands, told_to, outbox_replies, due_to, command_held, SameSession, SameSeat}
+use Rattle.lt_live.specs.Words.{submitted, polled, known_replies, taken, known_commands, taken_or_known, told_to, outbox_replies, due_to, command_held, SameSession, SameSeat}
 
 abbrev pub lines_if : Option Logged → List Event
 lines_if None = []
@@ -70,13 +70,15 @@ pub record OnlyTells (a b : Seat) : Type 0 where
   pub places : known_free a.replies + length (told_to a) ≤ known_free b.replies + length (told_to b)
   pub fewer : length (outbox_replies b) ≤ length (outbox_replies a)
 
--- nothing happened but that a command may have been taken into the hand; none was, where replies wait in the outbox
+-- nothing happened but that a command may have been taken into the hand; none was, where replies wait in the outbox. What is known
+-- and isn't taken stays known
 pub record TakesIn (a b : Seat) : Type 0 where
   pub same : SameSeat a b
   pub told : (told_to b ≡ told_to a) × (outbox_replies b ≡ outbox_replies a)
   pub cursor : (b.moves ≡ a.moves) × (b.lines ≡ a.lines)
   pub taken : (list : List Command) → taken a ≡ list ++ command_held a.hand → taken b ≡ list ++ command_held b.hand
   pub none : a.hand ≡ None → b.hand ≡ None → (known_commands a ≡ []) ⊎ (0 < length (outbox_replies a))
+  pub known : IsPrefix (taken_or_known a) (taken_or_known b)
   pub stays : (command : Command) → a.hand ≡ Some command → b ≡ a
   pub owing : 0 < length (outbox_replies a) → b ≡ a
 
@@ -186,6 +188,10 @@ pub record IsSeat (list : List Command) (log : List Logged) (client : ℕ) (seat
 pub record KnowAll (s : Session) (seat : Seat) : Type 0 where
   pub commands : taken seat ++ known_commands seat ≡ submitted s
   pub replies : polled s ++ known_replies s ≡ told_to seat
+
+-- the session knows as many replies as their ring has places for
+abbrev pub IsFullOfReplies : Session → Seat → Type 0
+IsFullOfReplies s seat = producer_capacity seat.replies ≤ length (known_replies s)
 
 -- nothing happened but that replies may have gone into the ring, and that each end may know more
 pub record LooksBeside (log : List Logged) (s t : Session) (a b : Seat) : Type 0 where

@@ -1,11 +1,9 @@
--- Which commands a client may submit.
-use Rattle.std.specs.Prelude.{◌==◌, ◌&&◌, Bool, ℕ, nat_lt, length, ◌≡◌, ◌≢◌, ◌<◌, ◌≤◌, ◌⊎◌, true, false, List, Some, None, slice_get, ◌/◌, [], map}
+-- Stations.
+use Rattle.std.specs.Prelude.{◌&&◌, Bool, ℕ, nat_lt, length, ◌≡◌, ◌≢◌, ◌<◌, ◌≤◌, ◌⊎◌, true, false, List, Some, None, slice_get, ◌/◌, [], map}
 use mathlib.Core.List.{IsPrefix}
 use Rattle.rtrb.specs.Ring.{producer_capacity}
-use Rattle.lt_modes.specs.FiveModes.{is_of_version}
 use Rattle.lt_modes.specs.declared.command.Command.{Command}
-use Rattle.lt_modes.specs.declared.command.Command.TheVariants.{Lock, Try, Unlock, Change, DropAll}
-use Rattle.lt_modes.specs.Script.{ScriptData, home_at}
+use Rattle.lt_modes.specs.Script.{ScriptData}
 use Rattle.lt_spec.specs.declared.limits.TheConstants.{MAX_COMMANDS, MAX_COMMANDS_OF_SERVICE}
 use Rattle.lt_spec.specs.NodeMove.{commands_of, home, with_commands, AreAt}
 use Rattle.lt_spec.specs.World.{Logged}
@@ -20,27 +18,12 @@ use Rattle.lt_runner.specs.Kept.{AsSeen, CouldMove, Grew, TurnEnds, with_appende
 use Rattle.lt_threads.specs.Pushes.{IsFirstCrew}
 use Rattle.lt_live.specs.declared.ends.Session.{Session}
 use Rattle.lt_live.specs.declared.ends.Seat.{Seat}
-use Rattle.lt_live.specs.Seats.{IsCursorOf, TakesIn, TellsSeat, HasReadOn, IsSeat, KnowAll, LooksBeside, HasToldAll}
+use Rattle.lt_live.specs.Seats.{IsCursorOf, TakesIn, TellsSeat, HasReadOn, IsSeat, KnowAll, LooksBeside, HasToldAll, IsFullOfReplies}
 use Rattle.lt_live.specs.Words.{known_replies, AreTwoEnds, submitted, polled, known_commands, outbox_replies, places}
 use Rattle.lt_live.specs.declared.limits.TheConstants.{LETTER_PLACES}
+use Rattle.lt_live.specs.Submitting.{may_ask}
 
-abbrev pub has_set : ScriptData → ℕ → Bool
-has_set script set = nat_lt set (length script.sets)
-
--- the other client is of the script, and of the client's node
-abbrev pub is_neighbour : ScriptData → ℕ → ℕ → Bool
-is_neighbour script client other = nat_lt other (length script.clients) && home_at script.clients other == home_at script.clients client
-
--- all that the command names is of the script and of its version, and so is the client whose locks it drops, of the same node
-abbrev pub may_ask : ScriptData → ℕ → Command → Bool
-may_ask script client (Lock set mode) = has_set script set && is_of_version script.version mode
-may_ask script client (Try set mode) = has_set script set && is_of_version script.version mode
-may_ask script client (Unlock set mode) = has_set script set && is_of_version script.version mode
-may_ask script client (Change set gives_up mode) =
-    has_set script set && (is_of_version script.version gives_up && is_of_version script.version mode)
-may_ask script client (DropAll other set) = has_set script set && is_neighbour script client other
-
--- and there is a place for a command more
+-- the client may ask for the command, and there is a place for a command more
 abbrev pub may_append : ScriptData → ℕ → Command → Bool
 may_append script client command = nat_lt (length script.commands) MAX_COMMANDS_OF_SERVICE && may_ask script client command
 
@@ -192,8 +175,8 @@ pub record IsSeated (s : Session) (seats : List Seat) : Type 0 where
 abbrev pub StaySeated : List Seat → List Seat → Type 0
 StaySeated old new = (s : Session) → IsSeated s old → IsSeated s new
 
--- the session and its seat looked at their rings from both ends, and the other seats stay: all replies were told, or the
--- session knows one
+-- the session and its seat looked at their rings from both ends, and the other seats stay: all replies were told, or their ring
+-- is full, so that the session knows one
 pub record SeatLooks (log : List Logged) (s t : Session) (old new : List Seat) : Type 0 where
   pub x : Seat
   pub y : Seat
@@ -202,6 +185,7 @@ pub record SeatLooks (log : List Logged) (s t : Session) (old new : List Seat) :
   pub link : AreTwoEnds t y
   pub beside : KnowAll t y
   pub looks : LooksBeside log s t x y
+  pub stops : HasToldAll log y ⊎ IsFullOfReplies t y
   pub moves : HasToldAll log y ⊎ (0 < length (known_replies t))
   pub others : (k : ℕ) → k ≢ s.place → slice_get new k ≡ slice_get old k
 

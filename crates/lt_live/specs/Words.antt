@@ -28,6 +28,10 @@ taken seat = received seat.commands
 abbrev pub known_commands : Seat → List Command
 known_commands seat = known_items seat.commands
 
+-- the one, and then the other
+abbrev pub taken_or_known : Seat → List Command
+taken_or_known seat = taken seat ++ known_commands seat
+
 -- the replies that the ring was given
 abbrev pub told_to : Seat → List Reply
 told_to seat = sent seat.replies

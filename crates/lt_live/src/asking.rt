@@ -1,7 +1,7 @@
 // Which commands a client may submit.
 ghost use Rattle.std.specs.Prelude.{◌≡◌, ◌<◌, length};
 ghost use Rattle.lt_modes.specs.FiveModes.{is_of_version};
-ghost use Rattle.lt_live.specs.Stations.{may_ask, has_set, is_neighbour};
+ghost use Rattle.lt_live.specs.Submitting.{may_ask, has_set, is_neighbour};
 
 use lt_modes::{Command, Mode};
 use lt_script::Script;

@@ -4,7 +4,7 @@ ghost use Rattle.lt_modes.specs.declared.command.Command.{Command};
 ghost use Rattle.lt_spec.specs.Holdings.{lines_of};
 ghost use Rattle.rtrb.specs.Ring.{producer_capacity};
 ghost use Rattle.lt_live.specs.Words.{known_replies, AreTwoEnds};
-ghost use Rattle.lt_live.specs.Seats.{IsCursorOf, KnowAll, LooksBeside, HasToldAll, IsSeat, IsSettledSeat};
+ghost use Rattle.lt_live.specs.Seats.{IsCursorOf, KnowAll, LooksBeside, HasToldAll, IsFullOfReplies, IsSeat, IsSettledSeat};
 
 use crate::ends::{Seat, Session};
 use lt_log::LongLog;
@@ -18,6 +18,7 @@ pub(crate) fn beside(session: &mut Session, seat: &mut Seat, log: &LongLog)
     ensures link { AreTwoEnds session.new seat.new }
     ensures beside { KnowAll session.new seat.new }
     ensures looks { LooksBeside log.now.entries session.old session.new seat.old seat.new }
+    ensures stops { HasToldAll log.now.entries seat.new ⊎ IsFullOfReplies session.new seat.new }
     ensures moves { HasToldAll log.now.entries seat.new ⊎ (0 < length (known_replies session.new)) }
 {
     seat.commands.slots_beside(&mut session.commands);

@@ -1,5 +1,6 @@
 ghost use Rattle.std.specs.Prelude.{◌≡◌, ◌+◌, ◌<◌, ◌≤◌, length, min};
 ghost use Rattle.rtrb.specs.Ring.{sent, received, known_free, producer_capacity};
+ghost use Rattle.lt_live.specs.Submitting.{MayAskAll};
 
 use crate::reply::Reply;
 use lt_modes::Command;
@@ -24,6 +25,8 @@ pub struct Session {
     // So many commands at least have found or will find a place.
     pub(crate) ghost roomy: { producer_capacity commands ≤ known_free commands + length (sent commands) },
     pub(crate) ghost spent: { length (sent commands) + left ≡ share },
+    // What was submitted may be submitted.
+    pub(crate) ghost asks: { MayAskAll script client (sent commands) },
     pub(crate) ghost counted: { answered ≡ min share (length (received replies)) },
 }
 

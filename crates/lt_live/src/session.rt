@@ -70,6 +70,7 @@ impl Session {
 
     /// Submits the next command of the client. Where the ring has no place for it, it comes back: the session looks at the
     /// ring before it says so.
+    #[tactic(auto, using(crate::proofs::InHand::one_more, crate::proofs::InHand::no_more))]
     pub fn submit(&mut self, command: Command) -> Result<(), Command>
         requires left { 0 < self.old.left }
         requires targets { HasTargets self.old.script.sets self.old.script.clients self.old.client command }

@@ -12,7 +12,8 @@ use Rattle.lt_spec.specs.NodeMove.{commands_of, home, with_commands, command_if}
 use Rattle.lt_script.proofs.NameLemmas.{element_at}
 use Rattle.lt_threads.specs.Meeting.{InShares}
 use Rattle.lt_live.specs.declared.ends.Seat.{Seat}
-use Rattle.lt_live.specs.Stations.{may_ask, runner_of, StationData, IsSeatOf, IsOpen, equal_share}
+use Rattle.lt_live.specs.Submitting.{may_ask}
+use Rattle.lt_live.specs.Stations.{runner_of, StationData, IsSeatOf, IsOpen, equal_share}
 use Rattle.lt_live.specs.Live.{IsSessionOf, AreLive}
 use Rattle.lt_live.specs.Words.{submitted, taken, known_commands, outbox_replies, command_held}
 use Rattle.lt_live.specs.declared.ends.Session.{Session}

@@ -17,7 +17,8 @@ use Rattle.lt_spec.specs.World.{Logged}
 use Rattle.lt_threads.proofs.Shares.{counted}
 use Rattle.lt_live.specs.declared.ends.Seat.{Seat}
 use Rattle.lt_live.specs.declared.reply.Reply.{Reply}
-use Rattle.lt_live.specs.Stations.{may_ask, may_append, SeatTurns, HandMayGo}
+use Rattle.lt_live.specs.Submitting.{may_ask}
+use Rattle.lt_live.specs.Stations.{may_append, SeatTurns, HandMayGo}
 use Rattle.lt_live.specs.Words.{taken, known_commands, outbox_replies, command_held}
 use Rattle.lt_live_serve.specs.Serves.{among}
 use Rattle.lt_live_serve.specs.Completing.{SameHand}

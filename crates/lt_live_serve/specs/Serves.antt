@@ -16,7 +16,8 @@ use Rattle.lt_script.specs.Reading.{read_of}
 use Rattle.lt_script.specs.declared.fault.ScriptFault.{ScriptFault}
 use Rattle.lt_journal.specs.RunLines.{text_of}
 use Rattle.lt_threads.specs.Threads.{IsThreadRun}
-use Rattle.lt_live.specs.Stations.{may_ask, equal_share}
+use Rattle.lt_live.specs.Submitting.{may_ask}
+use Rattle.lt_live.specs.Stations.{equal_share}
 use Rattle.lt_live.specs.declared.reply.Reply.{Reply}
 use Rattle.lt_live.specs.Seats.{replies_in}
 use Rattle.lt_call.specs.Scripts.{Denotes, HasFault, DenotesOrdered}

@@ -2,7 +2,7 @@
 use Rattle.std.proofs.Common.{subst, sym, refl, arith, ◌⊎◌, ◌<◌, length}
 use Rattle.lt_log.specs.LogData.{LogData}
 use Rattle.lt_live.specs.Words.{known_replies}
-use Rattle.lt_live.specs.Seats.{IsCursorOf, LooksBeside, HasToldAll}
+use Rattle.lt_live.specs.Seats.{IsCursorOf, LooksBeside, HasToldAll, IsFullOfReplies}
 use Rattle.lt_live.proofs.OpenedStations.{seat_found, seat_inside, station_looked, seat_looked}
 use Rattle.lt_live.proofs.looking.beside_at.Goals as goal
 
@@ -39,4 +39,5 @@ returns-clause-looks c =
     seat_looked c.args.runner.now.log.entries c.args.seats.now.items c.args.session.now.place c.args.session.now c.beside.new.session c.index_mut.result.now c.beside.new.seat
     refl here c.beside.ensures.link c.beside.ensures.beside
     (subst (λ (log : LogData). LooksBeside log.entries c.args.session.now c.beside.new.session c.index_mut.result.now c.beside.new.seat) c.log.ensures c.beside.ensures.looks)
+    (subst (λ (log : LogData). HasToldAll log.entries c.beside.new.seat ⊎ IsFullOfReplies c.beside.new.session c.beside.new.seat) c.log.ensures c.beside.ensures.stops)
     (subst (λ (log : LogData). HasToldAll log.entries c.beside.new.seat ⊎ (0 < length (known_replies c.beside.new.session))) c.log.ensures c.beside.ensures.moves)
