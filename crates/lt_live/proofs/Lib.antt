@@ -10,4 +10,7 @@ pub mod LiveShares
 pub mod Settling
 pub mod StationPairs
 pub mod Moments
+pub mod LaterMoments
 pub mod EqualShares
+pub mod OwnCommands
+pub mod WholeRuns

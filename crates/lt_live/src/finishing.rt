@@ -39,7 +39,7 @@ impl From<AllocError> for FinishError {
 /// It takes all stations and all sessions of one `open`, in order. A command that was submitted and isn't in the script was
 /// never made. More commands than the text of a script may have are refused; sessions with equal shares of that many never
 /// submit more. After an error all is dropped.
-#[tactic(auto, using(crate::proofs::Finished::are_shares, crate::proofs::Finished::finishes))]
+#[tactic(auto, using(crate::proofs::Finished::are_shares, crate::proofs::WholeRuns::finishes))]
 pub fn finish(
     alloc: Global,
     mut stations: Vec<Station>,
