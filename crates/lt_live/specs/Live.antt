@@ -173,32 +173,39 @@ pub record IsOtherEnd (stations : List StationData) (node : ℕ) (s : Session) (
 
 -- in the script each client has all commands that its session submitted, but the one in hand and those in the ring
 abbrev pub HaveAllCommands : ScriptData → List StationData → List Session → ScriptData → Type 0
-HaveAllCommands first stations sessions script = (client : ℕ) (s : Session) (seat : Seat) → slice_get sessions client ≡ Some s
+HaveAllCommands first stations sessions script =
+    (client : ℕ) (s : Session) (seat : Seat) → slice_get sessions client ≡ Some s
     → IsOtherEnd stations (home first client) s seat → HasAllCommands (commands_of script client) s seat
 
--- a run in which these sessions were served: the one that these stations have made, with all their moves, of the script with all
--- commands that they took
-pub record IsWholeRun (first : ScriptData) (stations : List StationData) (sessions : List Session) (script : ScriptData) (run : List Logged) : Type 0 where
+-- a run in which these sessions were served: the one that these stations have made, with all their moves, of the script
+-- with all commands that they took
+pub record IsWholeRun (first : ScriptData) (stations : List StationData) (sessions : List Session) (script : ScriptData)
+    (run : List Logged) : Type 0 where
   pub served : IsServedRun first sessions script run
   pub made : IsRunOfAll (map runner_of stations) script run
   pub all : HaveAllCommands first stations sessions script
 
 -- there are commands and a run for which it is so
 abbrev pub IsWholeNow : ScriptData → List StationData → List Session → Type 0
-IsWholeNow first stations sessions = (script : ScriptData) × (run : List Logged) × IsWholeRun first stations sessions script run
+IsWholeNow first stations sessions =
+    (script : ScriptData) × (run : List Logged) × IsWholeRun first stations sessions script run
 
--- in the script of its own station the client has all that its session submitted, but the one in hand and those in the ring
+-- in the script of its own station the client has all that its session submitted but what is in hand and in the ring
 abbrev pub HasOwnCommands : ScriptData → List StationData → List Session → ℕ → Type 0
-HasOwnCommands first stations sessions client = (s : Session) (seat : Seat) → slice_get sessions client ≡ Some s
-    → (at : IsOtherEnd stations (home first client) s seat) → HasAllCommands (commands_of at.station.runner.node.script client) s seat
+HasOwnCommands first stations sessions client =
+    (s : Session) (seat : Seat) → slice_get sessions client ≡ Some s
+    → (at : IsOtherEnd stations (home first client) s seat)
+    → HasAllCommands (commands_of at.station.runner.node.script client) s seat
 
 -- no command was taken at any seat, and so it is of the first n clients
-pub record HaveOwnCommands (first : ScriptData) (n : ℕ) (stations : List StationData) (sessions : List Session) (later : List StationData) : Type 0 where
+pub record HaveOwnCommands (first : ScriptData) (n : ℕ) (stations : List StationData) (sessions : List Session)
+    (later : List StationData) : Type 0 where
   pub none : EachStation SeatsTakeNone stations later
   pub own : (client : ℕ) → client < n → HasOwnCommands first stations sessions client
 
 -- no command was taken, and so it is of this client
-pub record KeepsOwnCommands (first : ScriptData) (client : ℕ) (stations : List StationData) (sessions : List Session) (later : List StationData) : Type 0 where
+pub record KeepsOwnCommands (first : ScriptData) (client : ℕ) (stations : List StationData) (sessions : List Session)
+    (later : List StationData) : Type 0 where
   pub none : EachStation SeatsTakeNone stations later
   pub own : HasOwnCommands first stations sessions client
 

@@ -213,7 +213,7 @@ pub record IsSettledSeat (list : List Command) (lines : List Event) (client : �
   pub all : submitted t ≡ (list ++ command_held seat.hand) ++ known_commands seat
   pub same : submitted t ≡ submitted s
 
--- the client's list and then the command in hand are all that was taken of what was submitted; the other commands are in the ring
+-- the client's list, then the command in hand, are all that was taken of what was submitted; the others are in the ring
 pub record HasAllCommands (list : List Command) (s : Session) (seat : Seat) : Type 0 where
   pub taken : taken seat ≡ list ++ command_held seat.hand
   pub in_ring : List Command

@@ -27,9 +27,10 @@ MakesNoMove a b = AsSeen a.runner b.runner
 abbrev pub AreServed : List StationData → List Session → List Session → Type 0
 AreServed stations sessions after = (script : ScriptData) → AreLive script stations sessions → IsServedNow script after
 
--- and there is the one that the stations after have made, with all that was submitted at these but what is in hand and in the rings
+-- and it is the one that the stations have made, with all that was submitted but what is in hand and in the rings
 abbrev pub AreWhole : List StationData → List Session → List StationData → List Session → Type 0
-AreWhole stations sessions later after = (script : ScriptData) → AreLive script stations sessions → IsWholeNow script later after
+AreWhole stations sessions later after =
+    (script : ScriptData) → AreLive script stations sessions → IsWholeNow script later after
 
 -- and these are those of the script still
 abbrev pub StayLive : List StationData → List Session → List StationData → List Session → Type 0

@@ -46,7 +46,8 @@ pub fn finish(
     mut sessions: Vec<Session>,
 ) -> Result<(Script, Run), FinishError>
     requires { LiveScript stations.items sessions.items }
-    ensures run { IfOk result (λ made. (script : ScriptData) → AreLive script stations.items sessions.items → IsWholeRun script stations.items sessions.items made.0 made.1.entries) }
+    ensures run { IfOk result (λ made. (script : ScriptData) → AreLive script stations.items sessions.items
+        → IsWholeRun script stations.items sessions.items made.0 made.1.entries) }
     ensures few_commands { IfOk result (λ made. length made.0.commands ≤ MAX_COMMANDS) }
     ensures forgotten { (result ≡ Err errors.Forgotten) ↔ (¬ HaveAll (map runner_of stations.items)) }
     ensures many { IfErr result (λ error. error ≡ errors.TooMany → AreTooMany (map runner_of stations.items)) }
@@ -67,7 +68,14 @@ pub fn finish(
 }
 
 // Whether no station has forgotten moves or commands.
-#[tactic(auto, using(crate::proofs::WholeRuns::next_has_all, crate::proofs::WholeRuns::one_has_all, crate::proofs::WholeRuns::all_have_all))]
+#[tactic(
+    auto,
+    using(
+        crate::proofs::WholeRuns::next_has_all,
+        crate::proofs::WholeRuns::one_has_all,
+        crate::proofs::WholeRuns::all_have_all
+    )
+)]
 fn have_all(stations: &[Station]) -> bool
     ensures { IsTrue result ↔ HaveAll (map runner_of stations.now) }
 {
@@ -82,8 +90,10 @@ fn have_all(stations: &[Station]) -> bool
 /// All sessions and their seats look at their rings, so that each side knows all that is in the ring between them.
 pub fn settle_all(stations: &mut Vec<Station>, sessions: &mut Vec<Session>)
     requires { LiveScript stations.old.items sessions.old.items }
-    ensures settled { (script : ScriptData) → AreLive script stations.old.items sessions.old.items → Settled script stations.old.items sessions.old.items stations.new.items sessions.new.items }
-    ensures own { (script : ScriptData) → AreLive script stations.old.items sessions.old.items → HaveOwnCommands script (length sessions.old.items) stations.old.items sessions.old.items stations.new.items }
+    ensures settled { (script : ScriptData) → AreLive script stations.old.items sessions.old.items
+        → Settled script stations.old.items sessions.old.items stations.new.items sessions.new.items }
+    ensures own { (script : ScriptData) → AreLive script stations.old.items sessions.old.items
+        → HaveOwnCommands script (length sessions.old.items) stations.old.items sessions.old.items stations.new.items }
 {
     for client in 0..sessions.len() {
         settle_at(stations, sessions, client);
@@ -93,8 +103,10 @@ pub fn settle_all(stations: &mut Vec<Station>, sessions: &mut Vec<Session>)
 fn settle_at(stations: &mut Vec<Station>, sessions: &mut Vec<Session>, client: usize)
     requires inside { client < length sessions.old.items }
     requires live { LiveScript stations.old.items sessions.old.items }
-    ensures settles { (script : ScriptData) → AreLive script stations.old.items sessions.old.items → SettlesAt script client stations.old.items sessions.old.items stations.new.items sessions.new.items }
-    ensures own { (script : ScriptData) → AreLive script stations.old.items sessions.old.items → KeepsOwnCommands script client stations.old.items sessions.old.items stations.new.items }
+    ensures settles { (script : ScriptData) → AreLive script stations.old.items sessions.old.items
+        → SettlesAt script client stations.old.items sessions.old.items stations.new.items sessions.new.items }
+    ensures own { (script : ScriptData) → AreLive script stations.old.items sessions.old.items
+        → KeepsOwnCommands script client stations.old.items sessions.old.items stations.new.items }
 {
     let home = usize::from(home_of(&sessions[client]));
     stations[home].kept();
