@@ -19,6 +19,7 @@ use Rattle.lt_live.specs.declared.ends.Seat.{Seat}
 use Rattle.lt_live.specs.Seats.{HasAllCommands, TakesNone}
 use Rattle.lt_live.specs.Stations.{StationData, runner_of}
 use Rattle.lt_live.specs.Live.{AreLive, LiveScript, EachStation, EachSession, SaysSame, SeatsTakeNone, Settled, IsServedRun, IsRunOfAll, IsWholeRun, IsWholeNow, IsOtherEnd, HaveAllCommands, HaveOwnCommands}
+use Rattle.lt_live.specs.Served.{OneWholeRun}
 use Rattle.lt_live.proofs.Finished.{AllSettled, served_run, run_of_all, shared_now, same_taken}
 use Rattle.lt_live.proofs.OwnCommands.{all_after}
 use Rattle.lt_live.proofs.SeatLists.{alike_before, each_before}
@@ -96,6 +97,20 @@ finishes stations later sessions after rs made run some settled own taken shared
 
     ours : IsRunOfAll (map runner_of stations) made run
     ours = subst (λ (ps : List Parts). IsRunOfAll ps made run) (same_taken stations later sessions after rs some settled taken) all
+
+-- It is the only one.
+
+pub one_whole_run : OneWholeRun
+one_whole_run first script other stations sessions run moves h k = (
+  same,
+  h.made.is_crew_run ∙ ap (λ (s : ScriptData). crew_run s (map runner_of stations)) same ∙ sym k.made.is_crew_run,
+)
+  where
+    same : script ≡ other
+    same =
+        h.served.same
+        ∙ ap (λ (commands : List (ℕ × Command)). with_commands first commands) (h.made.commands ∙ sym k.made.commands)
+        ∙ sym k.served.same
 
 -- The first n stations have forgotten nothing.
 

@@ -68,14 +68,7 @@ pub fn finish(
 }
 
 // Whether no station has forgotten moves or commands.
-#[tactic(
-    auto,
-    using(
-        crate::proofs::WholeRuns::next_has_all,
-        crate::proofs::WholeRuns::one_has_all,
-        crate::proofs::WholeRuns::all_have_all
-    )
-)]
+#[tactic(auto, using(crate::proofs::WholeRuns::next_has_all, crate::proofs::WholeRuns::one_has_all, crate::proofs::WholeRuns::all_have_all))]
 fn have_all(stations: &[Station]) -> bool
     ensures { IsTrue result ↔ HaveAll (map runner_of stations.now) }
 {

@@ -26,7 +26,9 @@ mod visiting;
 
 pub use ends::{Seat, Session};
 pub use finishing::{FinishError, finish, settle_all, take_runners};
-pub use laws::{law_live_lasts, law_polled_in_turn, law_served_goes_on, law_served_now, law_told};
+pub use laws::{
+    law_live_lasts, law_one_run, law_polled_in_turn, law_served_goes_on, law_served_now, law_told,
+};
 pub use limits::LETTER_PLACES;
 pub use reply::{Reply, reply_to};
 pub use serving::served;
