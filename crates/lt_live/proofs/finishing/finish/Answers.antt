@@ -1,5 +1,5 @@
 -- The run is that of the stations; where they have too many commands together for a text, they had before.
-use Rattle.std.proofs.Common.{Err, ap, subst, sym}
+use Rattle.std.proofs.Common.{Err, ap, refl, subst, sym}
 use Rattle.lt_threads.specs.Meeting.{HaveAll, AreTooMany}
 use Rattle.lt_live.proofs.Finished.{never_many, same_taken}
 use Rattle.lt_live.proofs.WholeRuns.{finishes}
@@ -47,5 +47,5 @@ returns-in-Err-Forgotten-clause-forgotten c = (
       same_taken c.args.stations.items c.settle_all.new.stations.items c.args.sessions.items c.settle_all.new.sessions.items c.take_runners.result.items
       c.requires c.settle_all.ensures.settled c.take_runners.ensures in
       c.in-Err-Forgotten.ensures.forgotten.0 (ap Err c.in-Err-Forgotten.field-0-is) (subst HaveAll (sym same) all),
-  λ none. ap Err c.in-Err-Forgotten.field-0-is,
+  λ none. refl,
 )
