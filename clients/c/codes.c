@@ -265,6 +265,33 @@ static void whole_life(void) {
     IS(journal.at != 0, 0);
 }
 
+/* What nobody polls is in the journal too, also where a command is still in its ring. */
+static void unpolled(void) {
+    const char *script = "nodes 1\nset a\nclient c at 0\nclient d at 0\nc lock a write\nd lock a write\n";
+    uint8_t bytes[128];
+    size_t held, waiting;
+    IS(open_text("nodes 1\nset a\nclient c at 0\nclient d at 0\n", 100, 4), LOCKRUN_OK);
+    IS(lockrun_take_station(&service, &station[0]), LOCKRUN_OK);
+    IS(lockrun_take_session(&service, &ann), LOCKRUN_OK);
+    IS(lockrun_take_session(&service, &ben), LOCKRUN_OK);
+    IS(lockrun_submit(&ann, LOCKRUN_LOCK, 0, LOCKRUN_WRITE, 0), LOCKRUN_OK);
+    while (lockrun_turn(&station[0]) == LOCKRUN_OK) {}
+    IS(lockrun_submit(&ben, LOCKRUN_LOCK, 0, LOCKRUN_WRITE, 0), LOCKRUN_OK);
+    while (lockrun_turn(&station[0]) == LOCKRUN_OK) {}
+    IS(lockrun_submit(&ann, LOCKRUN_UNLOCK, 0, LOCKRUN_WRITE, 0), LOCKRUN_OK);
+    IS(lockrun_give(&service, &station[0]), LOCKRUN_OK);
+    IS(lockrun_give(&service, &ann), LOCKRUN_OK);
+    IS(lockrun_give(&service, &ben), LOCKRUN_OK);
+    served(3, 0);
+    IS(lockrun_finish(&service, &journal), LOCKRUN_OK);
+    IS(lockrun_end(&journal, &held, &waiting), LOCKRUN_OK);
+    IS(held, 1);
+    IS(waiting, 1);
+    IS(lockrun_script(&journal, 0, bytes, sizeof bytes), strlen(script));
+    IS(memcmp(bytes, script, strlen(script)) != 0, 0);
+    lockrun_free(&journal);
+}
+
 /* One command more than a script may have: the service goes on, and has no journal. */
 static void too_many(void) {
     IS(open_text("nodes 1\nset a\nclient c at 0\nclient d at 0\n", (uint64_t)1 << 55, 4), LOCKRUN_OK);
@@ -431,6 +458,7 @@ int main(void) {
     ends();
     lockrun_free(&service);
     whole_life();
+    unpolled();
     too_many();
     many_sets();
     eight_sets();

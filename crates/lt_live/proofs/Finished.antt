@@ -220,7 +220,7 @@ module _ (script : ScriptData) (stations later : List StationData) (sessions aft
                 (subst (λ (list : List Reply). IsPrefix list (replies_in client (lines_of p.log.entries))) at.says.polled at.served.replies);
           })
 
-run_of_all : (rs : List Parts) (made : ScriptData) (run : List Logged) → IsSharedRun rs made run → IsRunOfAll rs made run
+pub run_of_all : (rs : List Parts) (made : ScriptData) (run : List Logged) → IsSharedRun rs made run → IsRunOfAll rs made run
 run_of_all rs made run shared = record {
   crew = shared.joined.crew;
   commands = shared.joined.commands;
@@ -248,12 +248,6 @@ never_many stations later sessions after rs live settled taken =
 pub same_taken : (stations later : List StationData) (sessions after : List Session) (rs : List Parts) → LiveScript stations sessions
     → AllSettled stations sessions later after → rs ≡ map runner_of later → rs ≡ map runner_of stations
 same_taken stations later sessions after rs live settled taken = taken ∙ (settled live.0 live.1).runners
-
-pub finishes : (stations later : List StationData) (sessions after : List Session) (rs : List Parts) (made : ScriptData) (run : List Logged)
-    → AllSettled stations sessions later after → rs ≡ map runner_of later → IsSharedRun rs made run
-    → (script : ScriptData) → AreLive script stations sessions → IsServedRun script sessions made run
-finishes stations later sessions after rs made run settled taken shared script live =
-    served_run script stations later sessions after rs (settled script live) taken made run (run_of_all rs made run shared)
 
 -- The run that stations have made so far, though nobody merged their logs.
 

@@ -10,7 +10,10 @@ pub mod LiveShares
 pub mod Settling
 pub mod StationPairs
 pub mod Moments
+pub mod LaterMoments
 pub mod EqualShares
 pub mod InHand
 pub mod Taking
 pub mod Moves
+pub mod OwnCommands
+pub mod WholeRuns

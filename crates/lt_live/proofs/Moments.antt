@@ -15,20 +15,21 @@ use Rattle.lt_script.proofs.NameLemmas.{element_at}
 use Rattle.lt_mail.specs.Words.{Alike}
 use Rattle.lt_runner.specs.declared.parts.Parts.{Parts}
 use Rattle.lt_runner.specs.Kept.{AsSeen, RunnerInvariant}
-use Rattle.lt_threads.specs.Meeting.{AreShares, AreScripts, AreKept, RunnersLinked, EachIs, commands_in, command_count}
+use Rattle.lt_threads.specs.Meeting.{AreShares, AreScripts, AreKept, RunnersLinked, EachIs, IsCrew, commands_in, command_count, crew_run}
 use Rattle.lt_threads.proofs.Shares.{counted}
 use Rattle.lt_live.specs.declared.ends.Session.{Session}
 use Rattle.lt_live.specs.declared.ends.Seat.{Seat}
-use Rattle.lt_live.specs.Seats.{replies_in}
-use Rattle.lt_live.specs.Stations.{StationData, runner_of, StaySeated}
+use Rattle.lt_live.specs.Seats.{replies_in, TakesNone}
+use Rattle.lt_live.specs.Stations.{StationData, runner_of, StaySeated, EachSeat}
 use Rattle.lt_live.specs.Words.{submitted, polled, SameSession}
-use Rattle.lt_live.specs.Live.{AreLive, LiveScript, GoesOn, StationGoesOn, EachStation, EachSession, SaysSame, Settled, ServedAt, IsServedNow}
-use Rattle.lt_live.specs.Served.{MakesNoMove, station_seats, StationsMet, HasKeptRunner, HaveKeptRunners, SaysMore, OneGoesOn, ServedGoesOn, MomentsFollow}
-use Rattle.lt_live.proofs.SeatLists.{alike_self, alike_join, alike_after, alike_weaker, alike_len}
+use Rattle.lt_live.specs.Live.{AreLive, LiveScript, GoesOn, StationGoesOn, EachStation, EachSession, SaysSame, Settled, ServedAt, IsServedNow, IsWholeNow, SeatsTakeNone, HaveAllCommands, HaveOwnCommands}
+use Rattle.lt_live.specs.Served.{MakesNoMove, station_seats, StationsMet, HasKeptRunner, HaveKeptRunners}
+use Rattle.lt_live.proofs.SeatLists.{alike_self, alike_join, alike_weaker, alike_len}
 use Rattle.lt_live.proofs.LiveShares.{goes_itself}
-use Rattle.lt_live.proofs.Settling.{live_lasts, says_itself, session_itself, same_sessions}
-use Rattle.lt_live.proofs.Telling.{polled_in_turn}
-use Rattle.lt_live.proofs.Finished.{AllSettled, served_now, few_for_service}
+use Rattle.lt_live.proofs.Settling.{live_lasts, says_itself, session_itself}
+use Rattle.lt_live.proofs.Finished.{AllSettled, served_run, shared_now, few_for_service}
+use Rattle.lt_live.proofs.OwnCommands.{station_none_itself, station_none_join}
+use Rattle.lt_live.proofs.WholeRuns.{AllOwn, all_commands, all_later, run_looked}
 
 -- Stations whose runners looked go on, and make no move.
 
@@ -197,15 +198,37 @@ few_commands script stations later sessions after settled scripts =
     let few = few_for_service script stations later sessions after (map runner_of later) settled refl in
     omega (arith, all, few)
 
-pub all_served : (script : ScriptData) (stations later new : List StationData) (sessions after : List Session) → Settled script stations sessions later after
-    → StationsMet later new → HaveKeptRunners (length new) new → IsServedNow script after
-all_served script stations later new sessions after settled met kept =
+-- stations that met have taken no commands
+none_met : (old new : List StationData) → StationsMet old new → EachStation SeatsTakeNone old new
+none_met old new met =
+    alike_weaker Looked SeatsTakeNone (λ a b h. subst (λ (seats : List Seat). EachSeat TakesNone a.seats seats) (sym h.seats) (station_none_itself a))
+    old new (each_looked old new met)
+
+all_met : (script made : ScriptData) (stations later new : List StationData) (sessions after : List Session) → Settled script stations sessions later after
+    → HaveOwnCommands script (length sessions) stations sessions later → IsCrew made (map runner_of later) → StationsMet later new → HaveAllCommands script new after made
+all_met script made stations later new sessions after settled own crew met =
+    all_later script made stations new sessions after (alike_join SeatsTakeNone station_none_join stations later new own.none (none_met later new met)) settled.each
+    (all_commands script made stations later sessions (subst (λ (rs : List Parts). AreShares script rs) settled.runners settled.live.runners)
+    (subst (λ (rs : List Parts). IsCrew made rs) settled.runners crew) own)
+
+pub all_whole : (script : ScriptData) (stations later new : List StationData) (sessions after : List Session) → Settled script stations sessions later after
+    → HaveOwnCommands script (length sessions) stations sessions later → StationsMet later new → HaveKeptRunners (length new) new → IsWholeNow script new after
+all_whole script stations later new sessions after settled own met kept =
     let rs = map runner_of later in
     let scripts : AreScripts rs = scripts_before rs new met.seen kept in
     let few = few_commands script stations later sessions after settled scripts in
-    served_now script later later after after (map runner_of new)
-    (settled_itself script stations later sessions after (alike_len SaysSame sessions after settled.each) settled)
-    (joined_is_script script rs settled.live.runners scripts few) met.seen met.met (all_kept new kept)
+    let is_script = joined_is_script script rs settled.live.runners scripts few in
+    let made = with_commands script (commands_in rs) in
+    let shared = shared_now script rs (map runner_of new) settled.live.runners is_script met.seen met.met (all_kept new kept) in
+    let itself = settled_itself script stations later sessions after (alike_len SaysSame sessions after settled.each) settled in (
+      made,
+      crew_run made (map runner_of new),
+      record {
+        served = served_run script later later after after rs itself refl made (crew_run made (map runner_of new)) shared;
+        made = run_looked rs (map runner_of new) made (crew_run made (map runner_of new)) met.seen shared;
+        all = all_met script made stations later new sessions after settled own shared.crew met;
+      },
+    )
 
 -- what is known of a moment at which all looked at their rings
 module _ (stations later new : List StationData) (sessions after : List Session) (live : LiveScript stations sessions)
@@ -222,55 +245,10 @@ module _ (stations later new : List StationData) (sessions after : List Session)
   pub live_now : StationsMet later new → (script : ScriptData) → AreLive script stations sessions → AreLive script new after
   live_now met script was = met_live script later new after (settled script was).live met
 
-  pub served_so_far : StationsMet later new → HaveKeptRunners (length new) new → (script : ScriptData) → AreLive script stations sessions → IsServedNow script after
-  served_so_far met kept script was = all_served script stations later new sessions after (settled script was) met kept
+  pub whole_so_far : AllOwn stations sessions later → StationsMet later new → HaveKeptRunners (length new) new → (script : ScriptData) → AreLive script stations sessions
+      → IsWholeNow script new after
+  whole_so_far own met kept script was = all_whole script stations later new sessions after (settled script was) (own script was) met kept
 
--- What holds from one moment to a later one.
-
--- two first parts of one list
-comparable : (xs ys zs : List Command) → IsPrefix xs zs → IsPrefix ys zs → OneGoesOn xs ys
-comparable [] ys zs h k = inl (ys, refl)
-comparable (x ∷ xs) [] zs h k = inr (x ∷ xs, refl)
-comparable (x ∷ xs) (y ∷ ys) [] h k = absurd (none (xs ++ h.0) h.1)
-  where
-    none : (rest : List Command) → x ∷ rest ≢ []
-    none rest e = cc
-comparable (x ∷ xs) (y ∷ ys) (z ∷ zs) h k = longer (comparable xs ys zs (h.0, tails h.1) (k.0, tails k.1))
-  where
-    tails : {a b : Command} {us vs : List Command} → a ∷ us ≡ b ∷ vs → us ≡ vs
-    tails e = cc
-
-    heads : {a b : Command} {us vs : List Command} → a ∷ us ≡ b ∷ vs → a ≡ b
-    heads e = cc
-
-    first : x ≡ y
-    first = heads h.1 ∙ sym (heads k.1)
-
-    longer : OneGoesOn xs ys → OneGoesOn (x ∷ xs) (y ∷ ys)
-    longer (inl on) = inl (on.0, ap (λ (c : Command). c ∷ (xs ++ on.0)) first ∙ ap (λ (list : List Command). y ∷ list) on.1)
-    longer (inr on) = inr (on.0, ap (λ (c : Command). c ∷ (ys ++ on.0)) (sym first) ∙ ap (λ (list : List Command). x ∷ list) on.1)
-
-prefix_join : {X : Type 0} (xs ys zs : List X) → IsPrefix xs ys → IsPrefix ys zs → IsPrefix xs zs
-prefix_join {X = X} xs ys zs h k = (h.0 ++ k.0, sym (append_assoc xs h.0 k.0) ∙ ap (λ (list : List X). list ++ k.0) h.1 ∙ k.1)
-
-more_join : (a b c : Session) → SaysMore a b → SaysMore b c → SaysMore a c
-more_join a b c h k = record {
-  same = same_sessions a b c h.same k.same;
-  submitted = prefix_join (submitted a) (submitted b) (submitted c) h.submitted k.submitted;
-  polled = prefix_join (polled a) (polled b) (polled c) h.polled k.polled;
-}
-
-pub moments_follow : MomentsFollow
-moments_follow one two three h k = alike_join SaysMore more_join one two three h k
-
-pub served_goes_on : ServedGoesOn
-served_goes_on first script sessions after run now more later client s e =
-    let found = alike_after SaysMore sessions after more client s e in
-    let t = found.0 in
-    let says : SaysMore s t = found.2 in
-    let at = later.each client t found.1 in
-    record {
-      commands = comparable (commands_of script client) (submitted s) (submitted t) at.commands says.submitted;
-      replies = prefix_join (polled s) (polled t) (replies_in client (lines_of run)) says.polled at.replies;
-      answers = polled_in_turn first now.0 sessions now.1 now.2 client s e;
-    }
+  pub served_so_far : AllOwn stations sessions later → StationsMet later new → HaveKeptRunners (length new) new → (script : ScriptData) → AreLive script stations sessions
+      → IsServedNow script after
+  served_so_far own met kept script was = let whole = whole_so_far own met kept script was in (whole.0, whole.1, whole.2.served)

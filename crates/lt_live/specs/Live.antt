@@ -16,9 +16,10 @@ use Rattle.lt_runner.specs.Kept.{AsSeen}
 use Rattle.lt_runner.specs.declared.turning.Turned.{Turned}
 use Rattle.lt_threads.specs.Meeting.{AreShares, AreKept, EachIs, IsCrew, crew_run, AreMet, AnyTwo, commands_in}
 use Rattle.lt_live.specs.declared.ends.Session.{Session}
-use Rattle.lt_live.specs.Stations.{StationData, IsSeated, StaySeated, most_share, runner_of, IsOpen, StationTurns}
+use Rattle.lt_live.specs.declared.ends.Seat.{Seat}
+use Rattle.lt_live.specs.Stations.{StationData, IsSeated, StaySeated, most_share, runner_of, IsOpen, StationTurns, EachSeat}
 use Rattle.lt_live.specs.Words.{submitted, polled, SameSession}
-use Rattle.lt_live.specs.Seats.{IsServedSession, reply_to, replies_in}
+use Rattle.lt_live.specs.Seats.{IsServedSession, reply_to, replies_in, HasAllCommands, TakesNone}
 use Rattle.lt_live.specs.declared.reply.Reply.{Reply}
 
 -- the session of this client, whose other end is at the station of the client's node
@@ -60,6 +61,10 @@ EachStation R old new = (q : ℕ) → Alike R (slice_get old q) (slice_get new q
 
 abbrev pub EachSession : (Session → Session → Type 0) → List Session → List Session → Type 0
 EachSession R old new = (client : ℕ) → Alike R (slice_get old client) (slice_get new client)
+
+-- no command was taken at any of its seats
+abbrev pub SeatsTakeNone : StationData → StationData → Type 0
+SeatsTakeNone a b = EachSeat TakesNone a.seats b.seats
 
 -- What the sessions were told, in the run that their stations made.
 
@@ -159,6 +164,50 @@ pub record IsRunOfAll (rs : List Parts) (script : ScriptData) (run : List Logged
   pub rising : AreRising run
   pub is_crew_run : run ≡ crew_run script rs
   pub moves : (k : ℕ) (p : Parts) → slice_get rs k ≡ Some p → filter (is_of_node k) run ≡ p.log.entries
+
+-- the seat is the other end of the session, at the station of this node
+pub record IsOtherEnd (stations : List StationData) (node : ℕ) (s : Session) (seat : Seat) : Type 0 where
+  pub station : StationData
+  pub here : slice_get stations node ≡ Some station
+  pub seat_is : slice_get station.seats s.place ≡ Some seat
+
+-- in the script each client has all commands that its session submitted, but the one in hand and those in the ring
+abbrev pub HaveAllCommands : ScriptData → List StationData → List Session → ScriptData → Type 0
+HaveAllCommands first stations sessions script =
+    (client : ℕ) (s : Session) (seat : Seat) → slice_get sessions client ≡ Some s
+    → IsOtherEnd stations (home first client) s seat → HasAllCommands (commands_of script client) s seat
+
+-- a run in which these sessions were served: the one that these stations have made, with all their moves, of the script
+-- with all commands that they took
+pub record IsWholeRun (first : ScriptData) (stations : List StationData) (sessions : List Session) (script : ScriptData)
+    (run : List Logged) : Type 0 where
+  pub served : IsServedRun first sessions script run
+  pub made : IsRunOfAll (map runner_of stations) script run
+  pub all : HaveAllCommands first stations sessions script
+
+-- there are commands and a run for which it is so
+abbrev pub IsWholeNow : ScriptData → List StationData → List Session → Type 0
+IsWholeNow first stations sessions =
+    (script : ScriptData) × (run : List Logged) × IsWholeRun first stations sessions script run
+
+-- in the script of its own station the client has all that its session submitted but what is in hand and in the ring
+abbrev pub HasOwnCommands : ScriptData → List StationData → List Session → ℕ → Type 0
+HasOwnCommands first stations sessions client =
+    (s : Session) (seat : Seat) → slice_get sessions client ≡ Some s
+    → (at : IsOtherEnd stations (home first client) s seat)
+    → HasAllCommands (commands_of at.station.runner.node.script client) s seat
+
+-- no command was taken at any seat, and so it is of the first n clients
+pub record HaveOwnCommands (first : ScriptData) (n : ℕ) (stations : List StationData) (sessions : List Session)
+    (later : List StationData) : Type 0 where
+  pub none : EachStation SeatsTakeNone stations later
+  pub own : (client : ℕ) → client < n → HasOwnCommands first stations sessions client
+
+-- no command was taken, and so it is of this client
+pub record KeepsOwnCommands (first : ScriptData) (client : ℕ) (stations : List StationData) (sessions : List Session)
+    (later : List StationData) : Type 0 where
+  pub none : EachStation SeatsTakeNone stations later
+  pub own : HasOwnCommands first stations sessions client
 
 -- once these runners have looked at their rings, they have made a run of the script with the commands of all
 abbrev pub SharedNow : Type 0

@@ -218,3 +218,15 @@ pub record IsSettledSeat (list : List Command) (lines : List Event) (client : �
   pub served : IsServedSession list lines client t
   pub all : submitted t ≡ (list ++ command_held seat.hand) ++ known_commands seat
   pub same : submitted t ≡ submitted s
+
+-- the client's list, then the command in hand, are all that was taken of what was submitted; the others are in the ring
+pub record HasAllCommands (list : List Command) (s : Session) (seat : Seat) : Type 0 where
+  pub taken : taken seat ≡ list ++ command_held seat.hand
+  pub in_ring : List Command
+  pub all : submitted s ≡ (list ++ command_held seat.hand) ++ in_ring
+
+-- no command was taken, and that in hand stays there
+pub record TakesNone (a b : Seat) : Type 0 where
+  pub client : b.client ≡ a.client
+  pub taken : taken b ≡ taken a
+  pub hand : b.hand ≡ a.hand

@@ -16,7 +16,7 @@ use Rattle.lt_live.specs.declared.reply.Reply.{Reply}
 use Rattle.lt_live.specs.Words.{submitted, polled, SameSession}
 use Rattle.lt_live.specs.Stations.{StationData, runner_of}
 use Rattle.lt_live.specs.Seats.{replies_in}
-use Rattle.lt_live.specs.Live.{AreLive, EachSession, IsServedRun, IsServedNow, IsReplyTo}
+use Rattle.lt_live.specs.Live.{AreLive, EachSession, IsServedRun, IsServedNow, IsWholeRun, IsWholeNow, IsReplyTo}
 
 -- the station's runner made no move and was given no command; it may know more of the letters in its rings, and some of
 -- its own may have gone into theirs
@@ -26,6 +26,11 @@ MakesNoMove a b = AsSeen a.runner b.runner
 -- where the stations and sessions before were those of a script, there is a run of it in which these were served
 abbrev pub AreServed : List StationData → List Session → List Session → Type 0
 AreServed stations sessions after = (script : ScriptData) → AreLive script stations sessions → IsServedNow script after
+
+-- and it is the one that the stations have made, with all that was submitted but what is in hand and in the rings
+abbrev pub AreWhole : List StationData → List Session → List StationData → List Session → Type 0
+AreWhole stations sessions later after =
+    (script : ScriptData) → AreLive script stations sessions → IsWholeNow script later after
 
 -- and these are those of the script still
 abbrev pub StayLive : List StationData → List Session → List StationData → List Session → Type 0
@@ -111,3 +116,10 @@ ServedGoesOn = (first script : ScriptData) (sessions after : List Session) (run 
 abbrev pub MomentsFollow : Type 0
 MomentsFollow = (one two three : List Session)
     → EachSession SaysMore one two → EachSession SaysMore two three → EachSession SaysMore one three
+
+-- stations have made one such run alone, of one script
+abbrev pub OneWholeRun : Type 0
+OneWholeRun =
+    (first script other : ScriptData) (stations : List StationData) (sessions : List Session) (run moves : List Logged)
+    → IsWholeRun first stations sessions script run → IsWholeRun first stations sessions other moves
+    → (script ≡ other) × (run ≡ moves)

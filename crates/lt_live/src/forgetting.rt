@@ -1,5 +1,6 @@
 // Moves that are forgotten, once all seats have read them, and commands that are.
-ghost use Rattle.std.specs.Prelude.{◌≡◌, ◌<◌, length, OnOk, OnErr};
+ghost use Rattle.std.specs.Prelude.{◌≡◌, ◌<◌, ◌↔◌, length, IsTrue, OnOk, OnErr};
+ghost use Rattle.lt_runner.specs.Kept.{HasAll};
 ghost use Rattle.lt_live.specs.Seats.{HasReadOn};
 ghost use Rattle.lt_live.specs.Stations.{IsStation, EachSeat, SeatAt, HasCursorAt, HaveCursors, HasReadAt, HaveRead, HasForgotten, MayForget, ForgetsCommands};
 ghost use Rattle.lt_live.specs.Live.{StationGoesOn};
@@ -11,6 +12,13 @@ use lt_runner::Runner;
 use std::alloc::{AllocError, Global};
 
 impl Station {
+    /// Whether it has forgotten no moves and no commands.
+    pub fn has_all(&self) -> bool
+        ensures { IsTrue result ↔ HasAll self.now.runner }
+    {
+        self.runner.has_all()
+    }
+
     /// Forgets the moves that were made, and keeps their memory for further ones. Replies that found no place in a ring yet
     /// wait here.
     ///

@@ -1,5 +1,5 @@
 ghost use Rattle.lt_live.specs.Live.{OpenedAreLive, LiveLasts, OneStationLasts, OneSessionLasts, RepliesOfLines, RepliesInLog, PolledInTurn, NoMoreThanSubmitted, SharedNow, ServedNow};
-ghost use Rattle.lt_live.specs.Served.{ServedGoesOn, MomentsFollow};
+ghost use Rattle.lt_live.specs.Served.{ServedGoesOn, MomentsFollow, OneWholeRun};
 ghost use Rattle.lt_live.specs.Moves.{ShowsNow};
 ghost use Rattle.lt_live.specs.InHand.{TurnsKeepKnown, TurnTakesNext, HandMayAsk, HandsCanAppend, LooksLeaveHands, NoneStaysInHand};
 
@@ -54,4 +54,9 @@ pub fn law_served_now()
 pub fn law_served_goes_on()
     ensures on { ServedGoesOn }
     ensures follow { MomentsFollow }
+{}
+
+/// There is one run that holds all moves of the stations and all commands that they took: none can be left out.
+pub fn law_one_run()
+    ensures { OneWholeRun }
 {}

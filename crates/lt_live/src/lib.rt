@@ -27,8 +27,8 @@ mod visiting;
 pub use ends::{Seat, Session};
 pub use finishing::{FinishError, finish, settle_all, take_runners};
 pub use laws::{
-    law_in_hand, law_live_lasts, law_polled_in_turn, law_served_goes_on, law_served_now,
-    law_shows_moves, law_taken, law_told,
+    law_in_hand, law_live_lasts, law_one_run, law_polled_in_turn, law_served_goes_on,
+    law_served_now, law_shows_moves, law_taken, law_told,
 };
 pub use limits::LETTER_PLACES;
 pub use reply::{Reply, reply_to};

@@ -1,6 +1,6 @@
 // What all were served so far.
 ghost use Rattle.lt_live.specs.Live.{LiveScript, EachStation, EachSession, SaysSame};
-ghost use Rattle.lt_live.specs.Served.{AreServed, StayLive, MakesNoMove};
+ghost use Rattle.lt_live.specs.Served.{AreServed, AreWhole, StayLive, MakesNoMove};
 
 use crate::ends::Session;
 use crate::finishing::settle_all;
@@ -14,6 +14,7 @@ use crate::station::Station;
 pub fn served(stations: &mut Vec<Station>, sessions: &mut Vec<Session>)
     requires { LiveScript stations.old.items sessions.old.items }
     ensures served { AreServed stations.old.items sessions.old.items sessions.new.items }
+    ensures whole { AreWhole stations.old.items sessions.old.items stations.new.items sessions.new.items }
     ensures live { StayLive stations.old.items sessions.old.items stations.new.items sessions.new.items }
     ensures stations { EachStation MakesNoMove stations.old.items stations.new.items }
     ensures sessions { EachSession SaysSame sessions.old.items sessions.new.items }

@@ -4,7 +4,7 @@ use Rattle.std.specs.Prelude.{IfOk, IfErr}
 use Rattle.lt_modes.specs.Script.{ScriptData}
 use Rattle.lt_spec.specs.declared.limits.TheConstants.{MAX_COMMANDS, MAX_SETS}
 use Rattle.lt_spec.specs.World.{Logged}
-use Rattle.lt_live.specs.Live.{AreLive, IsServedRun}
+use Rattle.lt_live.specs.Live.{AreLive, IsWholeRun}
 use Rattle.lt_live.specs.declared.finishing.FinishError.{FinishError}
 use Rattle.lt_live.specs.declared.finishing.FinishError.TheVariants as errors
 use Rattle.lt_live_c.specs.declared.code.TheConstants.{WRONG_HANDLE, NO_MEMORY, FORGOTTEN, TOO_MANY}
@@ -13,10 +13,10 @@ use Rattle.lt_live_c.specs.declared.journal.Journal.{Journal}
 use Rattle.lt_live_c.specs.declared.service.Service.{Service}
 use Rattle.lt_live_c.specs.Journals.{TellsOf, IsJournalOfService, SomeForgot, HaveTooMany, FinishRefused}
 
--- a run of the service's script with commands serves its sessions
+-- it is the run that the service's stations have made
 abbrev ServesAll : Service → ScriptData → List Logged → Type 0
 ServesAll s script run =
-    (first : ScriptData) → AreLive first s.stations.items s.sessions.items → IsServedRun first s.sessions.items script run
+    (first : ScriptData) → AreLive first s.stations.items s.sessions.items → IsWholeRun first s.stations.items s.sessions.items script run
 
 -- what is made of the script and the run, and why nothing is
 abbrev pub IsMade : ScriptData → List Logged → Journal → Type 0
@@ -43,7 +43,7 @@ module _ (s : Service) (script : ScriptData) (run : List Logged) where
       → IfErr made (λ error. error ≡ errors.TooMany → HaveTooMany s)
   many_sets (Ok journal) served many = tt
   many_sets (Err error) served many = λ is. inr (λ first live.
-      let same = ap (λ (x : ScriptData). length x.sets) (served first live).same in omega (arith, many.1 is, same))
+      let same = ap (λ (x : ScriptData). length x.sets) (served first live).served.same in omega (arith, many.1 is, same))
 
 -- The codes.
 

@@ -1,6 +1,8 @@
 -- What follows where a service is opened or finished, and of its journal.
-use Rattle.std.proofs.Common.{◌≡◌, ◌≢◌, ◌<◌, ◌≤◌, ◌⊎◌, inl, inr, map, ◌++◌, ◌∷◌, [], ℕ, List, Result, Ok, Err, Option, Some, None, true, refl, sym, ap, subst, codes, count_by, drop, length, take, le-leb, lt-ltb, ◌∙◌}
+use Rattle.std.proofs.Common.{◌≡◌, ◌≢◌, ◌<◌, ◌≤◌, ◌⊎◌, inl, inr, map, ◌++◌, ◌∷◌, [], ℕ, List, Result, Ok, Err, Option, Some, None, true, refl, sym, ap, subst, codes, count_by, drop, length, take, le-leb, lt-ltb, ◌∙◌, filter, slice_get, option_map, append-nil}
+use Rattle.std.proofs.lemmas.Option.{slice_get-map}
 use Rattle.std.proofs.lemmas.Bool.{and_from, false≢true}
+use Rattle.lt_modes.specs.declared.command.Command.{Command}
 use Rattle.lt_modes.specs.declared.command.Command.TheVariants.{Lock}
 use Rattle.lt_modes.specs.declared.mode.Mode.TheVariants.{Write}
 use Rattle.lt_modes.specs.Modes.{conflicts}
@@ -8,7 +10,9 @@ use Rattle.lt_modes.specs.Script.{ScriptData}
 use Rattle.lt_spec.specs.declared.moves.TheConstants.{MAX_MOVES_OF_SERVICE}
 use Rattle.lt_spec.specs.declared.limits.TheConstants.{MAX_COMMANDS}
 use Rattle.lt_spec.specs.Script.{IsScript, IsShort}
-use Rattle.lt_spec.specs.World.{Logged}
+use Rattle.lt_spec.specs.World.{Logged, is_of_node}
+use Rattle.lt_spec.specs.NodeMove.{commands_of, with_commands}
+use Rattle.lt_merge.specs.Merging.{both_merged}
 use Rattle.lt_text.specs.Text as text
 use Rattle.lt_script.specs.declared.fault.Fault.TheVariants as faults
 use Rattle.lt_script.specs.declared.fault.ScriptFault.{ScriptFault}
@@ -16,9 +20,13 @@ use Rattle.lt_script.specs.Printing.{print_of}
 use Rattle.lt_script.specs.Reading.{read_of}
 use Rattle.lt_script.specs.Reading as reading
 use Rattle.lt_journal.specs.RunLines.{closing_lines}
-use Rattle.lt_live.specs.Live.{AreLive, IsServedRun}
-use Rattle.lt_threads.specs.Meeting.{AreTooMany}
-use Rattle.lt_live.specs.Stations.{IsOpen, most_share, runner_of}
+use Rattle.lt_live.specs.Live.{AreLive, IsServedRun, IsWholeRun}
+use Rattle.lt_threads.specs.Meeting.{AreTooMany, commands_in, crew_run}
+use Rattle.lt_live.specs.Stations.{StationData, IsOpen, most_share, runner_of}
+use Rattle.lt_live.specs.Seats.{HasAllCommands}
+use Rattle.lt_live.specs.Words.{submitted, taken, command_held}
+use Rattle.lt_live.specs.declared.ends.Session.{Session}
+use Rattle.lt_live.specs.declared.ends.Seat.{Seat}
 use Rattle.lt_live_c.specs.declared.content.Content.{Content}
 use Rattle.lt_live_c.specs.declared.content.Content.TheVariants as contents
 use Rattle.lt_live_c.specs.declared.journal.Journal.{Journal}
@@ -26,7 +34,7 @@ use Rattle.lt_live_c.specs.declared.service.Service.{Service}
 use Rattle.lt_live_c.specs.Opening.{HandleOpened, IsOpenedFrom, OpenRefused, fits_for_c}
 use Rattle.lt_live_c.specs.Journals.{HandleFinishes, HandleNotFinished, TellsOf, CopiesFrom, says_held, says_waiting, text_of_content, script_at}
 use Rattle.lt_live_c.specs.Told.{kind_of}
-use Rattle.lt_live_c.specs.ServicesTold.{OfService, client_text, client_script, OpensTold, OfJournal, three_writers, one_holds, AfterEnd, FinishesTold, IsCopied, CopiesTold}
+use Rattle.lt_live_c.specs.ServicesTold.{OfService, client_text, client_script, OpensTold, OfJournal, three_writers, one_holds, AfterEnd, AfterFinish, FinishesTold, IsCopied, CopiesTold}
 
 -- What is opened.
 
@@ -101,41 +109,25 @@ opens_told = record {
 
 -- What is finished.
 
-finished : (first : ScriptData) (s : Service) (new : Option Content) → AreLive first s.stations.items s.sessions.items
-    → HandleFinishes (Some (contents.Service s)) new
-    → OfJournal new (λ journal. (script : ScriptData) × (run : List Logged)
-    × IsServedRun first s.sessions.items script run × TellsOf script run journal)
-finished first s None live h = absurd h
-finished first s (Some (contents.Service other)) live h = absurd h
-finished first s (Some (contents.Station other)) live h = absurd h
-finished first s (Some (contents.Session other)) live h = absurd h
-finished first s (Some (contents.Journal journal)) live h =
-    let made = h first live in (made.0, made.1, made.2, made.4)
+-- what follows of the run that was made
+finished : (first : ScriptData) (Told : Service → ScriptData → List Logged → Type 0)
+    → ((s : Service) (script : ScriptData) (run : List Logged) → AreLive first s.stations.items s.sessions.items
+    → IsWholeRun first s.stations.items s.sessions.items script run → Told s script run) → AfterFinish first Told
+finished first Told told s None live h = absurd h
+finished first Told told s (Some (contents.Service other)) live h = absurd h
+finished first Told told s (Some (contents.Station other)) live h = absurd h
+finished first Told told s (Some (contents.Session other)) live h = absurd h
+finished first Told told s (Some (contents.Journal journal)) live h =
+    let made = h first live in (made.0, made.1, told s made.0 made.1 live made.2, made.4)
 
--- the text of a short script can be read
-abbrev pub Prints : Type 0
-Prints = (s : ScriptData) → IsScript s → IsShort s → read_of (print_of s) ≡ Ok s
+moves_so : (first : ScriptData) (s : Service) (script : ScriptData) (run : List Logged) → IsWholeRun first s.stations.items s.sessions.items script run
+    → (node : ℕ) (x : StationData) → slice_get s.stations.items node ≡ Some x → filter (is_of_node node) run ≡ x.runner.log.entries
+moves_so first s script run whole node x here =
+    whole.made.moves node x.runner (slice_get-map runner_of s.stations.items node ∙ ap (option_map runner_of) here)
 
-read_again : Prints → (first : ScriptData) (s : Service) (new : Option Content) → AreLive first s.stations.items s.sessions.items
-    → HandleFinishes (Some (contents.Service s)) new
-    → OfJournal new (λ journal. (script : ScriptData) × (read_of journal.script.items ≡ Ok script))
-read_again prints first s None live h = absurd h
-read_again prints first s (Some (contents.Service other)) live h = absurd h
-read_again prints first s (Some (contents.Station other)) live h = absurd h
-read_again prints first s (Some (contents.Session other)) live h = absurd h
-read_again prints first s (Some (contents.Journal journal)) live h =
-    let made = h first live in
-    (made.0, ap read_of made.4.script_is ∙ prints made.0 made.2.is_script made.3)
-
-never_finished : (content : Content) (new : Option Content) → kind_of content ≢ 0
-    → HandleFinishes (Some content) new → ⊥
-never_finished (contents.Service s) new other h = other refl
-never_finished (contents.Station x) None other h = h
-never_finished (contents.Station x) (Some b) other h = h
-never_finished (contents.Session s) None other h = h
-never_finished (contents.Session s) (Some b) other h = h
-never_finished (contents.Journal journal) None other h = h
-never_finished (contents.Journal journal) (Some b) other h = h
+commands_so : (list : List Command) (t : Session) (seat : Seat) → HasAllCommands list t seat → seat.hand ≡ None → taken seat ≡ submitted t → list ≡ submitted t
+commands_so list t seat h none all =
+    sym (append-nil list) ∙ sym (ap (λ (hand : Option Command). list ++ command_held hand) none) ∙ sym h.taken ∙ all
 
 one_held : count_by says_held (closing_lines three_writers one_holds None) ≡ 1
 unfolding conflicts
@@ -150,6 +142,59 @@ held_so journal h = h.held ∙ one_held
 
 waiting_so : (journal : Journal) → TellsOf three_writers one_holds journal → journal.waiting ≡ 2
 waiting_so journal h = h.waiting ∙ two_wait
+
+-- the script and the run of a service with one station
+script_so : (x : StationData) (script : ScriptData) → x.runner.node.script ≡ three_writers → script ≡ with_commands three_writers script.commands
+    → script.commands ≡ commands_in (map runner_of (x ∷ [])) → script ≡ three_writers
+script_so x script own same commands =
+    same ∙ ap (λ (list : List (ℕ × Command)). with_commands three_writers list) (commands ∙ ap (λ (one : ScriptData). one.commands ++ []) own)
+
+run_so : (x : StationData) (run : List Logged) → x.runner.log.entries ≡ one_holds → run ≡ crew_run three_writers (map runner_of (x ∷ [])) → run ≡ one_holds
+run_so x run log made = made ∙ ap (λ (entries : List Logged). both_merged entries []) log
+
+counted_so : (x : StationData) (s : Service) (new : Option Content) → s.stations.items ≡ x ∷ []
+    → x.runner.node.script ≡ three_writers → x.runner.log.entries ≡ one_holds
+    → AreLive (record three_writers { commands = [] }) s.stations.items s.sessions.items
+    → HandleFinishes (Some (contents.Service s)) new
+    → OfJournal new (λ journal. (journal.held ≡ 1) × (journal.waiting ≡ 2))
+counted_so x s None is own log live h = absurd h
+counted_so x s (Some (contents.Service other)) is own log live h = absurd h
+counted_so x s (Some (contents.Station other)) is own log live h = absurd h
+counted_so x s (Some (contents.Session other)) is own log live h = absurd h
+counted_so x s (Some (contents.Journal journal)) is own log live h =
+    let made = h (record three_writers { commands = [] }) live in
+    let whole : IsWholeRun (record three_writers { commands = [] }) (x ∷ []) s.sessions.items made.0 made.1 =
+    subst (λ (stations : List StationData). IsWholeRun (record three_writers { commands = [] }) stations s.sessions.items made.0 made.1) is made.2 in
+    let script = script_so x made.0 own whole.served.same whole.made.commands in
+    let run = run_so x made.1 log (whole.made.is_crew_run ∙ ap (λ (one : ScriptData). crew_run one (map runner_of (x ∷ []))) script) in
+    let tells : TellsOf three_writers one_holds journal =
+    subst (λ (one : ScriptData). TellsOf one one_holds journal) script (subst (λ (moves : List Logged). TellsOf made.0 moves journal) run made.4) in
+    (held_so journal tells, waiting_so journal tells)
+
+-- the text of a short script can be read
+abbrev pub Prints : Type 0
+Prints = (s : ScriptData) → IsScript s → IsShort s → read_of (print_of s) ≡ Ok s
+
+read_again : Prints → (first : ScriptData) (s : Service) (new : Option Content) → AreLive first s.stations.items s.sessions.items
+    → HandleFinishes (Some (contents.Service s)) new
+    → OfJournal new (λ journal. (script : ScriptData) × (read_of journal.script.items ≡ Ok script))
+read_again prints first s None live h = absurd h
+read_again prints first s (Some (contents.Service other)) live h = absurd h
+read_again prints first s (Some (contents.Station other)) live h = absurd h
+read_again prints first s (Some (contents.Session other)) live h = absurd h
+read_again prints first s (Some (contents.Journal journal)) live h =
+    let made = h first live in
+    (made.0, ap read_of made.4.script_is ∙ prints made.0 made.2.served.is_script made.3)
+
+never_finished : (content : Content) (new : Option Content) → kind_of content ≢ 0
+    → HandleFinishes (Some content) new → ⊥
+never_finished (contents.Service s) new other h = other refl
+never_finished (contents.Station x) None other h = h
+never_finished (contents.Station x) (Some b) other h = h
+never_finished (contents.Session s) None other h = h
+never_finished (contents.Session s) (Some b) other h = h
+never_finished (contents.Journal journal) None other h = h
+never_finished (contents.Journal journal) (Some b) other h = h
 
 no_end : (content : Content) → kind_of content ≢ 3
     → AfterEnd content (λ code was held waited waiting. (code ≡ 2) × (held ≡ was) × (waiting ≡ waited))
@@ -176,7 +221,11 @@ many_so first s live h = elim (h.many refl) [ inl commands ↦ inl commands | in
 
 pub finishes_told : Prints → FinishesTold
 finishes_told prints = record {
-  served = finished;
+  served = λ first. finished first (λ s script run. IsServedRun first s.sessions.items script run) (λ s script run live whole. whole.served);
+  moves = λ first. finished first _ (λ s script run live whole. moves_so first s script run whole);
+  commands = λ first. finished first _ (λ s script run live whole client t seat here end.
+      commands_so (commands_of script client) t seat (whole.all client t seat here end));
+  counted = counted_so;
   read_back = read_again prints;
   never_finished = never_finished;
   script = λ script run journal h. h.script_is;

@@ -8,7 +8,7 @@ use Rattle.lt_script.specs.Printing.{print_of}
 use Rattle.lt_journal.specs.declared.line.Line.{Line}
 use Rattle.lt_journal.specs.declared.line.Line.TheVariants.{Held, Waiting}
 use Rattle.lt_journal.specs.RunLines.{closing_lines, text_of}
-use Rattle.lt_live.specs.Live.{AreLive, IsServedRun}
+use Rattle.lt_live.specs.Live.{AreLive, IsWholeRun}
 use Rattle.lt_threads.specs.Meeting.{HaveAll, AreTooMany}
 use Rattle.lt_live.specs.Stations.{runner_of}
 use Rattle.lt_live_c.specs.declared.code.TheConstants.{OK, WRONG_HANDLE, NO_MEMORY, FORGOTTEN, TOO_MANY}
@@ -35,12 +35,12 @@ pub record TellsOf (script : ScriptData) (run : List Logged) (journal : Journal)
   pub held : journal.held ≡ count_by says_held (closing_lines script run None)
   pub waiting : journal.waiting ≡ count_by says_waiting (closing_lines script run None)
 
--- it tells of a run by the rules, in which each client's commands are a first part of those that its session submitted, and
--- what the session polled is a first part of its replies; the text of its script can be read
+-- it tells of the run that the service's stations have made, with all their moves, and all commands that were submitted
+-- but those in hand and in the rings; the text of its script can be read
 abbrev pub IsJournalOfService : Service → Journal → Type 0
 IsJournalOfService s journal = (first : ScriptData) → AreLive first s.stations.items s.sessions.items
-    → (script : ScriptData) × (run : List Logged) × IsServedRun first s.sessions.items script run × IsShort script
-    × TellsOf script run journal
+    → (script : ScriptData) × (run : List Logged) × IsWholeRun first s.stations.items s.sessions.items script run
+    × IsShort script × TellsOf script run journal
 
 abbrev pub JournalIsOf : Content → Content → Type 0
 JournalIsOf (contents.Service s) (contents.Journal journal) = IsJournalOfService s journal

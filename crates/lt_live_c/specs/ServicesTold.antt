@@ -1,22 +1,24 @@
 -- What C is told of services and journals, in literals: what was taken, given, opened, finished and served, or why
 -- nothing was.
-use Rattle.std.specs.Prelude.{◌≡◌, ◌≢◌, ◌<◌, ◌≤◌, ◌⊎◌, ◌+◌, ◌∷◌, [], ℕ, List, Ok, Option, Some, None, codes, length, map}
+use Rattle.std.specs.Prelude.{◌≡◌, ◌≢◌, ◌<◌, ◌≤◌, ◌⊎◌, ◌+◌, ◌∷◌, [], ℕ, List, Ok, Option, Some, None, codes, filter, length, map, slice_get}
 use Rattle.lt_modes.specs.declared.command.Command.TheVariants.{Lock}
 use Rattle.lt_modes.specs.declared.event.Event.TheVariants.{Grant, Wait}
 use Rattle.lt_modes.specs.declared.mode.Mode.TheVariants.{Write}
 use Rattle.lt_modes.specs.declared.moves.Step.TheVariants.{Act}
 use Rattle.lt_modes.specs.declared.event.Event.{Event}
 use Rattle.lt_modes.specs.Script.{ScriptData}
-use Rattle.lt_spec.specs.World.{Logged}
+use Rattle.lt_spec.specs.NodeMove.{commands_of, home}
+use Rattle.lt_spec.specs.World.{Logged, is_of_node}
 use Rattle.lt_script.specs.Printing.{print_of}
 use Rattle.lt_script.specs.Reading.{read_of}
 use Rattle.lt_journal.specs.RunLines.{text_of}
 use Rattle.lt_live.specs.declared.ends.Session.{Session}
-use Rattle.lt_live.specs.Live.{AreLive, IsServedRun, IsServedNow, LiveScript, EachStation, EachSession, SaysSame}
+use Rattle.lt_live.specs.declared.ends.Seat.{Seat}
+use Rattle.lt_live.specs.Live.{AreLive, IsServedRun, IsServedNow, LiveScript, EachStation, EachSession, SaysSame, IsOtherEnd}
 use Rattle.lt_live.specs.Served.{MakesNoMove}
 use Rattle.lt_threads.specs.Meeting.{HaveAll, AreTooMany}
 use Rattle.lt_live.specs.Stations.{StationData, IsOpen, runner_of}
-use Rattle.lt_live.specs.Words.{submitted, polled}
+use Rattle.lt_live.specs.Words.{submitted, polled, taken}
 use Rattle.lt_live_c.specs.declared.content.Content.{Content}
 use Rattle.lt_live_c.specs.declared.content.Content.TheVariants as contents
 use Rattle.lt_live_c.specs.declared.journal.Journal.{Journal}
@@ -167,12 +169,29 @@ AfterEnd content Told =
     (code was held waited waiting : ℕ) → HandleTellsEnd (Some content) code was held waited waiting
     → Told code was held waited waiting
 
--- the journal tells of a run that serves the sessions; and why there is none
+-- what the journal tells of a service of this script that was finished
+abbrev pub AfterFinish : ScriptData → (Service → ScriptData → List Logged → Type 0) → Type 0
+AfterFinish first Told = (s : Service) (new : Option Content) → AreLive first s.stations.items s.sessions.items
+    → HandleFinishes (Some (contents.Service s)) new
+    → OfJournal new (λ journal.
+    (script : ScriptData) × (run : List Logged) × Told s script run × TellsOf script run journal)
+
+-- the journal tells of a run that serves the sessions, and of all that was made; and why there is none
 pub record FinishesTold : Type 0 where
-  pub served : (first : ScriptData) (s : Service) (new : Option Content)
-      → AreLive first s.stations.items s.sessions.items → HandleFinishes (Some (contents.Service s)) new
-      → OfJournal new (λ journal. (script : ScriptData) × (run : List Logged)
-      × IsServedRun first s.sessions.items script run × TellsOf script run journal)
+  pub served : (first : ScriptData) → AfterFinish first (λ s script run. IsServedRun first s.sessions.items script run)
+  -- each station's moves, whether a reply to them was polled or not
+  pub moves : (first : ScriptData) → AfterFinish first (λ s script run. (node : ℕ) (x : StationData)
+      → slice_get s.stations.items node ≡ Some x → filter (is_of_node node) run ≡ x.runner.log.entries)
+  -- all that was submitted, where nothing is in hand and all was taken
+  pub commands : (first : ScriptData) → AfterFinish first (λ s script run. (client : ℕ) (t : Session) (seat : Seat)
+      → slice_get s.sessions.items client ≡ Some t → IsOtherEnd s.stations.items (home first client) t seat
+      → seat.hand ≡ None → taken seat ≡ submitted t → commands_of script client ≡ submitted t)
+  -- and what its only station made one hold, and two wait for
+  pub counted : (x : StationData) (s : Service) (new : Option Content) → s.stations.items ≡ x ∷ []
+      → x.runner.node.script ≡ three_writers → x.runner.log.entries ≡ one_holds
+      → AreLive (record three_writers { commands = [] }) s.stations.items s.sessions.items
+      → HandleFinishes (Some (contents.Service s)) new
+      → OfJournal new (λ journal. (journal.held ≡ 1) × (journal.waiting ≡ 2))
   pub read_back : (first : ScriptData) (s : Service) (new : Option Content)
       → AreLive first s.stations.items s.sessions.items → HandleFinishes (Some (contents.Service s)) new
       → OfJournal new (λ journal. (script : ScriptData) × (read_of journal.script.items ≡ Ok script))
