@@ -1,4 +1,4 @@
-ghost use Rattle.std.specs.Prelude.{◌≡◌, ◌<◌, ◌≤◌, [], true, not, length, take, remove, slice_index_or, IfOk, OnOk, OnErr};
+ghost use Rattle.std.specs.Prelude.{◌≡◌, ◌<◌, ◌≤◌, ◌^◌, [], ◌∷◌, ◌++◌, true, not, length, take, remove, slice_index_or, IfOk, OnOk, OnErr};
 ghost use Rattle.lt_modes.specs.Modes.{has, bars};
 ghost use Rattle.lt_modes.specs.State.{place, after_holders_from, entered, modes_of_asks, no_ask};
 ghost use Rattle.lt_modes.specs.Freezing.{frozen_by};
@@ -155,6 +155,41 @@ impl Queue {
         } else {
             self.after_holders
         }
+    }
+
+    /// Puts an ask at the end.
+    pub fn push(&mut self, ask: Ask)
+        requires { length self.old.asks < self.old.room }
+        ensures { self.new ≡ record self.old { asks = self.old.asks ++ ask ∷ [] } }
+    {
+        self.after_holders = self.after_holders_pushed(&ask);
+        self.asks.push_reserved(ask);
+        self.asked = self.asked.shifted(ModeSet::empty(), ModeSet::one(ask.mode));
+    }
+
+    // The place after the last holder's ask, once this ask is the last one.
+    fn after_holders_pushed(&self, ask: &Ask) -> u32
+        requires { length self.now.asks < self.now.room }
+        ensures { result ≡ after_holders_from 0 0 (self.now.asks ++ ask.now ∷ []) }
+    {
+        if ask.holder {
+            self.len() + 1
+        } else {
+            self.after_holders
+        }
+    }
+
+    /// The queue with these asks, in this order.
+    pub fn from_asks(alloc: Global, asks: &[Ask]) -> Result<Queue, AllocError>
+        requires { length asks.now < 2 ^ 32 }
+        ensures { IfOk result (λ queue. queue.asks ≡ asks.now) }
+    {
+        let mut queue = Queue::new(alloc, 0)?;
+        queue.reserve(asks.len() as u32)?;
+        for ask in asks {
+            queue.push(*ask);
+        }
+        Ok(queue)
     }
 
     /// The number of asks for the mode.

@@ -8,6 +8,7 @@ mod pending;
 mod table;
 mod unanswered;
 
+pub use entry::Entry;
 pub use pending::Pending;
 pub use table::Table;
 pub use unanswered::Unanswered;

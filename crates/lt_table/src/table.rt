@@ -152,6 +152,30 @@ impl Table {
         newer
     }
 
+    /// What is known of each node, by its number.
+    pub fn entries(&self) -> &[Entry]
+        ensures { map entry_seen result.now ≡ self.now.entries }
+    {
+        &self.entries
+    }
+
+    /// From now on this is known of the node.
+    pub fn set(&mut self, node: u8, entry: Entry)
+        ensures { self.new.entries ≡ put_by node (λ known. entry_seen entry) self.old.entries }
+    {
+        let x = usize::from(node);
+        if x < self.entries.len() {
+            let place = &mut self.entries[x];
+            let before = place.record();
+            *place = entry;
+            let after = place.record();
+            self.told = None;
+            self.counts = self.counts.shifted(before, after);
+            self.recorded = marked(self.recorded, node, !after.is_empty());
+            self.spare = 0;
+        }
+    }
+
     /// The node owes word of a copy for the ask with this stamp and mode.
     pub fn owe(&mut self, node: u8, stamp: Stamp, mode: Mode)
         requires { 0 < self.old.spare }
