@@ -73,7 +73,8 @@ impl Play {
         self.nest.waiting(x)
     }
 
-    /// Does what is ordered, and writes the answer and the grants that come of it.
+    /// Does what is ordered, and writes the answer and the grants that come of it. If memory runs out, it may have been
+    /// done, and a part of the lines may have been written.
     pub fn follow(
         &mut self,
         input: &Input,

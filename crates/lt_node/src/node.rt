@@ -97,8 +97,8 @@ impl Node {
         Node::begin(alloc, script, node, homes, clients)
     }
 
-    /// The node at the start of the script. It takes the commands of its clients, and leaves those of later nodes, also if
-    /// memory runs out; its own clients' may then be lost.
+    /// The node at the start of the script. It takes the commands of its clients, and leaves those of later nodes, also
+    /// if memory runs out; its own clients' may then be lost.
     pub fn with_commands(
         alloc: Global,
         script: &Script,

@@ -1,4 +1,4 @@
-ghost use Rattle.std.specs.Prelude.{◌≡◌, ◌<◌, ◌||◌, ◌++◌, ℕ, false, IfSome, IsFalse, OnOk, length, map};
+ghost use Rattle.std.specs.Prelude.{◌≡◌, ◌<◌, ◌||◌, ◌++◌, ℕ, false, IfSome, IsFalse, OnOk, OnErr, length, map};
 ghost use Rattle.lt_modes.specs.Modes.{count_of};
 ghost use Rattle.lt_modes.specs.Waiting.{pending_ask, stands_before, parked_behind};
 ghost use Rattle.lt_spec.specs.Facts.{state_at};
@@ -27,13 +27,15 @@ impl World {
     /// Adds a mark for each client, in order: whether the client waits for it.
     pub fn push_waits(&self, marks: &mut Vec<bool>, client: u16) -> Result<(), AllocError>
         requires { client < length self.now.script.clients }
-        ensures { OnOk result (marks.new.items ≡ marks.old.items
+        ensures marks { OnOk result (marks.new.items ≡ marks.old.items
             ++ map (waits_for self.now.script (world_of self.now) client) (numbers_below (length self.now.script.clients))) }
+        ensures unchanged { OnErr result (marks.new.items ≡ marks.old.items) }
     {
         let ask = self.ask_of(client);
         let behind = self.behind(*marks.allocator(), &ask)?;
+        marks.reserve(usize::from(self.script.clients()))?;
         for other in 0..self.script.clients() {
-            marks.push(self.waits_by_marks(client, other, &ask, &behind))?;
+            marks.push_reserved(self.waits_by_marks(client, other, &ask, &behind));
         }
         Ok(())
     }

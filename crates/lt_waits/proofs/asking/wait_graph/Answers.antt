@@ -11,7 +11,7 @@ loop-client-preserved c =
     let n = length c.args.script.now.clients in
     let world = c.args.world.now in
     let graph = waits_for c.args.script.now (world_of world) in
-    c.in_ok-push_waits.ensures
+    c.in_ok-push_waits.ensures.marks
     ∙ ap (λ (s : ScriptData). c.loop-client.pairs.items ++ map (waits_for s (world_of world) c.loop-client.client) (numbers_below (length s.clients))) c.requires
     ∙ ap (λ (l : List Bool). l ++ map (graph c.loop-client.client) (numbers_below n)) c.loop-client.invariant
     ∙ sym (marks_push n graph c.loop-client.client)

@@ -1,4 +1,4 @@
-use Rattle.std.proofs.Common.{rules, ◌≡◌, ◌∙◌, List, ◌++◌, ◌∷◌, [], Bool, ap, append_assoc, arith, map, sym}
+use Rattle.std.proofs.Common.{◌≡◌, ◌∙◌, List, ◌++◌, ◌∷◌, [], Bool, ap, append_assoc, arith, map, sym}
 use Rattle.std.proofs.lemmas.List.FromFn.{map-range_with_len_more}
 use Rattle.lt_spec.specs.Holdings.{waits_for}
 use Rattle.lt_spec.specs.Rings.{numbers_below}
@@ -11,10 +11,11 @@ loop-other-preserved c =
     let old = c.args.marks.now.items in
     let k = c.loop-other.other in
     let row = waits_for w.script (world_of w) c.args.client in
-    let mark : c.waits_by_marks.result ≡ row k = c.waits_by_marks.ensures ∙ sym (c.ask_of-ask.ensures.waits k) in
-    let pushed : c.push.new.self.items ≡ c.loop-other.marks.items ++ c.waits_by_marks.result ∷ [] = search rules in
-    pushed
-    ∙ ap (λ (b : Bool). c.loop-other.marks.items ++ b ∷ []) mark
-    ∙ ap (λ (l : List Bool). l ++ row k ∷ []) c.loop-other.invariant
-    ∙ append_assoc old (map row (numbers_below k)) (row k ∷ [])
-    ∙ ap (λ (l : List Bool). old ++ l) (sym (map-range_with_len_more row 0 k k (omega arith)))
+    let mark : c.waits_by_marks.result ≡ row k = c.waits_by_marks.ensures ∙ sym (c.ask_of-ask.ensures.waits k) in (
+      c.push_reserved.ensures.items
+          ∙ ap (λ (b : Bool). c.loop-other.marks.items ++ b ∷ []) mark
+          ∙ ap (λ (l : List Bool). l ++ row k ∷ []) c.loop-other.invariant.0
+          ∙ append_assoc old (map row (numbers_below k)) (row k ∷ [])
+          ∙ ap (λ (l : List Bool). old ++ l) (sym (map-range_with_len_more row 0 k k (omega arith))),
+      omega (arith, c.loop-other.invariant.1, c.push_reserved.ensures.len, c.push_reserved.ensures.capacity),
+    )
