@@ -1,14 +1,12 @@
 -- At a moment at which all are in one thread there is a run in which all were served.
-use Rattle.std.proofs.Common.{◌≡◌, ◌≢◌, ◌<◌, ◌≤◌, ℕ, suc, List, [], ◌∷◌, ◌++◌, map, length, Option, Some, None, refl, sym, ap, subst, arith, ◌∙◌, inl, inr, slice_get, option_map, append_assoc}
+use Rattle.std.proofs.Common.{◌≡◌, ◌<◌, ◌≤◌, ℕ, suc, List, [], ◌∷◌, map, length, Option, Some, None, refl, sym, ap, subst, arith, ◌∙◌, slice_get, option_map}
 use Rattle.std.specs.List.{AllByRecursion}
 use Rattle.std.proofs.lemmas.List.Elements.{recursion_from_All, All-from_recursion}
 use Rattle.std.proofs.lemmas.Option.{slice_get-map, slice_get_within}
-use mathlib.Core.List.{IsPrefix}
 use Rattle.lt_modes.specs.declared.command.Command.{Command}
 use Rattle.lt_modes.specs.Script.{ScriptData}
 use Rattle.lt_lists.proofs.AllLemmas.{all_append, all_weaker}
-use Rattle.lt_spec.specs.NodeMove.{with_commands, AreAt, commands_of}
-use Rattle.lt_spec.specs.Holdings.{lines_of}
+use Rattle.lt_spec.specs.NodeMove.{with_commands, AreAt}
 use Rattle.lt_spec.specs.Script.{IsScript, IsRequest, HasModesOf}
 use Rattle.lt_spec.specs.declared.limits.TheConstants.{MAX_COMMANDS_OF_SERVICE}
 use Rattle.lt_script.proofs.NameLemmas.{element_at}
@@ -19,9 +17,9 @@ use Rattle.lt_threads.specs.Meeting.{AreShares, AreScripts, AreKept, RunnersLink
 use Rattle.lt_threads.proofs.Shares.{counted}
 use Rattle.lt_live.specs.declared.ends.Session.{Session}
 use Rattle.lt_live.specs.declared.ends.Seat.{Seat}
-use Rattle.lt_live.specs.Seats.{replies_in, TakesNone}
+use Rattle.lt_live.specs.Seats.{TakesNone}
 use Rattle.lt_live.specs.Stations.{StationData, runner_of, StaySeated, EachSeat}
-use Rattle.lt_live.specs.Words.{submitted, polled, SameSession}
+use Rattle.lt_live.specs.Words.{SameSession}
 use Rattle.lt_live.specs.Live.{AreLive, LiveScript, GoesOn, StationGoesOn, EachStation, EachSession, SaysSame, Settled, ServedAt, IsServedNow, IsWholeNow, SeatsTakeNone, HaveAllCommands, HaveOwnCommands}
 use Rattle.lt_live.specs.Served.{MakesNoMove, station_seats, StationsMet, HasKeptRunner, HaveKeptRunners}
 use Rattle.lt_live.proofs.SeatLists.{alike_self, alike_join, alike_weaker, alike_len}

@@ -1,7 +1,7 @@
 -- What was taken at the seats of sessions, before and after they look at their rings.
-use Rattle.std.proofs.Common.{◌≡◌, ◌<◌, ◌≤◌, ℕ, ◌+◌, List, ◌++◌, map, length, Option, Some, None, refl, sym, ap, subst, arith, ◌∙◌, inl, inr, slice_get, slice_set, option_map}
+use Rattle.std.proofs.Common.{◌≡◌, ◌≤◌, ℕ, ◌+◌, List, ◌++◌, map, length, Option, Some, refl, sym, ap, subst, arith, ◌∙◌, inl, inr, slice_get, slice_set, option_map}
 use Rattle.std.proofs.lemmas.Bool.{cases_eq}
-use Rattle.std.proofs.lemmas.Option.{same_Some, slice_get-map, slice_get_within}
+use Rattle.std.proofs.lemmas.Option.{same_Some, slice_get-map}
 use Rattle.lt_modes.specs.declared.command.Command.{Command}
 use Rattle.lt_modes.specs.Script.{ScriptData}
 use Rattle.lt_spec.specs.NodeMove.{commands_of, home}
@@ -13,8 +13,8 @@ use Rattle.lt_live.specs.declared.ends.Seat.{Seat}
 use Rattle.lt_live.specs.Words.{submitted, taken, known_commands, command_held}
 use Rattle.lt_live.specs.Seats.{HasAllCommands, TakesNone}
 use Rattle.lt_live.specs.Stations.{StationData, IsStation, EachSeat, SeatLooks, runner_of}
-use Rattle.lt_live.specs.Live.{AreLive, EachStation, EachSession, SaysSame, SeatsTakeNone, Settling, IsOtherEnd, HasOwnCommands, HaveOwnCommands, KeepsOwnCommands}
-use Rattle.lt_live.proofs.SeatLists.{alike_self, alike_set, alike_join, alike_after, alike_before, each_after}
+use Rattle.lt_live.specs.Live.{AreLive, EachStation, EachSession, SaysSame, SeatsTakeNone, Settling, HasOwnCommands, HaveOwnCommands, KeepsOwnCommands}
+use Rattle.lt_live.proofs.SeatLists.{alike_self, alike_set, alike_join, alike_after, each_after}
 
 -- No command was taken.
 

@@ -1,26 +1,23 @@
 -- The run is the one that the stations made, with all that was submitted but what is in hand and in the rings.
-use Rattle.std.proofs.Common.{◌≡◌, ◌<◌, ◌≤◌, ℕ, ◌+◌, List, [], ◌∷◌, ◌++◌, map, length, Option, Some, None, refl, sym, ap, subst, arith, ◌∙◌, slice_get, option_map, get_or, suc}
+use Rattle.std.proofs.Common.{◌≡◌, ◌<◌, ◌≤◌, ℕ, ◌+◌, List, [], ◌∷◌, ◌++◌, map, length, Some, refl, sym, ap, subst, arith, ◌∙◌, slice_get, option_map, get_or, suc}
 use Rattle.std.proofs.lemmas.List.{get_or-map, length-map}
 use Rattle.std.proofs.lemmas.Option.{slice_get-map, slice_get_within}
 use Rattle.lt_modes.specs.declared.command.Command.{Command}
 use Rattle.lt_modes.specs.Script.{ScriptData}
 use Rattle.lt_spec.specs.NodeMove.{commands_of, home, with_commands}
-use Rattle.lt_spec.specs.Script.{IsScript}
 use Rattle.lt_spec.specs.World.{Logged}
-use Rattle.lt_mail.specs.Words.{Alike}
 use Rattle.lt_runner.specs.declared.parts.Parts.{Parts}
 use Rattle.lt_runner.specs.Kept.{SameRunner, AsSeen, HasAll}
-use Rattle.lt_threads.specs.Meeting.{AreShares, IsCrew, IsSharedRun, HaveAll, EachIs, AreMet, AnyTwo, AreKept, commands_in, crew_run}
+use Rattle.lt_threads.specs.Meeting.{AreShares, IsCrew, IsSharedRun, HaveAll, EachIs, commands_in, crew_run}
 use Rattle.lt_threads.proofs.Each.{each_weaker}
 use Rattle.lt_threads.proofs.Logs.{crew_last, SameLog, same_run}
 use Rattle.lt_threads.proofs.Whole.{HaveAllTo, next_has, one_has, all_have}
 use Rattle.lt_live.specs.declared.ends.Session.{Session}
-use Rattle.lt_live.specs.declared.ends.Seat.{Seat}
 use Rattle.lt_live.specs.Seats.{HasAllCommands, TakesNone}
 use Rattle.lt_live.specs.Stations.{StationData, runner_of}
-use Rattle.lt_live.specs.Live.{AreLive, LiveScript, EachStation, EachSession, SaysSame, SeatsTakeNone, Settled, IsServedRun, IsRunOfAll, IsWholeRun, IsWholeNow, IsOtherEnd, HaveAllCommands, HaveOwnCommands}
+use Rattle.lt_live.specs.Live.{AreLive, LiveScript, EachStation, EachSession, SaysSame, SeatsTakeNone, IsRunOfAll, IsWholeRun, HaveAllCommands, HaveOwnCommands}
 use Rattle.lt_live.specs.Served.{OneWholeRun}
-use Rattle.lt_live.proofs.Finished.{AllSettled, served_run, run_of_all, shared_now, same_taken}
+use Rattle.lt_live.proofs.Finished.{AllSettled, served_run, run_of_all, same_taken}
 use Rattle.lt_live.proofs.OwnCommands.{all_after}
 use Rattle.lt_live.proofs.SeatLists.{alike_before, each_before}
 
