@@ -6,8 +6,8 @@ use lt_desk::Post;
 use std::alloc::AllocError;
 use std::collections::VecDeque;
 
-// How many places a new list has for so many letters: few sizes, so that the memory of one list serves another, and that
-// one is seldom made anew. A move of a node sends up to 153 letters among 16 nodes, and up to 537 among 64.
+// How many places a new list has for so many letters: few sizes, so that the memory of one list serves another, and
+// that one is seldom made anew. A move of a node sends up to 153 letters among 16 nodes, and up to 537 among 64.
 fn places_for(letters: usize) -> usize
     ensures { letters ≤ result }
 {

@@ -1,13 +1,13 @@
 -- Accesses of slots in a row, and how many of them a badge knows.
 use Rattle.std.proofs.Common.{◌≡◌, ◌≢◌, ℕ, ◌<◌, ◌≤◌, cond, List, [], ◌∷◌, length, sym, refl, ap, ◌∙◌, subst, inl, inr, ⊎_elim, eq-eqb, ne_eqb, le-ltb, lt-ltb, arith}
 use Rattle.lt_pool.specs.declared.view.Access.{Access}
-use Rattle.lt_pool.specs.History.{left_in, FindsWhatWasLeft, AreByUpTo, KnowsAllBy, longer}
+use Rattle.lt_pool.specs.History.{word_left_in, FindsWhatWasLeft, AreByUpTo, KnowsAllBy, longer}
 
-pub left_here : (i : ℕ) (a : Access) (before : List Access) → i ≡ a.slot → left_in i (a ∷ before) ≡ a.left
-left_here i a before e = ap (λ t. cond t a.left (left_in i before)) (eq-eqb i a.slot e)
+pub left_here : (i : ℕ) (a : Access) (before : List Access) → i ≡ a.slot → word_left_in i (a ∷ before) ≡ a.left
+left_here i a before e = ap (λ t. cond t a.left (word_left_in i before)) (eq-eqb i a.slot e)
 
-pub left_else : (i : ℕ) (a : Access) (before : List Access) → i ≢ a.slot → left_in i (a ∷ before) ≡ left_in i before
-left_else i a before ne = ap (λ t. cond t a.left (left_in i before)) (ne_eqb i a.slot ne)
+pub left_else : (i : ℕ) (a : Access) (before : List Access) → i ≢ a.slot → word_left_in i (a ∷ before) ≡ word_left_in i before
+left_else i a before ne = ap (λ t. cond t a.left (word_left_in i before)) (ne_eqb i a.slot ne)
 
 -- what is known of a history in which each access found what those before it left
 pub found_before : (n : ℕ) (known all : List Access) → KnowsAllBy n known all → FindsWhatWasLeft all

@@ -3,7 +3,7 @@ use Rattle.std.proofs.Common.{◌≡◌, ◌∷◌, sym, refl, ap, ◌∙◌, su
 use mathlib.Core.Logic.{dite}
 use native.Mathlib.Decide.{ℕ_discrete}
 use Rattle.lt_pool.specs.declared.view.View.{View}
-use Rattle.lt_pool.specs.History.{left_in, refusal, KnowsAllBy}
+use Rattle.lt_pool.specs.History.{word_left_in, refusal_access, KnowsAllBy}
 use Rattle.lt_pool.specs.Rule.{IsLive, AreJoined}
 use Rattle.lt_pool.specs.PoolLaws.{EachNumberIsOne, EachRefusalIsTrue}
 use Rattle.lt_pool.proofs.ViewLemmas.{one_live, live_set}
@@ -26,12 +26,12 @@ module _ {T : Type 0} (continues : T → T → Type 0) where
       let r = before.recorded in
       let q = after.recorded in
       let l = q.latest in
-      let a = refusal h.old.number i word in
+      let a = refusal_access h.old.number i word in
       dite (ℕ_discrete l.0 id)
       (λ e.
       let now : q.history ≡ a ∷ h.before =
       sym l.3 ∙ (ap (λ (x : View T). x.history) (one_live t.views l.0 id l.1 h.new l.2 h.is e) ∙ h.last) in
-      q.left i inside ∙ (ap (left_in i) now ∙ left_here i a h.before refl))
+      q.left i inside ∙ (ap (word_left_in i) now ∙ left_here i a h.before refl))
       (λ ne.
       let was : IsLive s.views l.0 l.1 = ⊎_elim
       (λ x. absurd (ne x.0))

@@ -9,7 +9,7 @@ use Rattle.atomic_table.proofs.Lists.{set_here, set_else}
 use Rattle.lt_pool.specs.Rule.{Has, without_first, AllDiffer, ContinuesAt, NoneReadZero, IsLive, Owner, Knows, Recorded, Home, Kept}
 use Rattle.lt_pool.specs.declared.view.View.{View}
 use Rattle.lt_pool.specs.declared.view.Access.{Access}
-use Rattle.lt_pool.specs.History.{taking, refusal, freeing}
+use Rattle.lt_pool.specs.History.{claim_access, refusal_access, give_access}
 use Rattle.lt_pool.specs.Views.{claimed_more, refused_more, claimed_less}
 use Rattle.lt_pool.specs.PoolLaws.{AtHome, InOneHand}
 use Rattle.lt_pool.proofs.ViewLemmas.{SameBadge, word_here, word_else, first_word, live_set, set_live, apart_stays, first_stays, owner_stays}
@@ -207,9 +207,9 @@ module _ {T : Type 0} (continues : T → T → Type 0) (firsts : List T) where
       }
   refuses s id i word v r li is found ne =
       let k = r.knows id v is in
-      let history = refusal v.number i word ∷ r.recorded.history in
+      let history = refusal_access v.number i word ∷ r.recorded.history in
       let w = refused_more i word r.recorded.history v in
-      let recorded = records firsts s.words s.words s.views id v w (refusal v.number i word)
+      let recorded = records firsts s.words s.words s.views id v w (refusal_access v.number i word)
       r.apart r.first is is.live refl r.recorded refl refl li (sym found) found (λ j other. refl) in
       view_changes s id v v.claimed w.refused history s.homes r is recorded (λ j h. h) (λ j h. h) k.differ
       (none_zero_push v.refused i word ne k.refusals) refl (λ j not. refl)
@@ -229,7 +229,7 @@ module _ {T : Type 0} (continues : T → T → Type 0) (firsts : List T) where
       let wide = r.wide in
       let here : slice_index words (i + 1) ≡ n = word_here s.words i n (omega arith) in
       let k = r.knows id v is in
-      let recorded = records firsts s.words words s.views id v w (taking v.number i)
+      let recorded = records firsts s.words words s.views id v w (claim_access v.number i)
       r.apart r.first is is.live refl r.recorded refl refl li (sym free) here (λ j ne. word_else s.words i j n ne) in
       after_step s id v w words (slice_set s.homes i math.none) r is
       (same_badge v (i ∷ v.claimed) v.refused w.history is.live)
@@ -269,7 +269,7 @@ module _ {T : Type 0} (continues : T → T → Type 0) (firsts : List T) where
       let rows = r.rows in
       let here : slice_index words (i + 1) ≡ 0 = word_here s.words i 0 (omega arith) in
       let k = r.knows id v is in
-      let recorded = records firsts s.words words s.views id v w (freeing v.number i)
+      let recorded = records firsts s.words words s.views id v w (give_access v.number i)
       r.apart r.first is is.live refl r.recorded refl refl li (sym (k.claims i has).1) here
       (λ j ne. word_else s.words i j 0 ne) in
       after_step s id v w words homes r is (same_badge v (without_first i v.claimed) v.refused w.history is.live)

@@ -3,26 +3,26 @@ use Rattle.std.specs.Prelude.{◌≡◌, ◌≢◌, ◌⊎◌, ◌+◌, ◌≤�
 use Rattle.lt_pool.specs.declared.view.Access.{Access}
 
 -- badge n takes slot i, which is free
-abbrev pub taking : ℕ → ℕ → Access
-taking n i = record { by = n; slot = i; found = 0; left = n + 1 }
+abbrev pub claim_access : ℕ → ℕ → Access
+claim_access n i = record { by = n; slot = i; found = 0; left = n + 1 }
 
 -- badge n is refused slot i, for the word that it finds
-abbrev pub refusal : ℕ → ℕ → ℕ → Access
-refusal n i word = record { by = n; slot = i; found = word; left = word }
+abbrev pub refusal_access : ℕ → ℕ → ℕ → Access
+refusal_access n i word = record { by = n; slot = i; found = word; left = word }
 
 -- badge n makes slot i free
-abbrev pub freeing : ℕ → ℕ → Access
-freeing n i = record { by = n; slot = i; found = n + 1; left = 0 }
+abbrev pub give_access : ℕ → ℕ → Access
+give_access n i = record { by = n; slot = i; found = n + 1; left = 0 }
 
 -- what these accesses leave in the word of slot i, which is 0 at first
-abbrev pub left_in : ℕ → List Access → ℕ
-left_in i [] = 0
-left_in i (a ∷ before) = if i == a.slot then a.left else left_in i before
+abbrev pub word_left_in : ℕ → List Access → ℕ
+word_left_in i [] = 0
+word_left_in i (a ∷ before) = if i == a.slot then a.left else word_left_in i before
 
 -- each access found what those before it left
 abbrev pub FindsWhatWasLeft : List Access → Type 0
 FindsWhatWasLeft [] = Unit {0}
-FindsWhatWasLeft (a ∷ before) = (a.found ≡ left_in a.slot before) × FindsWhatWasLeft before
+FindsWhatWasLeft (a ∷ before) = (a.found ≡ word_left_in a.slot before) × FindsWhatWasLeft before
 
 -- all are by badges with numbers up to this one
 abbrev pub AreByUpTo : ℕ → List Access → Type 0

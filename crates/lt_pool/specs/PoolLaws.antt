@@ -3,7 +3,7 @@ use Rattle.std.specs.Prelude.{◌≡◌, ◌⊎◌, ◌+◌, ◌<◌, ◌≤◌,
 use Rattle.atomic_table.specs.Table.{State}
 use Rattle.lt_pool.specs.declared.view.View.{View}
 use Rattle.lt_pool.specs.declared.view.Access.{Access}
-use Rattle.lt_pool.specs.History.{refusal, KnowsAllBy}
+use Rattle.lt_pool.specs.History.{refusal_access, KnowsAllBy}
 use Rattle.lt_pool.specs.Rule.{Has, AllDiffer, IsLive, Apart, Owner, Home, Kept}
 
 module _ {T : Type 0} where
@@ -32,7 +32,7 @@ module _ {T : Type 0} where
     pub is : IsLive t.views id new
     pub else : t.views ≡ slice_set s.views id new
     pub before : List Access
-    pub last : new.history ≡ refusal old.number i word ∷ before
+    pub last : new.history ≡ refusal_access old.number i word ∷ before
     pub others : KnowsAllBy old.number old.history before
 
   module _ (continues : T → T → Type 0) where

@@ -7,7 +7,7 @@ use mathlib.Core.Option as math
 use Rattle.atomic_table.specs.Table.{State}
 use Rattle.lt_pool.specs.declared.view.View.{View}
 use Rattle.lt_pool.specs.declared.view.Access.{Access}
-use Rattle.lt_pool.specs.History.{left_in, FindsWhatWasLeft, AreByUpTo, KnowsAllBy}
+use Rattle.lt_pool.specs.History.{word_left_in, FindsWhatWasLeft, AreByUpTo, KnowsAllBy}
 
 -- x continues the first item of slot i
 abbrev pub ContinuesAt : {T : Type 0} → (T → T → Type 0) → List T → ℕ → T → Type 0
@@ -103,7 +103,7 @@ module _ {T : Type 0} where
   pub record Recorded (firsts : List T) (words : List ℕ) (views : List (View T)) : Type 0 where
     pub history : List Access
     pub found : FindsWhatWasLeft history
-    pub left : (i : ℕ) → i < length firsts → slice_index words (i + 1) ≡ left_in i history
+    pub left : (i : ℕ) → i < length firsts → slice_index words (i + 1) ≡ word_left_in i history
     pub known : (j : ℕ) (v : View T) → IsLive views j v → KnowsAllBy v.number v.history history
     pub latest : (j : ℕ) × (v : View T) × IsLive views j v × (v.history ≡ history)
     pub by : (first : View T) → IsLive views 0 first → AreByUpTo first.splits history

@@ -3,7 +3,7 @@ use Rattle.std.specs.Prelude.{◌+◌, ℕ, true, false, List, [], ◌∷◌, �
 use Rattle.atomic_table.specs.Seated.{TableId}
 use Rattle.lt_pool.specs.declared.view.View.{View}
 use Rattle.lt_pool.specs.declared.view.Access.{Access}
-use Rattle.lt_pool.specs.History.{taking, refusal, freeing, longer}
+use Rattle.lt_pool.specs.History.{claim_access, refusal_access, give_access, longer}
 use Rattle.lt_pool.specs.Rule.{without_first}
 use Rattle.lt_pool.specs.PoolData.{BadgeData}
 
@@ -40,17 +40,17 @@ module _ {T : Type 0} where
 
   -- slot i was claimed, after these accesses
   abbrev pub claimed_more : ℕ → List Access → View T → View T
-  claimed_more i before v = record v { claimed = i ∷ v.claimed; history = taking v.number i ∷ before }
+  claimed_more i before v = record v { claimed = i ∷ v.claimed; history = claim_access v.number i ∷ before }
 
   -- slot i was refused, for this word, after these accesses
   abbrev pub refused_more : ℕ → ℕ → List Access → View T → View T
   refused_more i word before v =
-      record v { refused = v.refused ++ (i, word) ∷ []; history = refusal v.number i word ∷ before }
+      record v { refused = v.refused ++ (i, word) ∷ []; history = refusal_access v.number i word ∷ before }
 
   -- slot i was given back, after these accesses
   abbrev pub claimed_less : ℕ → List Access → View T → View T
   claimed_less i before v =
-      record v { claimed = without_first i v.claimed; history = freeing v.number i ∷ before }
+      record v { claimed = without_first i v.claimed; history = give_access v.number i ∷ before }
 
   -- slot i stands before the others that were claimed
   abbrev pub brought_forward : ℕ → View T → View T

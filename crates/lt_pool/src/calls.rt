@@ -1,7 +1,7 @@
 // How a slot is claimed, and given back.
 ghost use Rattle.std.specs.Prelude.{◌≡◌, ◌≢◌, ◌<◌, length, OnOk, IfOk, IfErr};
 ghost use Rattle.lt_pool.specs.Rule.{Has, ContinuesAt};
-ghost use Rattle.lt_pool.specs.History.{taking, refusal, freeing};
+ghost use Rattle.lt_pool.specs.History.{claim_access, refusal_access, give_access};
 ghost use Rattle.lt_pool.specs.PoolData.{after_claim, after_refusal, after_give, SameButHistory, Accesses};
 
 use crate::pool::{Badge, Pool};
@@ -18,8 +18,8 @@ impl<T: Same> Pool<T> {
         ensures item { IfOk result (ContinuesAt T.continues self.now.firsts slot) }
         ensures ok { OnOk result (SameButHistory (after_claim slot badge.old) badge.new) }
         ensures err { IfErr result (λ word. (word ≢ 0) × SameButHistory (after_refusal slot word badge.old) badge.new) }
-        ensures takes { OnOk result (Accesses (taking badge.old.number slot) badge.old badge.new) }
-        ensures refused { IfErr result (λ word. Accesses (refusal badge.old.number slot word) badge.old badge.new) }
+        ensures takes { OnOk result (Accesses (claim_access badge.old.number slot) badge.old badge.new) }
+        ensures refused { IfErr result (λ word. Accesses (refusal_access badge.old.number slot word) badge.old badge.new) }
     {
         let i = usize::from(slot);
         self.mark(&mut badge.seat, slot, badge.number)?;
@@ -35,7 +35,7 @@ impl<T: Same> Pool<T> {
         requires claimed { Has slot badge.old.claimed }
         requires item { ContinuesAt T.continues self.now.firsts slot item }
         ensures badge { SameButHistory (after_give slot badge.old) badge.new }
-        ensures frees { Accesses (freeing badge.old.number slot) badge.old badge.new }
+        ensures frees { Accesses (give_access badge.old.number slot) badge.old badge.new }
     {
         let i = usize::from(slot);
         self.bring_forward(&mut badge.seat, slot);

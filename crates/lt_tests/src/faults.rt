@@ -20,8 +20,8 @@ unlock a s write\n\
 owner s 0 0\n\
 end 2\n";
 
-// The read and the write of these numbers fail, and a write takes so many bytes, so that the answer is this and so many are
-// written.
+// The read and the write of these numbers fail, and a write takes so many bytes, so that the answer is this and so many
+// are written.
 fn fails<R: Abort + Threads + Sync>(
     rt: &R,
     alloc: Global,
