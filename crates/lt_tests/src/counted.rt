@@ -2,6 +2,7 @@ use crate::telling::{holds, same};
 use lt_modes::{Ask, Mode, ModeSet, Stamp};
 use lt_queue::Queue;
 use lt_table::{Pending, Table};
+use std::process::Abort;
 
 // A stamp of node 1.
 fn at(clock: u64) -> Stamp {
@@ -19,6 +20,17 @@ fn ask_for(client: u16, mode: Mode) -> Ask {
     }
 }
 
+// Node 1 owes word of a copy for the ask with this stamp, which is for the mode read.
+fn owe_read<R: Abort>(rt: &R, table: &mut Table, stamp: Stamp) {
+    holds(rt, 0 < table.spare());
+    table.owe(1, stamp, Mode::Read);
+}
+
+fn enter<R: Abort>(rt: &R, queue: &mut Queue, ask: Ask) {
+    holds(rt, queue.len() < queue.room());
+    queue.insert(ask);
+}
+
 #[test]
 fn a_table_counts_the_nodes_with_a_mode(rt: HostRuntime) {
     let read = ModeSet::one(Mode::Read);
@@ -28,9 +40,9 @@ fn a_table_counts_the_nodes_with_a_mode(rt: HostRuntime) {
     table.reserve(2).expect(&rt, "memory");
     same(&rt, table.nodes_with(Mode::Read), 0);
 
-    table.owe(1, at(2), Mode::Read);
+    owe_read(&rt, &mut table, at(2));
     same(&rt, table.nodes_with(Mode::Read), 1);
-    table.owe(1, at(3), Mode::Read);
+    owe_read(&rt, &mut table, at(3));
     same(&rt, table.nodes_with(Mode::Read), 1);
     same(&rt, table.nodes_with(Mode::Write), 0);
 
@@ -52,13 +64,14 @@ fn a_queue_counts_the_asks_for_a_mode(rt: HostRuntime) {
     let mut queue = Queue::new(rt.alloc(), 3).expect(&rt, "memory");
     same(&rt, queue.asked(Mode::Read), 0);
 
-    queue.insert(ask_for(0, Mode::Read));
-    queue.insert(ask_for(1, Mode::Write));
-    queue.insert(ask_for(2, Mode::Read));
+    enter(&rt, &mut queue, ask_for(0, Mode::Read));
+    enter(&rt, &mut queue, ask_for(1, Mode::Write));
+    enter(&rt, &mut queue, ask_for(2, Mode::Read));
     same(&rt, queue.asked(Mode::Read), 2);
     same(&rt, queue.asked(Mode::Write), 1);
     same(&rt, queue.asked(Mode::Upgrade), 0);
 
+    holds(&rt, 0 < queue.len());
     same(&rt, queue.remove(0).client, 0);
     same(&rt, queue.asked(Mode::Read), 1);
     same(&rt, queue.asked(Mode::Write), 1);
