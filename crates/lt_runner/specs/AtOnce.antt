@@ -31,7 +31,7 @@ OneBecomes R [] ys = ⊥
 OneBecomes R (x ∷ xs) [] = ⊥
 OneBecomes R (x ∷ xs) (y ∷ ys) = R x y ⊎ OneBecomes R xs ys
 
--- each runner is as work leaves it that gave this answer at worst; and one as with this answer, where it isn.t Idle
+-- each runner is as work leaves it that gave this answer at worst; and one as with this answer, unless that is Idle
 pub record AllWorked (answer : Worked) (patience : ℕ) (xs ys : List Parts) : Type 0 where
   pub each : EachBecomes (λ a b. WorkLeavesAtWorst answer patience a b) xs ys
   pub one : (answer ≡ Idle) ⊎ OneBecomes (λ a b. WorkLeaves answer patience a b) xs ys
