@@ -1,0 +1,10 @@
+pub mod Around
+pub mod KeptParts
+pub mod KeptActs
+pub mod SoundParts
+pub mod SetMoves
+pub mod TakeMoves
+pub mod MadeCounts
+pub mod NodeMoves
+pub mod Room
+pub mod OwnMoves
