@@ -29,7 +29,7 @@ use Rattle.lt_live.proofs.Finished.{AllSettled, served_run}
 use Rattle.lt_live.proofs.SeatLists.{alike_after, alike_self, alike_weaker}
 use Rattle.lt_live.proofs.Settling.{session_itself}
 use Rattle.lt_live_callers.specs.Served.{StopsSo, CallersEndSo, as_live, IsMadeBy}
-use Rattle.lt_live_callers.specs.Taking.{GoesFurther, HaveTakenAll, HaveAllCommands}
+use Rattle.lt_live_callers.specs.Taking.{GoesFurther, HaveTakenAll, AreAllAppended}
 use Rattle.lt_live_callers.proofs.Steps.{prefix_same, prefix_join}
 
 -- A session of which the lines went on.
@@ -171,7 +171,7 @@ module _ (stations later : List StationData) (sessions after : List Session) (rs
   }
 
   -- of sessions all of whose commands were taken, all are in the script
-  pub all_commands : (script : ScriptData) → AreLive script stations sessions → HaveTakenAll script stations sessions → HaveAllCommands made sessions
+  pub all_commands : (script : ScriptData) → AreLive script stations sessions → HaveTakenAll script stations sessions → AreAllAppended made sessions
   all_commands script live had client s here =
       let is = live.each client s here in
       let k = home script client in

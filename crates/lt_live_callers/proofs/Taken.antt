@@ -19,7 +19,7 @@ use Rattle.lt_live.specs.Seats.{replies_in}
 use Rattle.lt_live.specs.Stations.{StationData, runner_of, equal_share, HaveEqualShares}
 use Rattle.lt_live.proofs.SeatLists.{alike_before, alike_after, alike_join, alike_weaker}
 use Rattle.lt_live_callers.specs.Served.{HaveMade, IsMadeBy}
-use Rattle.lt_live_callers.specs.Taking.{GoesFurther, ServesOn, AreAsking, HaveAllCommands}
+use Rattle.lt_live_callers.specs.Taking.{GoesFurther, ServesOn, AreAsking, AreAllAppended}
 use Rattle.lt_live_callers.proofs.GoingOn.{limits_last}
 use Rattle.lt_live_callers.proofs.Lasting.{further_join}
 use Rattle.lt_live_callers.proofs.Places.{mapped_at}
@@ -84,8 +84,8 @@ served_same first script run sessions after says h = record {
       };
 }
 
-pub all_same : (script : ScriptData) (sessions after : List Session) → EachSession SaysSame sessions after → HaveAllCommands script after
-    → HaveAllCommands script sessions
+pub all_same : (script : ScriptData) (sessions after : List Session) → EachSession SaysSame sessions after → AreAllAppended script after
+    → AreAllAppended script sessions
 all_same script sessions after says h client s here =
     let (t, now, same) = alike_after SaysSame sessions after says client s here in
     h client t now ∙ same.submitted

@@ -28,7 +28,7 @@ use Rattle.lt_live_callers.specs.declared.served.Served.{Served}
 use Rattle.lt_live_callers.specs.Desks.{StepOf, Went, Heard, AreSteps, replies_of, commands_of, caller_of, called_of, session_of, IsBarred, StationsGoOn}
 use Rattle.lt_live_callers.specs.Over.{MadeRounds}
 use Rattle.lt_live_callers.specs.Refused.{MayCommand, NamesAll}
-use Rattle.lt_live_callers.specs.Taking.{GoesFurther, HearsAll, HaveAllCommands}
+use Rattle.lt_live_callers.specs.Taking.{GoesFurther, HearsAll, AreAllAppended}
 
 -- a node may make no move, or more than it ever may
 abbrev pub IsNoLimit : ℕ → Type 0
@@ -73,8 +73,8 @@ abbrev pub HaveMade : List StationData → List Logged → Type 0
 HaveMade stations run = (node : ℕ) (station : StationData) → slice_get stations node ≡ Some station
     → IsPrefix station.runner.log.entries (filter (is_of_node node) run)
 
--- runners went on from those of the stations; the run is all their moves, by the script with all commands that they were
--- given
+-- runners went on from those of the stations; the run is all their moves, by the script with all commands that they
+-- were given
 pub record IsMadeBy (stations : List StationData) (script : ScriptData) (run : List Logged) : Type 0 where
   pub last : List Parts
   pub on : EachIs GoesFurther (map runner_of stations) last
@@ -129,7 +129,7 @@ module _ {C : Type 0} where
     pub serves : IsServedRun first sessions served.script served.run.entries
     pub few_commands : length served.script.commands ≤ MAX_COMMANDS
     -- in it are all commands that were submitted
-    pub all : HaveAllCommands served.script sessions
+    pub all : AreAllAppended served.script sessions
     pub ends : CallersEndSo served.ending served.script served.run.entries
     pub each : (client : ℕ) (s : Session) → slice_get sessions client ≡ Some s
         → CallsAt goes (slice_get callers client) s (slice_get served.callers.items client)
@@ -197,6 +197,6 @@ module _ {C : Type 0} where
     pub ends : CallersEndSo served.ending served.script served.run.entries
     pub within : StaysWithin limit served.script served.run.entries
     pub far : GoesFar limit served.script served.run.entries
-    pub all : HaveAllCommands served.script (map session_of desks)
+    pub all : AreAllAppended served.script (map session_of desks)
     pub made : IsMadeBy stations served.script served.run.entries
     pub callers : map called_of desks ≡ served.callers.items

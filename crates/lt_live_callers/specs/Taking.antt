@@ -27,9 +27,9 @@ abbrev pub HaveTakenAll : ScriptData → List StationData → List Session → T
 HaveTakenAll script stations sessions = (client : ℕ) (s : Session) → slice_get sessions client ≡ Some s
     → HasTakenAll script stations client s
 
--- each client has in the script all that its session submitted
-abbrev pub HaveAllCommands : ScriptData → List Session → Type 0
-HaveAllCommands script sessions = (client : ℕ) (s : Session) → slice_get sessions client ≡ Some s
+-- the script has, of each client, all that its session submitted
+abbrev pub AreAllAppended : ScriptData → List Session → Type 0
+AreAllAppended script sessions = (client : ℕ) (s : Session) → slice_get sessions client ≡ Some s
     → commands_of script client ≡ submitted s
 
 -- What stations do meanwhile.

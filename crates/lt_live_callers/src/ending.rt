@@ -8,7 +8,7 @@ ghost use Rattle.lt_threads.specs.Threads.{StaysWithin, GoesFar};
 ghost use Rattle.lt_live.specs.Live.{AreLive, LiveScript, IsServedRun};
 ghost use Rattle.lt_live.specs.Stations.{runner_of, HaveEqualShares};
 ghost use Rattle.lt_live_callers.specs.Served.{CallersEndSo, as_live, IsMadeBy};
-ghost use Rattle.lt_live_callers.specs.Taking.{HaveTakenAll, HaveAllCommands};
+ghost use Rattle.lt_live_callers.specs.Taking.{HaveTakenAll, AreAllAppended};
 
 use crate::moving::move_on;
 use lt_law_merged::law_can_move;
@@ -63,7 +63,7 @@ pub(crate) fn end_run(
     ensures made { IfOk result (λ made. IsMadeBy stations.items made.0 made.1.entries) }
     ensures all { IfOk result (λ made.
         (script : ScriptData) → AreLive script stations.items sessions.items
-        → HaveTakenAll script stations.items sessions.items → HaveAllCommands made.0 sessions.items) }
+        → HaveTakenAll script stations.items sessions.items → AreAllAppended made.0 sessions.items) }
 {
     law_can_move();
     law_live_lasts();

@@ -2,7 +2,7 @@
 use Rattle.std.proofs.Common.{List, sym, subst}
 use Rattle.lt_live.specs.declared.ends.Session.{Session}
 use Rattle.lt_live.specs.Live.{IsServedRun}
-use Rattle.lt_live_callers.specs.Taking.{AreAsking, HaveAllCommands}
+use Rattle.lt_live_callers.specs.Taking.{AreAsking, AreAllAppended}
 use Rattle.lt_live_callers.proofs.Taken.{made_before, limits_served, all_served, equal_shares, served_same, all_same}
 use Rattle.lt_live_callers.proofs.serving.end.Goals as goal
 
@@ -41,7 +41,7 @@ returns-clause-ended g c =
       ends = made.ends;
       within = made.within;
       far = made.far;
-      all = subst (λ (all : List Session). HaveAllCommands script all) c.in_ok-callers.ensures.sessions
+      all = subst (λ (all : List Session). AreAllAppended script all) c.in_ok-callers.ensures.sessions
           (all_same script sessions after took.takes.says (made.all bare took.takes.asking.live took.taken));
       made = made_before c.args.stations.items c.take_all_in.new.stations.items script run took.takes.serves made.made;
       callers = sym c.in_ok-callers.ensures.callers;
