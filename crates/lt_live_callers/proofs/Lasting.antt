@@ -17,7 +17,7 @@ use Rattle.lt_live.proofs.LiveShares.{goes_itself, goes_join}
 use Rattle.lt_live.proofs.SeatLists.{alike_self, alike_before, alike_join, alike_weaker}
 use Rattle.lt_live.proofs.Settling.{live_lasts, session_itself, same_sessions, station_itself, station_same, turn_has_all}
 use Rattle.lt_live_callers.specs.Refused.{NamesAll}
-use Rattle.lt_live_callers.specs.Taking.{NoneWaitsAt, GoesFurther, ServesOn, IsAsking, AreAsking, TakesAll}
+use Rattle.lt_live_callers.specs.Taking.{NoneWaitsAt, GoesFurther, ServesOn, IsAsking, AreAsking, OnlyTakes}
 use Rattle.lt_live_callers.proofs.Outboxes.{waits_turned}
 use Rattle.lt_live_callers.proofs.Steps.{names_same, prefix_same, prefix_join}
 
@@ -115,7 +115,7 @@ asking_lasts script stations later sessions after h serves says = record {
     goes = alike_weaker ServesOn StationGoesOn (λ x y on. on.goes) stations later serves
 
 pub takes_none : (script : ScriptData) (stations : List StationData) (sessions : List Session) → AreAsking script stations sessions
-    → TakesAll script stations sessions stations sessions
+    → OnlyTakes script stations sessions stations sessions
 takes_none script stations sessions h = record {
   asking = h;
   serves = alike_self ServesOn serves_itself stations;
@@ -123,7 +123,7 @@ takes_none script stations sessions h = record {
 }
 
 pub takes_join : (script : ScriptData) (stations mid later : List StationData) (sessions between after : List Session)
-    → TakesAll script stations sessions mid between → TakesAll script mid between later after → TakesAll script stations sessions later after
+    → OnlyTakes script stations sessions mid between → OnlyTakes script mid between later after → OnlyTakes script stations sessions later after
 takes_join script stations mid later sessions between after first second = record {
   asking = second.asking;
   serves = alike_join ServesOn serves_join stations mid later first.serves second.serves;

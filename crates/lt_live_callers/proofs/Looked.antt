@@ -12,7 +12,7 @@ use Rattle.lt_live.specs.Live.{SaysSame}
 use Rattle.lt_live.specs.Stations.{StationData, IsSeated, StaySeated, SeatLooks, EachSeat}
 use Rattle.lt_live.proofs.SeatLists.{alike_self, alike_set, alike_join, set_here, set_other}
 use Rattle.lt_live.proofs.Settling.{says_looked}
-use Rattle.lt_live_callers.specs.Taking.{ServesOn, AreAsking, TakesAll, IsBeside, SameHand, OnlyLooks, SessionsLook, SessionLooks}
+use Rattle.lt_live_callers.specs.Taking.{ServesOn, AreAsking, OnlyTakes, IsBeside, SameHand, OnlyLooks, SessionsLook, SessionLooks}
 use Rattle.lt_live_callers.proofs.Lasting.{serves_itself, serves_same, says_itself, asking_lasts, takes_none, takes_join}
 use Rattle.lt_live_callers.proofs.Outboxes.{waits_looked}
 
@@ -99,7 +99,7 @@ module _ (script : ScriptData) (client place : ℕ) (stations : List StationData
         }
   ]
 
-  takes : TakesAll script stations sessions (slice_set stations place y) (slice_set sessions client t)
+  takes : OnlyTakes script stations sessions (slice_set stations place y) (slice_set sessions client t)
   takes =
       let serves = alike_set ServesOn serves_itself stations place x y station
       (serves_same x y runner stay (waits_looked x.runner.log.entries s t x.seats y.seats looks)) in

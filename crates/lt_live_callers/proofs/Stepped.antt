@@ -14,14 +14,14 @@ use Rattle.lt_live.specs.Live.{EachStation, SaysSame}
 use Rattle.lt_live.specs.Stations.{may_append, StationData, SeatTurns}
 use Rattle.lt_live.specs.Words.{submitted, known_commands}
 use Rattle.lt_live.proofs.SeatLists.{alike_before, alike_after, alike_self, alike_weaker, each_after}
-use Rattle.lt_live_callers.specs.Taking.{HaveTakenAll, GoesFurther, ServesOn, AreAsking, TakesAll, appended_at, room_at, all_room, SameHand, OnlyLooks, SessionsLook, IsKept, Turns, AnyTurns, SameCount, AllTurn}
+use Rattle.lt_live_callers.specs.Taking.{HaveTakenAll, GoesFurther, ServesOn, AreAsking, OnlyTakes, appended_at, room_at, all_room, SameHand, OnlyLooks, SessionsLook, IsKept, Turns, AnyTurns, SameCount, AllTurn}
 use Rattle.lt_live_callers.proofs.Missing.{advances, no_hand}
 use Rattle.lt_live_callers.proofs.Lasting.{turn_further, serves_turned, says_itself, asking_lasts, takes_join}
 use Rattle.lt_live_callers.proofs.Turned.{no_more_room, falls}
 use Rattle.lt_live_callers.proofs.Beside.{Seen, HaveTaken, taken_kept, taken_looked, AllBeside, seen_at, within, same_clients}
 
 pub takes_turned : (script : ScriptData) (more : Bool) (a b : List StationData) (sessions : List Session) → AreAsking script a sessions → AllTurn more a b
-    → TakesAll script a sessions b sessions
+    → OnlyTakes script a sessions b sessions
 takes_turned script more a b sessions asking turn =
     let serves = alike_weaker AnyTurns ServesOn (λ x y t. serves_turned t.1.turned x y t.1.turns t.1.goes) a b turn.each in
     let says = alike_self SaysSame says_itself sessions in
@@ -125,7 +125,7 @@ module _ (script : ScriptData) (more : Bool) (stations a b c : List StationData)
       let (u, found, on) = alike_before SaysSame mid after second.all.says client v then in
       complete e client u v found then on station here
 
-  pub takes_more : TakesAll script stations sessions c after
+  pub takes_more : OnlyTakes script stations sessions c after
   takes_more =
       takes_join script stations a c sessions mid after first.all
       (takes_join script a b c mid mid after (takes_turned script more a b mid first.all.asking turn) second.all)

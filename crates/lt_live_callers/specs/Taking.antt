@@ -68,8 +68,8 @@ pub record AreAsking (script : ScriptData) (stations : List StationData) (sessio
   pub live : AreLive script stations sessions
   pub each : (client : ℕ) (s : Session) → slice_get sessions client ≡ Some s → IsAsking script stations client s
 
--- the stations have appended all that these sessions submitted, while nothing else was submitted or polled
-pub record TakesAll (script : ScriptData) (stations : List StationData) (sessions : List Session)
+-- the stations went on, while nothing was submitted and nothing polled
+pub record OnlyTakes (script : ScriptData) (stations : List StationData) (sessions : List Session)
     (later : List StationData) (after : List Session) : Type 0 where
   pub asking : AreAsking script later after
   pub serves : EachStation ServesOn stations later
@@ -106,14 +106,14 @@ pub record OnlyLooks (a b : StationData) : Type 0 where
 -- the first n sessions and their seats looked at their rings
 pub record SessionsLook (script : ScriptData) (n : ℕ) (stations : List StationData) (sessions : List Session)
     (later : List StationData) (after : List Session) : Type 0 where
-  pub all : TakesAll script stations sessions later after
+  pub all : OnlyTakes script stations sessions later after
   pub looks : EachStation OnlyLooks stations later
   pub beside : BesideTo script n later after
 
 -- the session of this client and its seat did
 pub record SessionLooks (script : ScriptData) (client : ℕ) (stations : List StationData) (sessions : List Session)
     (later : List StationData) (after : List Session) : Type 0 where
-  pub all : TakesAll script stations sessions later after
+  pub all : OnlyTakes script stations sessions later after
   pub looks : EachStation OnlyLooks stations later
   pub one : (s : Session) → slice_get after client ≡ Some s → IsBeside script later client s
   pub others : (k : ℕ) (s : Session) → k ≢ client → slice_get after k ≡ Some s

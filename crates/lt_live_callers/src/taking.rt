@@ -1,7 +1,7 @@
 // Brings all commands to their stations.
 ghost use Rattle.std.specs.Prelude.{◌≡◌, ◌<◌, true, false, length, IfOk, OnOk};
 ghost use Rattle.lt_spec.specs.NodeMove.{home};
-ghost use Rattle.lt_live_callers.specs.Taking.{AreAsking, TakesAll, HaveTakenAll, SessionsLook, SessionLooks, Turns, TurnsAt, AllTurn, all_room};
+ghost use Rattle.lt_live_callers.specs.Taking.{AreAsking, OnlyTakes, HaveTakenAll, SessionsLook, SessionLooks, Turns, TurnsAt, AllTurn, all_room};
 
 use lt_live::{Session, Station};
 use lt_runner::{Open, Turned};
@@ -15,7 +15,7 @@ pub(crate) fn take_all_in(
     sessions: &mut Vec<Session>,
 ) -> Result<(), AllocError>
     requires { AreAsking script.now stations.old.items sessions.old.items }
-    ensures takes { OnOk result (TakesAll script.now
+    ensures takes { OnOk result (OnlyTakes script.now
         stations.old.items sessions.old.items stations.new.items sessions.new.items) }
     ensures taken { OnOk result (HaveTakenAll script.now stations.new.items sessions.new.items) }
 {
@@ -34,7 +34,7 @@ fn take_more(
     sessions: &mut Vec<Session>,
 ) -> Result<bool, AllocError>
     requires { AreAsking script.now stations.old.items sessions.old.items }
-    ensures takes { OnOk result (TakesAll script.now
+    ensures takes { OnOk result (OnlyTakes script.now
         stations.old.items sessions.old.items stations.new.items sessions.new.items) }
     ensures more { IfOk result (λ more. more ≡ true
         → all_room stations.new.items < all_room stations.old.items) }
