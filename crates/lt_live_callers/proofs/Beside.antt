@@ -1,5 +1,5 @@
 -- What each station knows once all sessions and their seats looked.
-use Rattle.std.proofs.Common.{◌≡◌, ◌≤◌, ◌<◌, ◌+◌, ◌++◌, ℕ, List, [], ◌∷◌, length, map, Option, Some, true, refl, sym, ap, subst, arith, ◌∙◌, inl, inr, slice_get, option_map, length-append}
+use Rattle.std.proofs.Common.{◌≡◌, ◌≤◌, ◌+◌, ◌++◌, ℕ, List, [], length, Option, Some, true, sym, ap, subst, arith, ◌∙◌, inl, inr, slice_get, option_map, length-append}
 use Rattle.std.proofs.lemmas.Bool.{cases_eq}
 use Rattle.std.proofs.lemmas.Option.{same_Some, slice_get-map, slice_get_within}
 use Rattle.lt_modes.specs.declared.command.Command.{Command}

@@ -13,7 +13,7 @@ use Rattle.lt_threads.specs.Pushes.{HasLimit}
 use Rattle.lt_live.specs.declared.reply.Reply.{Reply}
 use Rattle.lt_live.specs.declared.ends.Session.{Session}
 use Rattle.lt_live.specs.Words.{SameSession}
-use Rattle.lt_live.specs.Stations.{StationData, StationTurns, StaySeated, runner_of, equal_share}
+use Rattle.lt_live.specs.Stations.{StationData, StationTurns, StaySeated, runner_of}
 use Rattle.lt_live.specs.Live.{GoesOn, StationGoesOn, EachStation, EachSession, LiveLasts}
 use Rattle.lt_live.proofs.SeatLists.{alike_before, alike_self, alike_weaker}
 use Rattle.lt_live.proofs.LiveShares.{goes_join}

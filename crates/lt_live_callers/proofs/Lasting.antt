@@ -1,14 +1,11 @@
 -- Stations and sessions that go on stay those that ask.
-use Rattle.std.proofs.Common.{◌≡◌, ◌≤◌, ◌++◌, ℕ, List, [], ◌∷◌, length, map, Option, Some, None, refl, sym, ap, subst, arith, ◌∙◌, slice_get, option_map, append-nil, append_assoc}
-use Rattle.std.proofs.lemmas.Option.{same_Some, slice_get-map}
+use Rattle.std.proofs.Common.{◌≡◌, ℕ, List, refl, sym, subst, arith, ◌∙◌}
 use mathlib.Core.List.{IsPrefix}
 use Rattle.lt_modes.specs.Script.{ScriptData}
-use Rattle.lt_modes.specs.declared.command.Command.{Command}
 use Rattle.lt_spec.specs.NodeMove.{home}
-use Rattle.lt_spec.specs.World.{Logged}
 use Rattle.lt_runner.specs.declared.parts.Parts.{Parts}
 use Rattle.lt_runner.specs.declared.turning.Turned.{Turned}
-use Rattle.lt_runner.specs.Kept.{HasAll, Grew}
+use Rattle.lt_runner.specs.Kept.{HasAll}
 use Rattle.lt_live.specs.declared.ends.Session.{Session}
 use Rattle.lt_live.specs.Live.{GoesOn, StationGoesOn, EachStation, EachSession, SaysSame}
 use Rattle.lt_live.specs.Stations.{StationData, StaySeated, StationTurns}
@@ -16,8 +13,7 @@ use Rattle.lt_live.specs.Words.{submitted, SameSession}
 use Rattle.lt_live.proofs.LiveShares.{goes_itself, goes_join}
 use Rattle.lt_live.proofs.SeatLists.{alike_self, alike_before, alike_join, alike_weaker}
 use Rattle.lt_live.proofs.Settling.{live_lasts, session_itself, same_sessions, station_itself, station_same, turn_has_all}
-use Rattle.lt_live_callers.specs.Refused.{NamesAll}
-use Rattle.lt_live_callers.specs.Taking.{NoneWaitsAt, GoesFurther, ServesOn, IsAsking, AreAsking, OnlyTakes}
+use Rattle.lt_live_callers.specs.Taking.{NoneWaitsAt, GoesFurther, ServesOn, AreAsking, OnlyTakes}
 use Rattle.lt_live_callers.proofs.Outboxes.{waits_turned}
 use Rattle.lt_live_callers.proofs.Steps.{names_same, prefix_same, prefix_join}
 

@@ -4,17 +4,16 @@ use Rattle.std.proofs.lemmas.Option.{same_Some, slice_get_within}
 use mathlib.Core.List.{IsPrefix}
 use Rattle.lt_modes.specs.declared.command.Command.{Command}
 use Rattle.lt_modes.specs.Script.{ScriptData}
-use Rattle.lt_script.proofs.NameLemmas.{element_at}
 use Rattle.lt_spec.specs.NodeMove.{command_if, commands_of, home}
 use Rattle.lt_spec.specs.Script.{IsScript}
 use Rattle.lt_runner.specs.declared.parts.Parts.{Parts}
 use Rattle.lt_live.specs.declared.ends.Seat.{Seat}
 use Rattle.lt_live.specs.declared.ends.Session.{Session}
-use Rattle.lt_live.specs.Live.{EachStation, SaysSame}
+use Rattle.lt_live.specs.Live.{SaysSame}
 use Rattle.lt_live.specs.Stations.{may_append, StationData, SeatTurns}
 use Rattle.lt_live.specs.Words.{submitted, known_commands}
 use Rattle.lt_live.proofs.SeatLists.{alike_before, alike_after, alike_self, alike_weaker, each_after}
-use Rattle.lt_live_callers.specs.Taking.{HaveTakenAll, GoesFurther, ServesOn, AreAsking, OnlyTakes, appended_at, room_at, all_room, SameHand, OnlyLooks, SessionsLook, IsKept, Turns, AnyTurns, SameCount, AllTurn}
+use Rattle.lt_live_callers.specs.Taking.{HaveTakenAll, ServesOn, AreAsking, OnlyTakes, appended_at, room_at, all_room, SameHand, OnlyLooks, SessionsLook, Turns, AnyTurns, SameCount, AllTurn}
 use Rattle.lt_live_callers.proofs.Missing.{advances, no_hand}
 use Rattle.lt_live_callers.proofs.Lasting.{turn_further, serves_turned, says_itself, asking_lasts, takes_join}
 use Rattle.lt_live_callers.proofs.Turned.{no_more_room, falls}

@@ -1,5 +1,5 @@
 -- What stations and sessions came to while all commands were taken in.
-use Rattle.std.proofs.Common.{◌≡◌, ◌≤◌, ℕ, List, map, filter, Option, Some, None, sym, ap, subst, ◌∙◌, slice_get, option_map}
+use Rattle.std.proofs.Common.{◌≡◌, ◌≤◌, ℕ, List, map, Option, Some, None, sym, ap, subst, ◌∙◌, slice_get, option_map}
 use Rattle.std.proofs.lemmas.Option.{slice_get-map}
 use mathlib.Core.List.{IsPrefix}
 use Rattle.lt_modes.specs.Script.{ScriptData}
@@ -7,7 +7,7 @@ use Rattle.lt_modes.specs.declared.command.Command.{Command}
 use Rattle.lt_mail.specs.Words.{Alike}
 use Rattle.lt_spec.specs.Holdings.{lines_of}
 use Rattle.lt_spec.specs.NodeMove.{commands_of}
-use Rattle.lt_spec.specs.World.{Logged, is_of_node}
+use Rattle.lt_spec.specs.World.{Logged}
 use Rattle.lt_runner.specs.declared.parts.Parts.{Parts}
 use Rattle.lt_runner.specs.Kept.{HasAll}
 use Rattle.lt_threads.specs.Meeting.{EachIs, HaveAll}

@@ -1,15 +1,13 @@
 -- Stations make turns, one after the other.
-use Rattle.std.proofs.Common.{◌≡◌, ◌≢◌, ◌<◌, ◌≤◌, ◌+◌, ◌++◌, ℕ, zero, suc, List, [], ◌∷◌, length, Bool, true, false, Option, Some, None, refl, sym, ap, subst, arith, ◌∙◌, inl, inr, nat_lt, sum_by, slice_get, slice_set, ltb-true, ltb-false, length-set, length-append}
+use Rattle.std.proofs.Common.{◌≡◌, ◌≢◌, ◌<◌, ◌≤◌, ◌+◌, ℕ, zero, suc, List, [], ◌∷◌, length, Bool, true, false, Option, Some, None, refl, sym, ap, subst, arith, ◌∙◌, inl, inr, nat_lt, sum_by, slice_get, slice_set, ltb-true, ltb-false, length-set, length-append}
 use Rattle.std.proofs.lemmas.Bool.{cases_eq, cases_lt, false≢true}
 use Rattle.std.proofs.lemmas.List.Sums.{sum_by-cons}
 use Rattle.std.proofs.lemmas.Option.{same_Some, slice_get_within}
-use mathlib.Core.List.{IsPrefix}
-use Rattle.lt_modes.specs.Script.{ScriptData}
 use Rattle.lt_mail.specs.Words.{Alike}
 use Rattle.lt_runner.specs.declared.parts.Parts.{Parts}
 use Rattle.lt_runner.specs.declared.turning.Turned.{Turned}
 use Rattle.lt_runner.specs.declared.turning.Turned.TheVariants.{Moved, NoMemory}
-use Rattle.lt_live.specs.Live.{EachStation, GoesOn, StationGoesOn}
+use Rattle.lt_live.specs.Live.{EachStation, GoesOn}
 use Rattle.lt_live.specs.Stations.{StationData, StationTurns, StaySeated}
 use Rattle.lt_live.proofs.SeatLists.{alike_self, set_here, set_other}
 use Rattle.lt_live.proofs.Finished.{first_few}
