@@ -1,6 +1,7 @@
 -- Each field of what is said of callers that were served.
 use Rattle.std.proofs.Common.{◌≡◌, ◌<◌, ◌∷◌, [], ℕ, zero, suc, List, Option, Some, None, refl, sym, ap, ap₂, subst, arith, ◌∙◌, ◌++◌, length, slice_get, codes}
 use Rattle.std.proofs.lemmas.Bool.{false≢true}
+use Rattle.std.proofs.lemmas.Option.{same_Some}
 use mathlib.Core.List.{IsPrefix}
 use Rattle.lt_modes.specs.declared.command.Command.{Command}
 use Rattle.lt_modes.specs.declared.event.Event.TheVariants.{Grant, Unlock as Unlocked}
@@ -19,9 +20,11 @@ use Rattle.lt_journal.specs.RunLines.{run_lines, lines_text}
 use Rattle.lt_live.specs.declared.ends.Session.{Session}
 use Rattle.lt_live.specs.declared.reply.Reply.{Reply}
 use Rattle.lt_live.specs.Seats.{IsServedSession, replies_in}
-use Rattle.lt_live.specs.Words.{submitted}
+use Rattle.lt_live.specs.Words.{submitted, known_replies}
+use Rattle.lt_live.proofs.SeatLists.{none_here}
 use Rattle.lt_live_callers.specs.declared.served.Called.{Called}
 use Rattle.lt_live_callers.specs.declared.served.Served.{Served}
+use Rattle.lt_live_callers.specs.Desks.{StepOf, Heard}
 use Rattle.lt_live_callers.specs.Refused.{MayCommand}
 use Rattle.lt_live_callers.specs.Served.{IsServedBy, CallsAt}
 use Rattle.lt_law_pinned.specs.LiveCalls.{one_lock, one_lock_script, two_moves}
@@ -72,15 +75,24 @@ some_at [] k below = absurd (omega (arith, below))
 some_at (s ∷ rest) zero below = (s, refl)
 some_at (s ∷ rest) (suc k) below = some_at rest k (omega (arith, below))
 
+-- where a caller was told nothing its session knew no reply
+silent_at : {C : Type 0} (first last : Session) (steps : List (StepOf C)) → Heard first steps last
+    → (k : ℕ) (step : StepOf C) → slice_get steps k ≡ Some step → step.reply ≡ None → known_replies step.session ≡ []
+silent_at first last [] heard k step here none = none_here k step here
+silent_at {C = C} first last (s ∷ rest) heard zero step here none =
+    let is = same_Some s step here in
+    subst (λ (x : StepOf C). x.reply ≡ None → known_replies x.session ≡ []) is heard.1.none none
+silent_at first last (s ∷ rest) heard (suc k) step here none = silent_at s.later last rest heard.2 k step here none
+
 module _ {C : Type 0} (goes : C → Option Reply → Option Command → C → Type 0) where
   -- the caller at this place, with its session
   at_place : (first script : ScriptData) (run : List Logged) (client : ℕ) (s : Session)
       (caller : C) (place : Option (Called C)) → IsServedSession (commands_in script client) (lines_of run) client s
-      → CallsAt goes (Some caller) s place
+      → commands_in script client ≡ submitted s → CallsAt goes (Some caller) s place
       → ((called : Called C) → place ≡ Some called → (command : Command) → called.refused ≡ Some command → ¬ MayCommand first client s command)
       → (after : Called C) × (place ≡ Some after) × CallerTold goes first script run client caller after
-  at_place first script run client s caller None served calls barred = absurd calls
-  at_place first script run client s caller (Some after) served calls barred = (
+  at_place first script run client s caller None served all calls barred = absurd calls
+  at_place first script run client s caller (Some after) served all calls barred = (
     after,
     refl,
     record {
@@ -89,9 +101,10 @@ module _ {C : Type 0} (goes : C → Option Reply → Option Command → C → Ty
       told =
           subst (λ (replies : List Reply). IsPrefix replies (replies_in client (lines_of run))) calls.told
           served.replies;
+      silent = silent_at calls.first s calls.steps calls.heard;
       given = submitted s;
       asked = calls.asked;
-      begins = served.commands;
+      all = all;
       refused = λ command is few names. barred after refl command is (record { left = few; names = names });
     },
   )
@@ -103,7 +116,7 @@ module _ {C : Type 0} (goes : C → Option Reply → Option Command → C → Ty
       × CallerTold goes first served.script served.run.entries client caller after
   each_told first callers served h client caller below s here is =
       let after = slice_get served.callers.items client in
-      at_place first served.script served.run.entries client s caller after (h.serves.each client s here)
+      at_place first served.script served.run.entries client s caller after (h.serves.each client s here) (h.all client s here)
       (subst (λ (place : Option C). CallsAt goes place s after) is (h.each client s here))
       (λ called there. h.refused client s called here there)
 

@@ -1,5 +1,5 @@
 -- What callers that were served are told, of any callers, and how their runs end, of small runs.
-use Rattle.std.specs.Prelude.{◌≡◌, ◌<◌, ◌≤◌, ◌++◌, ◌∷◌, [], ℕ, List, Option, Some, codes, length, take, slice_get}
+use Rattle.std.specs.Prelude.{◌≡◌, ◌<◌, ◌≤◌, ◌++◌, ◌∷◌, [], ℕ, List, Option, Some, None, codes, length, take, slice_get}
 use mathlib.Core.List.{IsPrefix}
 use Rattle.lt_modes.specs.declared.command.Command.{Command}
 use Rattle.lt_modes.specs.declared.command.Command.TheVariants.{Lock, Unlock}
@@ -13,7 +13,7 @@ use Rattle.lt_merge.specs.Merging.{AreRising}
 use Rattle.lt_live.specs.declared.reply.Reply.{Reply}
 use Rattle.lt_live.specs.Seats.{replies_in}
 use Rattle.lt_live.specs.Stations.{equal_share}
-use Rattle.lt_live.specs.Words.{command_held}
+use Rattle.lt_live.specs.Words.{command_held, known_replies}
 use Rattle.lt_live_callers.specs.declared.ending.LiveEnding.TheVariants.{Done, Stuck, Unfinished}
 use Rattle.lt_live_callers.specs.declared.error.CallersError.TheVariants.{Count, Limit, NoMemory}
 use Rattle.lt_live_callers.specs.declared.served.Called.{Called}
@@ -51,17 +51,19 @@ pub record CallersEndsTold : Type 0 where
   pub unfinished_second : CallersEndSo (Unfinished 1) two_nodes_script [] → ⊥
 
 module _ {C : Type 0} (goes : C → Option Reply → Option Command → C → Type 0) where
-  -- the caller made steps; in them it was told a first part of the client's replies in the run, and what it answered
-  -- but for what was refused begins with the client's commands in the script. A command is refused only if it is one too
-  -- many, or names what it may not
+  -- the caller made steps; in them it was told a first part of the client's replies in the run, nothing only where its
+  -- session knew no reply, and what it answered but for what was refused are the client's commands in the script. A
+  -- command is refused only if it is one too many, or names what it may not
   pub record CallerTold (first script : ScriptData) (run : List Logged) (client : ℕ) (caller : C) (after : Called C)
       : Type 0 where
     pub steps : List (StepOf C)
     pub went : Went goes caller steps after.caller
     pub told : IsPrefix (replies_of steps) (replies_in client (lines_of run))
+    pub silent : (k : ℕ) (step : StepOf C) → slice_get steps k ≡ Some step → step.reply ≡ None
+        → known_replies step.session ≡ []
     pub given : List Command
     pub asked : given ++ command_held after.refused ≡ commands_of steps
-    pub begins : IsPrefix (commands_in script client) given
+    pub all : commands_in script client ≡ given
     pub refused : (command : Command) → after.refused ≡ Some command → length given < equal_share first
         → NamesOwn first client command → ⊥
 

@@ -3,6 +3,7 @@ use Rattle.std.proofs.Common.{◌≡◌, ◌≤◌, ◌+◌, ℕ, List, [], ◌�
 use Rattle.std.proofs.lemmas.Option.{slice_get-map}
 use Rattle.lt_modes.specs.declared.command.Command.{Command}
 use Rattle.lt_modes.specs.Script.{ScriptData}
+use Rattle.lt_spec.specs.NodeMove.{home}
 use Rattle.lt_mail.specs.Words.{Alike}
 use Rattle.lt_runner.specs.declared.parts.Parts.{Parts}
 use Rattle.lt_runner.specs.declared.turning.Turned.{Turned}
@@ -12,7 +13,7 @@ use Rattle.lt_threads.specs.Pushes.{HasLimit}
 use Rattle.lt_live.specs.declared.reply.Reply.{Reply}
 use Rattle.lt_live.specs.declared.ends.Session.{Session}
 use Rattle.lt_live.specs.Words.{SameSession}
-use Rattle.lt_live.specs.Stations.{StationData, StationTurns, StaySeated, runner_of, equal_share, HaveEqualShares}
+use Rattle.lt_live.specs.Stations.{StationData, StationTurns, StaySeated, runner_of}
 use Rattle.lt_live.specs.Live.{GoesOn, StationGoesOn, EachStation, EachSession, LiveLasts}
 use Rattle.lt_live.proofs.SeatLists.{alike_before, alike_self, alike_weaker}
 use Rattle.lt_live.proofs.LiveShares.{goes_join}
@@ -20,6 +21,8 @@ use Rattle.lt_live.proofs.Settling.{station_itself, turn_has_all}
 use Rattle.lt_live_callers.specs.declared.desk.Desk.{Desk}
 use Rattle.lt_live_callers.specs.Desks.{session_of, DeskGoesOn, DesksGoOn, WentByTurns, MakesTurns, StationsGoOn}
 use Rattle.lt_live_callers.specs.Served.{AreServing}
+use Rattle.lt_live_callers.specs.Taking.{NoneWaitsAt, IsAsking, AreAsking}
+use Rattle.lt_live_callers.proofs.Outboxes.{waits_turned}
 use Rattle.lt_live_callers.proofs.Places.{each_then, mapped_at}
 use Rattle.lt_live_callers.proofs.Steps.{desk_itself, desk_join, calls_go_on}
 
@@ -70,7 +73,7 @@ stations_join n m k a b c sum first second =
 pub stations_go : (n : ℕ) (stations later : List StationData) → StationsGoOn n stations later → EachStation StationGoesOn stations later
 stations_go n stations later h = alike_weaker (MakesTurns n) StationGoesOn (turns_go n) stations later h
 
-limits_last : (limit : ℕ) (stations later : List StationData) → EachStation StationGoesOn stations later → HasLimit limit (map runner_of stations) → HasLimit limit (map runner_of later)
+pub limits_last : (limit : ℕ) (stations later : List StationData) → EachStation StationGoesOn stations later → HasLimit limit (map runner_of stations) → HasLimit limit (map runner_of later)
 limits_last limit stations later on h k p here =
     let (s, there, now) = mapped_at runner_of later k p here in
     let (old, was, goes) = alike_before StationGoesOn stations later on k s there in
@@ -80,6 +83,11 @@ limits_last limit stations later on h k p here =
 passed_has_all : (a b : StationData) (left : List StationData) → WentByTurns a left b → HasAll a.runner → HasAll b.runner
 passed_has_all a b [] p had = subst (λ (s : StationData). HasAll s.runner) (sym p) had
 passed_has_all a b (s ∷ rest) p had = passed_has_all s b rest p.1 (turn_has_all p.0.turned a.runner a.seats s.runner s.seats p.0.turns had)
+
+-- and no reply comes to wait
+passed_waits : (place : ℕ) (a b : StationData) (left : List StationData) → WentByTurns a left b → NoneWaitsAt place a.seats → NoneWaitsAt place b.seats
+passed_waits place a b [] p none = subst (λ (s : StationData). NoneWaitsAt place s.seats) (sym p) none
+passed_waits place a b (s ∷ rest) p none = passed_waits place s b rest p.1 (waits_turned s.runner.log.entries a.seats s.seats p.0.turns.each place none)
 
 all_last : (n : ℕ) (stations later : List StationData) → StationsGoOn n stations later → HaveAll (map runner_of stations) → HaveAll (map runner_of later)
 all_last n stations later on had k p here =
@@ -127,13 +135,27 @@ module _ {C : Type 0} (goes : C → Option Reply → Option Command → C → Ty
     barred = λ client d here.
         let (old, was, went) = alike_before (DeskGoesOn goes n) desks after go client d here in
         went.barred (h.barred client old was);
+    names = λ client d here.
+        let (old, was, went) = alike_before (DeskGoesOn goes n) desks after go client d here in
+        went.names (h.names client old was);
+    hears = λ client d here station there.
+        let (old, was, went) = alike_before (DeskGoesOn goes n) desks after go client d here in
+        let (x, at, turned) = alike_before (MakesTurns turns) stations later on (home script client) station there in
+        subst (λ (place : ℕ). NoneWaitsAt place station.seats) (sym went.same.place)
+        (passed_waits old.session.place x station turned.left turned.passed (h.hears client old was x at));
   }
 
-  -- so all submit no more together than the text of a script may have
-  pub equal_shares : (n : ℕ) (script : ScriptData) (limit : ℕ) (callers : List C) (stations : List StationData) (desks : List (Desk C))
-      → AreServing goes n script limit callers stations desks → HaveEqualShares (map session_of desks)
-  equal_shares n script limit callers stations desks h client s here =
-      let (d, there, is) = mapped_at session_of desks client s here in
-      let own = (h.live.each client s here).script_is in
-      let share = h.shares client d there in
-      subst (λ (x : ScriptData). s.share ≤ equal_share x) (sym own) (omega (arith, share, ap (λ (t : Session). t.share) is))
+  -- the sessions of the desks ask
+  pub are_asking : (n : ℕ) (script : ScriptData) (limit : ℕ) (callers : List C) (stations : List StationData) (desks : List (Desk C))
+      → AreServing goes n script limit callers stations desks → AreAsking script stations (map session_of desks)
+  are_asking n script limit callers stations desks h = record {
+    live = h.live;
+    each = λ client s here.
+        let (d, there, is) = mapped_at session_of desks client s here in
+        subst (λ (t : Session). IsAsking script stations client t) is
+        (record {
+          share = let share = h.shares client d there in omega (arith, share);
+          names = h.names client d there;
+          hears = h.hears client d there;
+        });
+  }

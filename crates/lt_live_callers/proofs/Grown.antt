@@ -1,5 +1,5 @@
 -- The run that stations made with all moves that were left.
-use Rattle.std.proofs.Common.{◌≡◌, ◌++◌, ℕ, zero, suc, List, [], ◌∷◌, map, Some, refl, sym, ap, subst, ◌∙◌, slice_get, option_map, append_assoc}
+use Rattle.std.proofs.Common.{◌≡◌, ◌++◌, ℕ, zero, suc, List, [], ◌∷◌, map, Some, refl, sym, ap, subst, ◌∙◌, slice_get, option_map}
 use Rattle.std.proofs.lemmas.Grind.{flat_map-append}
 use Rattle.std.proofs.lemmas.List.Elements.{filter_map-append}
 use Rattle.std.proofs.lemmas.Option.{slice_get-map}
@@ -26,9 +26,11 @@ use Rattle.lt_live.specs.Seats.{replies_in, reply_to}
 use Rattle.lt_live.specs.Stations.{StationData, runner_of}
 use Rattle.lt_live.specs.Live.{AreLive, LiveScript, GoesOn, StationGoesOn, EachStation, LiveLasts, ServedBy, Settled, IsServedRun, IsRunOfAll}
 use Rattle.lt_live.proofs.Finished.{AllSettled, served_run}
-use Rattle.lt_live.proofs.SeatLists.{alike_after, alike_self}
+use Rattle.lt_live.proofs.SeatLists.{alike_after, alike_self, alike_weaker}
 use Rattle.lt_live.proofs.Settling.{session_itself}
-use Rattle.lt_live_callers.specs.Served.{StopsSo, CallersEndSo, as_live, HaveMade}
+use Rattle.lt_live_callers.specs.Served.{StopsSo, CallersEndSo, as_live, IsMadeBy}
+use Rattle.lt_live_callers.specs.Taking.{GoesFurther, HaveTakenAll, AreAllAppended}
+use Rattle.lt_live_callers.proofs.Steps.{prefix_same, prefix_join}
 
 -- A session of which the lines went on.
 
@@ -38,9 +40,6 @@ replies_grew client log later h = (
   sym (filter_map-append (reply_to client) (lines_of log) (lines_of h.0))
       ∙ ap (replies_in client) (sym (flat_map-append (λ (entry : Logged). entry.events) log h.0) ∙ ap lines_of h.1),
 )
-
-prefix_join : {X : Type 0} (xs ys zs : List X) → IsPrefix xs ys → IsPrefix ys zs → IsPrefix xs zs
-prefix_join xs ys zs h g = (h.0 ++ g.0, sym (append_assoc xs h.0 g.0) ∙ ap (λ list. list ++ g.0) h.1 ∙ g.1)
 
 served_on : (a b : Parts) (client : ℕ) (s : Session) → Grew a b → ServedBy a client s → ServedBy b client s
 served_on a b client s grew h = record {
@@ -58,6 +57,13 @@ goes_of_grew a b grew = record {
   me = grew.same.me;
   limit = grew.same.limit;
   ends = grew.same.ends;
+}
+
+further_of_grew : (a b : Parts) → Grew a b → GoesFurther a b
+further_of_grew a b grew = record {
+  goes = goes_of_grew a b grew;
+  log = grew.log;
+  commands = prefix_same a.node.script.commands b.node.script.commands (ap (λ (s : ScriptData). s.commands) grew.same.script);
 }
 
 abbrev with_runners : List StationData → List Parts → List StationData
@@ -155,9 +161,24 @@ module _ (stations later : List StationData) (sessions after : List Session) (rs
       (limits_last limit rs last moved.grew (subst (λ (ps : List Parts). HasLimit limit ps) (sym (taken ∙ same)) limits))
       finished merges moved.ends
 
-  pub have_made : map runner_of later ≡ map runner_of stations → HaveMade stations run
-  have_made same k station here =
-      let there : slice_get rs k ≡ Some station.runner =
-      ap (λ (ps : List Parts). slice_get ps k) (taken ∙ same) ∙ slice_get-map runner_of stations k ∙ ap (option_map runner_of) here in
-      let (p, now, on) = alike_after Grew rs last moved.grew k station.runner there in
-      subst (λ (log : List Logged). IsPrefix station.runner.log.entries log) (sym (finished.moves run merges k p now)) on.log
+  -- the run is made by the stations
+  pub made_by : map runner_of later ≡ map runner_of stations → IsMadeBy stations made run
+  made_by same = record {
+    last = last;
+    on = alike_weaker Grew GoesFurther further_of_grew (map runner_of stations) last
+        (subst (λ (ps : List Parts). EachIs Grew ps last) (taken ∙ same) moved.grew);
+    all = shared;
+  }
+
+  -- of sessions all of whose commands were taken, all are in the script
+  pub all_commands : (script : ScriptData) → AreLive script stations sessions → HaveTakenAll script stations sessions → AreAllAppended made sessions
+  all_commands script live had client s here =
+      let is = live.each client s here in
+      let k = home script client in
+      let there : slice_get (map runner_of stations) k ≡ Some is.station.runner = slice_get-map runner_of stations k ∙ ap (option_map runner_of) is.here in
+      let (p, now, on) = alike_after Grew (map runner_of later) last grew k is.station.runner
+      (ap (λ (ps : List Parts). slice_get ps k) (all_settled script live).runners ∙ there) in
+      let own = on.same.script ∙ (live.runners.each k is.station.runner there).script_is in
+      (moved.crew.each k p now).script_is.own client (ap (λ (x : ScriptData). home x client) own)
+      ∙ ap (λ (x : ScriptData). commands_of x client) on.same.script
+      ∙ had client s here is.station is.here

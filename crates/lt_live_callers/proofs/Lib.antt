@@ -4,3 +4,11 @@ pub mod Asked
 pub mod GoingOn
 pub mod Made
 pub mod Grown
+pub mod Outboxes
+pub mod Lasting
+pub mod Looked
+pub mod Turned
+pub mod Missing
+pub mod Beside
+pub mod Stepped
+pub mod Taken

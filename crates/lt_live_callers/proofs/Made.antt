@@ -3,11 +3,14 @@ use Rattle.std.proofs.Common.{◌≡◌, ℕ, zero, suc, Bool, List, [], ◌∷�
 use Rattle.std.proofs.lemmas.Option.{same_Some, slice_get-map}
 use Rattle.lt_modes.specs.declared.command.Command.{Command}
 use Rattle.lt_modes.specs.Script.{ScriptData}
+use Rattle.lt_spec.specs.NodeMove.{home}
 use Rattle.lt_live.specs.declared.reply.Reply.{Reply}
+use Rattle.lt_live.specs.declared.ends.Seat.{Seat}
 use Rattle.lt_live.specs.declared.ends.Session.{Session}
-use Rattle.lt_live.specs.Words.{submitted, command_held, places}
+use Rattle.lt_live.specs.Words.{submitted, outbox_replies, command_held, places}
 use Rattle.lt_live.specs.Stations.{StationData, IsOpen, equal_share}
 use Rattle.lt_live.specs.Live.{AreLive, IsSessionOf, OpenedAreLive}
+use Rattle.lt_live.proofs.SeatLists.{none_here}
 use Rattle.lt_live_callers.specs.declared.desk.Desk.{Desk}
 use Rattle.lt_live_callers.specs.declared.served.Called.{Called}
 use Rattle.lt_live_callers.specs.declared.served.Served.{Served}
@@ -15,7 +18,8 @@ use Rattle.lt_live_callers.specs.Refused.{NamesOwn, CanSubmit, MayCommand}
 use Rattle.lt_live_callers.specs.Desks.{caller_of, called_of, session_of, StationsGoOn}
 use Rattle.lt_live_callers.specs.Over.{MadeRounds}
 use Rattle.lt_live_callers.specs.Served.{CallsIn, NoneRefused, AreDesks, AreServing, AreEnded, IsServedBy, IsServedIn, WereOpened, AreServed}
-use Rattle.lt_live_callers.proofs.Steps.{no_steps}
+use Rattle.lt_live_callers.proofs.Steps.{no_steps, knows_same}
+use Rattle.lt_live_callers.proofs.Taken.{have_made}
 
 -- of a session whose ring has a place for each command of its share, a command that has no room might not be submitted
 barred : (script : ScriptData) (stations : List StationData) (client : ℕ) (s : Session) → IsSessionOf script stations client s → s.share ≡ equal_share script → s.share ≤ places s
@@ -74,6 +78,9 @@ module _ {C : Type 0} where
             steps = [];
             went = refl;
             told = new.replies.0;
+            first = d.session;
+            fresh = new.replies;
+            heard = knows_same d.session d.session refl;
             asked = ap (λ (o : Option Command). submitted d.session ++ command_held o) (free_at desks client d here are.free) ∙ append-nil (submitted d.session) ∙ new.commands;
           },
           no_steps 0 d.refused [] (free_at desks client d here are.free) refl,
@@ -86,6 +93,16 @@ module _ {C : Type 0} where
     barred = λ client d here back is.
         let none = free_at desks client d here are.free in
         absurd (cc);
+    names = λ client d here k command at.
+        let new = (opened.each client d.session (session_there callers sessions desks client d are here)).0 in
+        none_here k command (ap (λ (list : List Command). slice_get list k) (sym new.commands) ∙ at);
+    hears = λ client d here station there seat at.
+        let both = opened.each client d.session (session_there callers sessions desks client d are here) in
+        let is : both.1.station ≡ station = same_Some both.1.station station
+        (sym both.1.here ∙ ap (λ (c : ℕ). slice_get stations (home script c)) both.0.client_is ∙ there) in
+        let same : both.1.seated.seat ≡ seat = same_Some both.1.seated.seat seat
+        (sym both.1.seated.here ∙ ap (λ (x : StationData). slice_get x.seats d.session.place) is ∙ at) in
+        subst (λ (x : Seat). outbox_replies x ≡ []) same both.1.waits;
   }
 
   module _ (goes : C → Option Reply → Option Command → C → Type 0) (n : ℕ) (script : ScriptData) (limit : ℕ) (callers : List C) (stations : List StationData)
@@ -122,6 +139,7 @@ module _ {C : Type 0} where
       count = serving.live.count;
       serves = ended.serves;
       few_commands = ended.few_commands;
+      all = ended.all;
       ends = ended.ends;
       each = λ client s here. (calls_so client s here).0;
       refused = λ client s called here there.
@@ -143,7 +161,7 @@ module _ {C : Type 0} where
         called = served_in goes (times made) script limit callers stations desks served serving ended;
         worked = subst (λ (k : ℕ). MadeRounds says rounds k served.callers.items) (sym same)
             (subst (λ (xs : List (Called C)). MadeRounds says rounds made xs) ended.callers worked);
-        turned = record { opened = opened; turned = stations; fresh = fresh; passed = turns; made = ended.made };
+        turned = record { opened = opened; turned = stations; fresh = fresh; passed = turns; made = have_made stations served.script served.run.entries ended.made; whole = ended.made };
         within = ended.within;
         far = ended.far;
       })

@@ -1,13 +1,17 @@
 -- One step and the next.
-use Rattle.std.proofs.Common.{◌≡◌, ℕ, ◌+◌, Bool, true, false, true≢false, rules, arith, List, [], ◌∷◌, ◌++◌, length, Option, Some, None, refl, sym, ap, subst, ◌∙◌, is_some, append-nil, append_assoc, length-append}
+use Rattle.std.proofs.Common.{◌≡◌, ℕ, ◌+◌, Bool, true, false, true≢false, rules, arith, inl, inr, slice_get, List, [], ◌∷◌, ◌++◌, length, Option, Some, None, refl, sym, ap, subst, ◌∙◌, is_some, append-nil, append_assoc, length-append}
+use mathlib.Core.List.{IsPrefix}
 use Rattle.lt_modes.specs.declared.command.Command.{Command}
+use Rattle.lt_modes.specs.Script.{ScriptData}
+use Rattle.lt_spec.specs.Script.{HasTargets, HasModesOf}
 use Rattle.lt_live.specs.declared.reply.Reply.{Reply}
 use Rattle.lt_live.specs.declared.ends.Session.{Session}
 use Rattle.lt_live.specs.Words.{submitted, polled, known_replies, command_held, SameSession}
+use Rattle.lt_live.proofs.SeatLists.{pushed}
 use Rattle.lt_live.proofs.Settling.{session_itself, same_sessions}
 use Rattle.lt_live_callers.specs.declared.desk.Desk.{Desk}
-use Rattle.lt_live_callers.specs.Desks.{told, HearsAtDesk, SubmitsAtDesk, StepOf, Went, replies_of, commands_of, called_of, LastAnswers, AreSteps, DeskGoesOn, IsAsked}
-use Rattle.lt_live_callers.specs.Refused.{CanSubmit}
+use Rattle.lt_live_callers.specs.Desks.{told, HearsAtDesk, SubmitsAtDesk, KnowsMore, StepOf, HearsInStep, Heard, Went, replies_of, commands_of, called_of, LastAnswers, AreSteps, DeskGoesOn, IsAsked}
+use Rattle.lt_live_callers.specs.Refused.{NamesOwn, NamesAll, CanSubmit}
 use Rattle.lt_live_callers.specs.Served.{CallsIn}
 
 pub nothing : (o : Option Command) → false ≡ is_some o → o ≡ None
@@ -16,11 +20,73 @@ nothing (Some command) is = search rules
 
 pub heard_none : (old new : Session) → SameSession old new → polled new ≡ polled old → submitted new ≡ submitted old → known_replies old ≡ []
     → HearsAtDesk None old new
-heard_none old new same p s none = record { same = same; polled = p ∙ sym (append-nil (polled old)); submitted = s; none = λ _. none }
+heard_none old new same p s none = record {
+  same = same;
+  polled = p ∙ sym (append-nil (polled old));
+  submitted = s;
+  known = subst (λ (list : List Reply). IsPrefix list (known_replies new)) (sym none) (known_replies new, refl);
+  none = λ _. none;
+}
 
 pub heard_some : (reply : Reply) (old new : Session) → SameSession old new → polled new ≡ polled old ++ reply ∷ [] → submitted new ≡ submitted old
-    → HearsAtDesk (Some reply) old new
-heard_some reply old new same p s = record { same = same; polled = p; submitted = s; none = λ is. absurd (cc) }
+    → IsPrefix (known_replies old) (reply ∷ known_replies new) → HearsAtDesk (Some reply) old new
+heard_some reply old new same p s known = record { same = same; polled = p; submitted = s; known = known; none = λ is. absurd (cc) }
+
+-- What was submitted names what it may.
+
+names_as : (a b : Session) (command : Command) → SameSession a b → NamesOwn a.script a.client command → NamesOwn b.script b.client command
+names_as a b command same names =
+    subst (λ (first : ScriptData). NamesOwn first b.client command) (sym same.script)
+    (subst (λ (c : ℕ). NamesOwn a.script c command) (sym same.client) names)
+
+pub names_same : (a b : Session) → SameSession a b → submitted b ≡ submitted a → NamesAll a → NamesAll b
+names_same a b same none all k command here =
+    names_as a b command same (all k command (ap (λ (list : List Command). slice_get list k) (sym none) ∙ here))
+
+pub names_more : (a b : Session) (command : Command) → SameSession a b → submitted b ≡ submitted a ++ command ∷ []
+    → HasTargets a.script.sets a.script.clients a.client command → HasModesOf a.script.version command → NamesAll a → NamesAll b
+names_more a b command same more targets modes all k other here =
+    elim (pushed (submitted a) command k other (ap (λ (list : List Command). slice_get list k) (sym more) ∙ here)) [
+      | inl old ↦ names_as a b other same (all k other old)
+      | inr new ↦ names_as a b other same (subst (λ (c : Command). NamesOwn a.script a.client c) new.1 (record { targets = targets; modes = modes }))
+    ]
+
+-- What was known.
+
+pub prefix_same : {X : Type 0} (xs ys : List X) → ys ≡ xs → IsPrefix xs ys
+prefix_same xs ys same = ([], append-nil xs ∙ sym same)
+
+pub prefix_join : {X : Type 0} (xs ys zs : List X) → IsPrefix xs ys → IsPrefix ys zs → IsPrefix xs zs
+prefix_join xs ys zs h g = (h.0 ++ g.0, sym (append_assoc xs h.0 g.0) ∙ ap (λ list. list ++ g.0) h.1 ∙ g.1)
+
+pub knows_same : (a b : Session) → b ≡ a → KnowsMore a b
+knows_same a b same = subst (λ (s : Session). KnowsMore a s) (sym same)
+    (record { same = session_itself a; polled = refl; known = prefix_same (known_replies a) (known_replies a) refl })
+
+knows_join : (a b c : Session) → KnowsMore a b → KnowsMore b c → KnowsMore a c
+knows_join a b c first second = record {
+  same = same_sessions a b c first.same second.same;
+  polled = second.polled ∙ first.polled;
+  known = prefix_join (known_replies a) (known_replies b) (known_replies c) first.known second.known;
+}
+
+module _ {C : Type 0} where
+  knows_then : (a b c : Session) (steps : List (StepOf C)) → KnowsMore a b → Heard b steps c → Heard a steps c
+  knows_then a b c [] first second = knows_join a b c first second
+  knows_then a b c (s ∷ rest) first second = (knows_join a b s.session first second.0, second.1, second.2)
+
+  heard_on : (a b c : Session) (xs ys : List (StepOf C)) → Heard a xs b → Heard b ys c → Heard a (xs ++ ys) c
+  heard_on a b c [] ys first second = knows_then a b c ys first second
+  heard_on a b c (x ∷ xs) ys first second = (first.0, first.1, heard_on x.later b c xs ys first.2 second)
+
+  -- the reply of one step, and then its command
+  hears_one : (s : StepOf C) (mid : Session) (o : Option Command) → HearsAtDesk s.reply s.session mid → SubmitsAtDesk s.command o mid s.later → HearsInStep s
+  hears_one s mid o hears submits = record {
+    same = same_sessions s.session mid s.later hears.same submits.same;
+    polled = submits.replies.0 ∙ hears.polled;
+    known = subst (λ (list : List Reply). IsPrefix (known_replies s.session) (told s.reply ++ list)) (sym submits.replies.1) hears.known;
+    none = hears.none;
+  }
 
 -- How many steps were made.
 
@@ -71,12 +137,14 @@ module _ {C : Type 0} (goes : C → Option Reply → Option Command → C → Ty
     steps = [];
     went = caller;
     told = ap polled session ∙ sym (append-nil (polled a.session));
+    heard = knows_same a.session b.session session;
     asked = ap (λ (s : Session). submitted s ++ command_held b.refused) session
         ∙ ap (λ (o : Option Command). submitted a.session ++ command_held o) refused
         ∙ sym (append-nil (submitted a.session ++ command_held a.refused));
     many = λ free. no_steps n b.refused [] (refused ∙ free) (sym (none free));
     over = λ command was. (refl, refused ∙ was);
     barred = λ h back is can. h back (sym refused ∙ is) (subst (λ (s : Session). CanSubmit s back) session can);
+    names = λ h. subst (λ (s : Session). NamesAll s) (sym session) h;
   }
 
   pub desk_itself : (a : Desk C) → DeskGoesOn goes 0 a a
@@ -91,19 +159,22 @@ module _ {C : Type 0} (goes : C → Option Reply → Option Command → C → Ty
 
   pub one_step : (a b : Desk C) (reply : Option Reply) (command : Option Command) (mid : Session) → a.refused ≡ None
       → HearsAtDesk reply a.session mid → goes a.caller reply command b.caller → SubmitsAtDesk command b.refused mid b.session → DeskGoesOn goes 1 a b
-  one_step a b reply command mid free hears did submits = record {
-    same = same_sessions a.session mid b.session hears.same submits.same;
-    steps = record { reply = reply; command = command; after = b.caller } ∷ [];
-    went = (did, refl);
-    told = submits.polled ∙ hears.polled ∙ sym (ap (λ (rest : List Reply). polled a.session ++ rest) (append-nil (told reply)));
-    asked = submits.submitted ∙ ap (λ (xs : List Command). xs ++ command_held command) hears.submitted
-        ∙ sym (ap (λ (xs : List Command). xs ++ command_held command)
-        (ap (λ (o : Option Command). submitted a.session ++ command_held o) free ∙ append-nil (submitted a.session)))
-        ∙ sym (ap (λ (rest : List Command). (submitted a.session ++ command_held a.refused) ++ rest) (append-nil (command_held command)));
-    many = λ none. one_more {C = C} (record { reply = reply; command = command; after = b.caller }) b.refused submits.back;
-    over = λ held was. absurd (cc (free, was));
-    barred = λ _. submits.barred;
-  }
+  one_step a b reply command mid free hears did submits =
+      let the_step : StepOf C = record { session = a.session; reply = reply; command = command; after = b.caller; later = b.session } in record {
+        same = same_sessions a.session mid b.session hears.same submits.same;
+        steps = the_step ∷ [];
+        went = (did, refl);
+        heard = (knows_same a.session a.session refl, hears_one the_step mid b.refused hears submits, knows_same b.session b.session refl);
+        told = submits.replies.0 ∙ hears.polled ∙ sym (ap (λ (rest : List Reply). polled a.session ++ rest) (append-nil (told reply)));
+        asked = submits.submitted ∙ ap (λ (xs : List Command). xs ++ command_held command) hears.submitted
+            ∙ sym (ap (λ (xs : List Command). xs ++ command_held command)
+            (ap (λ (o : Option Command). submitted a.session ++ command_held o) free ∙ append-nil (submitted a.session)))
+            ∙ sym (ap (λ (rest : List Command). (submitted a.session ++ command_held a.refused) ++ rest) (append-nil (command_held command)));
+        many = λ none. one_more {C = C} the_step b.refused submits.back;
+        over = λ held was. absurd (cc (free, was));
+        barred = λ _. submits.barred;
+        names = λ all. submits.names (names_same a.session mid hears.same hears.submitted all);
+      }
 
   went_on : (a b c : C) (xs ys : List (StepOf C)) → Went goes a xs b → Went goes b ys c → Went goes a (xs ++ ys) c
   went_on a b c [] ys first second = subst (λ (x : C). Went goes x ys c) first second
@@ -125,6 +196,7 @@ module _ {C : Type 0} (goes : C → Option Reply → Option Command → C → Ty
     told = second.told ∙ ap (λ (xs : List Reply). xs ++ replies_of second.steps) first.told
         ∙ append_assoc (polled a.session) (replies_of first.steps) (replies_of second.steps)
         ∙ sym (ap (λ (rest : List Reply). polled a.session ++ rest) (replies_append first.steps second.steps));
+    heard = heard_on a.session b.session c.session first.steps second.steps first.heard second.heard;
     asked = second.asked ∙ ap (λ (xs : List Command). xs ++ commands_of second.steps) first.asked
         ∙ append_assoc (submitted a.session ++ command_held a.refused) (commands_of first.steps) (commands_of second.steps)
         ∙ sym (ap (λ (rest : List Command). (submitted a.session ++ command_held a.refused) ++ rest) (commands_append first.steps second.steps));
@@ -134,6 +206,7 @@ module _ {C : Type 0} (goes : C → Option Reply → Option Command → C → Ty
         let after = second.over command before.1 in
         (ap (λ (xs : List (StepOf C)). xs ++ second.steps) before.0 ∙ after.0, after.1);
     barred = λ h. second.barred (first.barred h);
+    names = λ h. second.names (first.names h);
   }
 
   -- who called went on calling
@@ -144,6 +217,9 @@ module _ {C : Type 0} (goes : C → Option Reply → Option Command → C → Ty
     record {
       steps = calls.steps ++ second.steps;
       went = went_on a b.caller c.caller calls.steps second.steps calls.went second.went;
+      first = calls.first;
+      fresh = calls.fresh;
+      heard = heard_on calls.first b.session c.session calls.steps second.steps calls.heard second.heard;
       told = second.told ∙ ap (λ (xs : List Reply). xs ++ replies_of second.steps) calls.told ∙ sym (replies_append calls.steps second.steps);
       asked = second.asked ∙ ap (λ (xs : List Command). xs ++ commands_of second.steps) calls.asked ∙ sym (commands_append calls.steps second.steps);
     },

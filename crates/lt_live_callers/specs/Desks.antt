@@ -1,5 +1,6 @@
 -- What callers do at their desks.
 use Rattle.std.specs.Prelude.{◌≡◌, ◌≤◌, ℕ, Bool, List, [], ◌∷◌, ◌++◌, Option, Some, None, length}
+use mathlib.Core.List.{IsPrefix}
 use Rattle.lt_modes.specs.declared.command.Command.{Command}
 use Rattle.lt_runner.specs.declared.turning.Turned.{Turned}
 use Rattle.lt_live.specs.declared.reply.Reply.{Reply}
@@ -10,7 +11,7 @@ use Rattle.lt_live.specs.Live.{StationGoesOn}
 use Rattle.lt_live_callers.specs.declared.desk.Desk.{Desk}
 use Rattle.lt_live_callers.specs.declared.served.Called.{Called}
 use Rattle.lt_live_callers.specs.Places.{Each}
-use Rattle.lt_live_callers.specs.Refused.{CanSubmit}
+use Rattle.lt_live_callers.specs.Refused.{CanSubmit, NamesAll}
 
 abbrev pub told : Option Reply → List Reply
 told None = []
@@ -21,21 +22,31 @@ pub record HearsAtDesk (result : Option Reply) (old new : Session) : Type 0 wher
   pub same : SameSession old new
   pub polled : polled new ≡ polled old ++ told result
   pub submitted : submitted new ≡ submitted old
+  pub known : IsPrefix (known_replies old) (told result ++ known_replies new)
   pub none : result ≡ None → known_replies old ≡ []
 
 -- the command, if there is one, was submitted, or comes back since it might not be
 pub record SubmitsAtDesk (command result : Option Command) (old new : Session) : Type 0 where
   pub same : SameSession old new
-  pub polled : polled new ≡ polled old
+  pub replies : (polled new ≡ polled old) × (known_replies new ≡ known_replies old)
   pub submitted : submitted new ++ command_held result ≡ submitted old ++ command_held command
+  pub names : NamesAll old → NamesAll new
   pub back : (held : Command) → result ≡ Some held → command ≡ Some held
   pub barred : (held : Command) → result ≡ Some held → ¬ CanSubmit new held
 
--- one step of a caller: what it was told, what it answered, and the caller after it
+-- the same session, of which more replies may be known
+pub record KnowsMore (s t : Session) : Type 0 where
+  pub same : SameSession s t
+  pub polled : polled t ≡ polled s
+  pub known : IsPrefix (known_replies s) (known_replies t)
+
+-- one step of a caller: its session, what the caller was told, what it answered, and both after it
 pub record StepOf (C : Type 0) : Type 0 where
+  pub session : Session
   pub reply : Option Reply
   pub command : Option Command
   pub after : C
+  pub later : Session
 
 module _ {C : Type 0} where
   -- the second caller is what these steps made of the first
@@ -50,6 +61,18 @@ module _ {C : Type 0} where
   abbrev pub commands_of : List (StepOf C) → List Command
   commands_of [] = []
   commands_of (s ∷ rest) = command_held s.command ++ commands_of rest
+
+  -- the caller was told the next reply that its session knew; nothing only where it knew none
+  pub record HearsInStep (s : StepOf C) : Type 0 where
+    pub same : SameSession s.session s.later
+    pub polled : polled s.later ≡ polled s.session ++ told s.reply
+    pub known : IsPrefix (known_replies s.session) (told s.reply ++ known_replies s.later)
+    pub none : s.reply ≡ None → known_replies s.session ≡ []
+
+  -- from the first session to the second one, in each of these steps the caller was told what its session knew
+  abbrev pub Heard : Session → List (StepOf C) → Session → Type 0
+  Heard first [] last = KnowsMore first last
+  Heard first (s ∷ rest) last = KnowsMore first s.session × HearsInStep s × Heard s.later rest last
 
   abbrev pub session_of : Desk C → Session
   session_of desk = desk.session
@@ -77,18 +100,20 @@ module _ {C : Type 0} where
   AreSteps n None steps = length steps ≡ n
   AreSteps n (Some command) steps = (length steps ≤ n) × LastAnswers command steps
 
-  -- the caller made so many steps, none if a command was refused before: it was told what was polled in them, and
-  -- what it answered was submitted but for what was refused
+  -- the caller made so many steps, none if a command was refused before: it was told what was polled in them, which is
+  -- each reply that was known, and what it answered was submitted but for what was refused
   pub record DeskGoesOn (goes : C → Option Reply → Option Command → C → Type 0) (n : ℕ) (a b : Desk C) : Type 0 where
     pub same : SameSession a.session b.session
     pub steps : List (StepOf C)
     pub went : Went goes a.caller steps b.caller
     pub told : polled b.session ≡ polled a.session ++ replies_of steps
+    pub heard : Heard a.session steps b.session
     pub asked : submitted b.session ++ command_held b.refused
         ≡ (submitted a.session ++ command_held a.refused) ++ commands_of steps
     pub many : a.refused ≡ None → AreSteps n b.refused steps
     pub over : (command : Command) → a.refused ≡ Some command → (steps ≡ []) × (b.refused ≡ Some command)
     pub barred : IsBarred a → IsBarred b
+    pub names : NamesAll a.session → NamesAll b.session
 
   abbrev pub DesksGoOn : (C → Option Reply → Option Command → C → Type 0) → ℕ → List (Desk C) → List (Desk C) → Type 0
   DesksGoOn goes n old new = Each (DeskGoesOn goes n) old new

@@ -1,5 +1,5 @@
 -- Why a command is refused.
-use Rattle.std.specs.Prelude.{◌<◌, ℕ, length}
+use Rattle.std.specs.Prelude.{◌≡◌, ◌<◌, ℕ, Some, length, slice_get}
 use Rattle.lt_modes.specs.Script.{ScriptData}
 use Rattle.lt_modes.specs.declared.command.Command.{Command}
 use Rattle.lt_spec.specs.Script.{HasTargets, HasModesOf}
@@ -11,6 +11,10 @@ use Rattle.lt_live.specs.Stations.{equal_share}
 pub record NamesOwn (script : ScriptData) (client : ℕ) (command : Command) : Type 0 where
   pub targets : HasTargets script.sets script.clients client command
   pub modes : HasModesOf script.version command
+
+-- so does each command that was submitted
+abbrev pub NamesAll : Session → Type 0
+NamesAll s = (k : ℕ) (command : Command) → slice_get (submitted s) k ≡ Some command → NamesOwn s.script s.client command
 
 -- the session has not submitted all that it may, its ring has a place, and the command names what it may
 pub record CanSubmit (s : Session) (command : Command) : Type 0 where

@@ -10,22 +10,25 @@ use Rattle.lt_spec.specs.declared.ending.Ending.{Ending}
 use Rattle.lt_spec.specs.declared.ending.Ending.TheVariants as endings
 use Rattle.lt_script.specs.Printing.{print_of}
 use Rattle.lt_journal.specs.RunLines.{text_of}
+use Rattle.lt_runner.specs.declared.parts.Parts.{Parts}
+use Rattle.lt_runner.specs.Kept.{Grew}
 use Rattle.lt_threads.specs.Pushes.{HasLimit}
-use Rattle.lt_threads.specs.Meeting.{IsLeastEnabled, HaveAll}
+use Rattle.lt_threads.specs.Meeting.{EachIs, SomeCouldMove, IsLeastEnabled, HaveAll}
 use Rattle.lt_threads.specs.Threads.{StaysWithin, GoesFar}
 use Rattle.lt_live.specs.declared.reply.Reply.{Reply}
 use Rattle.lt_live.specs.declared.ends.Session.{Session}
-use Rattle.lt_live.specs.Words.{submitted, polled, command_held, places}
-use Rattle.lt_live.specs.Live.{IsServedRun, AreLive}
+use Rattle.lt_live.specs.Words.{submitted, polled, known_replies, command_held, places}
+use Rattle.lt_live.specs.Live.{IsServedRun, AreLive, IsRunOfAll}
 use Rattle.lt_live.specs.Stations.{StationData, IsOpen, equal_share, runner_of}
 use Rattle.lt_live_callers.specs.declared.ending.LiveEnding.{LiveEnding}
 use Rattle.lt_live_callers.specs.declared.ending.LiveEnding.TheVariants.{Done, Stuck, Unfinished}
 use Rattle.lt_live_callers.specs.declared.desk.Desk.{Desk}
 use Rattle.lt_live_callers.specs.declared.served.Called.{Called}
 use Rattle.lt_live_callers.specs.declared.served.Served.{Served}
-use Rattle.lt_live_callers.specs.Desks.{StepOf, Went, AreSteps, replies_of, commands_of, caller_of, called_of, session_of, IsBarred, StationsGoOn}
+use Rattle.lt_live_callers.specs.Desks.{StepOf, Went, Heard, AreSteps, replies_of, commands_of, caller_of, called_of, session_of, IsBarred, StationsGoOn}
 use Rattle.lt_live_callers.specs.Over.{MadeRounds}
-use Rattle.lt_live_callers.specs.Refused.{MayCommand}
+use Rattle.lt_live_callers.specs.Refused.{MayCommand, NamesAll}
+use Rattle.lt_live_callers.specs.Taking.{GoesFurther, HearsAll, AreAllAppended}
 
 -- a node may make no move, or more than it ever may
 abbrev pub IsNoLimit : ℕ → Type 0
@@ -50,6 +53,10 @@ as_live endings.Done = Done
 as_live endings.Stuck = Stuck
 as_live (endings.Cut node) = Unfinished node
 
+-- runners went on to where one could make a move
+abbrev pub WantsMemory : List Parts → Type 0
+WantsMemory rs = (between : List Parts) × EachIs Grew rs between × SomeCouldMove between
+
 -- the text of a script, the line `journal`, and the text of a run of it at rest
 abbrev pub with_journal : ScriptData → List Logged → List ℕ
 with_journal script run = print_of script ++ codes "journal\n" ++ text_of script run None
@@ -66,14 +73,23 @@ abbrev pub HaveMade : List StationData → List Logged → Type 0
 HaveMade stations run = (node : ℕ) (station : StationData) → slice_get stations node ≡ Some station
     → IsPrefix station.runner.log.entries (filter (is_of_node node) run)
 
+-- runners went on from those of the stations; the run is all their moves, by the script with all commands that they
+-- were given
+pub record IsMadeBy (stations : List StationData) (script : ScriptData) (run : List Logged) : Type 0 where
+  pub last : List Parts
+  pub on : EachIs GoesFurther (map runner_of stations) last
+  pub all : IsRunOfAll last script run
+
 -- stations were opened for the script, each of them made so many turns or more, and the moves that they made in them
--- are in the run
-pub record ComesOfTurns (first : ScriptData) (limit turns : ℕ) (run : List Logged) : Type 0 where
+-- are in the run, which is made by them
+pub record ComesOfTurns (first : ScriptData) (limit turns : ℕ) (script : ScriptData) (run : List Logged)
+    : Type 0 where
   pub opened : List StationData
   pub turned : List StationData
   pub fresh : WereOpened first limit opened
   pub passed : StationsGoOn turns opened turned
   pub made : HaveMade turned run
+  pub whole : IsMadeBy turned script run
 
 -- What callers made of it.
 
@@ -85,6 +101,10 @@ module _ {C : Type 0} where
     pub steps : List (StepOf C)
     pub went : Went goes a steps b.caller
     pub told : polled s ≡ replies_of steps
+    -- its session, as it was opened, knew no reply, and whatever it knew later the caller was told in its next step
+    pub first : Session
+    pub fresh : (polled first ≡ []) × (known_replies first ≡ [])
+    pub heard : Heard first steps s
     pub asked : submitted s ++ command_held b.refused ≡ commands_of steps
 
   abbrev pub CallsAt : (C → Option Reply → Option Command → C → Type 0) → Option C → Session → Option (Called C)
@@ -108,6 +128,8 @@ module _ {C : Type 0} where
     pub count : length sessions ≡ length first.clients
     pub serves : IsServedRun first sessions served.script served.run.entries
     pub few_commands : length served.script.commands ≤ MAX_COMMANDS
+    -- in it are all commands that were submitted
+    pub all : AreAllAppended served.script sessions
     pub ends : CallersEndSo served.ending served.script served.run.entries
     pub each : (client : ℕ) (s : Session) → slice_get sessions client ≡ Some s
         → CallsAt goes (slice_get callers client) s (slice_get served.callers.items client)
@@ -130,7 +152,7 @@ module _ {C : Type 0} where
       (served : Served C) : Type 0 where
     pub called : IsServedIn goes n first callers served
     pub worked : MadeRounds says rounds served.rounds served.callers.items
-    pub turned : ComesOfTurns first limit n served.run.entries
+    pub turned : ComesOfTurns first limit n served.script served.run.entries
     pub within : StaysWithin limit served.script served.run.entries
     pub far : GoesFar limit served.script served.run.entries
 
@@ -151,8 +173,8 @@ module _ {C : Type 0} where
     pub free : NoneRefused desks
 
   -- the stations and the sessions are those of the script, no station has forgotten anything, each caller called by the
-  -- session at its place, which has an equal share and whose ring has a place for each command that it may submit, and what
-  -- was refused might not be submitted
+  -- session at its place, which has an equal share and whose ring has a place for each command that it may submit, what
+  -- was refused might not be submitted, what was submitted names what it may, and no reply waits
   pub record AreServing (goes : C → Option Reply → Option Command → C → Type 0)
       (n : ℕ) (script : ScriptData) (limit : ℕ) (callers : List C)
       (stations : List StationData) (desks : List (Desk C)) : Type 0 where
@@ -164,6 +186,8 @@ module _ {C : Type 0} where
     pub shares : (client : ℕ) (d : Desk C) → slice_get desks client ≡ Some d → d.session.share ≡ equal_share script
     pub roomy : (client : ℕ) (d : Desk C) → slice_get desks client ≡ Some d → d.session.share ≤ places d.session
     pub barred : (client : ℕ) (d : Desk C) → slice_get desks client ≡ Some d → IsBarred d
+    pub names : (client : ℕ) (d : Desk C) → slice_get desks client ≡ Some d → NamesAll d.session
+    pub hears : (client : ℕ) (d : Desk C) → slice_get desks client ≡ Some d → HearsAll script stations client d.session
 
   -- the run that serves the sessions of these desks, how it ended, and their callers
   pub record AreEnded (script : ScriptData) (limit : ℕ) (stations : List StationData) (desks : List (Desk C))
@@ -173,5 +197,6 @@ module _ {C : Type 0} where
     pub ends : CallersEndSo served.ending served.script served.run.entries
     pub within : StaysWithin limit served.script served.run.entries
     pub far : GoesFar limit served.script served.run.entries
-    pub made : HaveMade stations served.run.entries
+    pub all : AreAllAppended served.script (map session_of desks)
+    pub made : IsMadeBy stations served.script served.run.entries
     pub callers : map called_of desks ≡ served.callers.items

@@ -12,6 +12,7 @@ mod opening;
 mod resting;
 mod served;
 mod serving;
+mod taking;
 mod turning;
 
 pub use caller::Caller;

@@ -1,8 +1,9 @@
 // The moves that are left when callers have ended.
-ghost use Rattle.std.specs.Prelude.{◌<◌, length, IfOk};
+ghost use Rattle.std.specs.Prelude.{◌<◌, length, IfOk, IfErr};
 ghost use Rattle.lt_runner.specs.Kept.{Grew, AsSeen};
-ghost use Rattle.lt_threads.specs.Meeting.{EachIs, IsCrew, RoundsEnd};
+ghost use Rattle.lt_threads.specs.Meeting.{EachIs, SomeCouldMove, IsCrew, RoundsEnd};
 ghost use Rattle.lt_threads.specs.Pushes.{OnePushed, PushedAt, CanPush, PushEnds, CrewEnds, MovedOn};
+ghost use Rattle.lt_live_callers.specs.Served.{WantsMemory};
 
 use lt_runner::{Open, Runner, Turned};
 use lt_script::Script;
@@ -13,7 +14,8 @@ use std::alloc::AllocError;
 /// Lets the runners make all moves that there are, until none is, or none that a node may make.
 pub(crate) fn move_on(script: &Script, runners: &mut Vec<Runner>) -> Result<Ending, AllocError>
     requires { IsCrew script.now runners.old.items }
-    ensures { IfOk result (λ ending. MovedOn script.now ending runners.old.items runners.new.items) }
+    ensures moved { IfOk result (λ ending. MovedOn script.now ending runners.old.items runners.new.items) }
+    ensures memory { IfErr result (λ error. WantsMemory runners.old.items) }
 {
     let ended = push_all(script, runners);
     let ending = end_of(script, runners, ended)?;
@@ -84,6 +86,7 @@ fn end_of(script: &Script, runners: &mut Vec<Runner>, ended: Ended) -> Result<En
     ensures crew { IsCrew script.now runners.new.items }
     ensures seen { EachIs AsSeen runners.old.items runners.new.items }
     ensures ends { IfOk result (λ ending. CrewEnds ending script.now runners.new.items) }
+    ensures memory { IfErr result (λ error. SomeCouldMove runners.old.items) }
 {
     match ended {
         Ended::NoMemory => Err(AllocError),

@@ -4,12 +4,12 @@ ghost use Rattle.lt_spec.specs.declared.moves.TheConstants.{MAX_MOVES};
 ghost use Rattle.lt_threads.specs.Meeting.{HaveAll};
 ghost use Rattle.lt_threads.specs.Pushes.{HasLimit};
 ghost use Rattle.lt_threads.specs.Threads.{StaysWithin, GoesFar};
-ghost use Rattle.lt_live.specs.Live.{AreLive};
-ghost use Rattle.lt_live.specs.Stations.{runner_of, HaveEqualShares};
+ghost use Rattle.lt_live.specs.Stations.{runner_of};
 ghost use Rattle.lt_live_callers.specs.declared.error.CallersError.TheVariants as errors;
 ghost use Rattle.lt_live_callers.specs.declared.turning.TheConstants.{TIMES_A_ROUND};
 ghost use Rattle.lt_live_callers.specs.Desks.{called_of, session_of};
 ghost use Rattle.lt_live_callers.specs.Over.{AreOver, HaveSaid};
+ghost use Rattle.lt_live_callers.specs.Taking.{AreAsking};
 ghost use Rattle.lt_live_callers.specs.Served.{IsServedIn, AreEnded, AreServed, ComesOfTurns, IsNoLimit};
 
 use crate::alone::work_alone;
@@ -19,6 +19,7 @@ use crate::ending::end_run;
 use crate::error::CallersError;
 use crate::opening::{begin, may_begin};
 use crate::served::{Called, Served};
+use crate::taking::take_all_in;
 use crate::turning::work;
 use lt_live::{Session, Station, law_live_lasts};
 use lt_script::Script;
@@ -29,8 +30,8 @@ use std::thread::Threads;
 /// beside them on as many more. A node makes up to `limit` moves.
 ///
 /// They work in rounds, until each caller is done or has a command that it might not submit, or the rounds are over.
-/// Then the nodes make the moves that are left. The script's own commands are left out. Where there isn't a caller for
-/// each client, that is the answer, whatever the limit, and nothing is begun.
+/// Then the nodes take in the commands that are left, and make the moves that there are. The script's own commands are
+/// left out. Where there isn't a caller for each client, that is the answer, whatever the limit, and nothing is begun.
 pub fn serve_callers<R: Threads + Sync, C: Caller + Send + Drop>(
     rt: &R,
     alloc: Global,
@@ -46,7 +47,8 @@ pub fn serve_callers<R: Threads + Sync, C: Caller + Send + Drop>(
     ensures rounds { IfOk result (λ served.
         (served.rounds ≤ rounds) × (served.rounds < rounds → AreOver served.callers.items)) }
     ensures turned { IfOk result (λ served.
-        ComesOfTurns (record script.now { commands = [] }) limit (served.rounds * TIMES_A_ROUND) served.run.entries) }
+        ComesOfTurns (record script.now { commands = [] }) limit (served.rounds * TIMES_A_ROUND) served.script
+        served.run.entries) }
     ensures within { IfOk result (λ served. StaysWithin limit served.script served.run.entries) }
     ensures far { IfOk result (λ served. GoesFar limit served.script served.run.entries) }
     ensures count { (result ≡ Err errors.Count) ↔ (length callers.items ≢ length script.now.clients) }
@@ -73,7 +75,7 @@ pub fn serve_callers_alone<C: Caller + Drop>(
     ensures rounds { IfOk result (λ served.
         (served.rounds ≤ rounds) × (served.rounds < rounds → AreOver served.callers.items)) }
     ensures turned { IfOk result (λ served.
-        ComesOfTurns (record script.now { commands = [] }) limit served.rounds served.run.entries) }
+        ComesOfTurns (record script.now { commands = [] }) limit served.rounds served.script served.run.entries) }
     ensures within { IfOk result (λ served. StaysWithin limit served.script served.run.entries) }
     ensures far { IfOk result (λ served. GoesFar limit served.script served.run.entries) }
     ensures count { (result ≡ Err errors.Count) ↔ (length callers.items ≢ length script.now.clients) }
@@ -130,23 +132,23 @@ fn serve_alone<C: Caller + Drop>(
     Ok(served)
 }
 
-// The run of the stations, and the callers at its end.
+// The run of the stations, once they have taken in all commands, and the callers at its end.
 fn end<C: Drop>(
     alloc: Global,
-    _script: &Script,
-    stations: Vec<Station>,
+    bare: &Script,
+    mut stations: Vec<Station>,
     desks: Vec<Desk<C>>,
     limit: u32,
     rounds: u32,
 ) -> Result<Served<C>, AllocError>
-    requires live { AreLive _script.now stations.items (map session_of desks.items) }
+    requires asking { AreAsking bare.now stations.items (map session_of desks.items) }
     requires limits { HasLimit limit (map runner_of stations.items) }
     requires all { HaveAll (map runner_of stations.items) }
-    requires shares { HaveEqualShares (map session_of desks.items) }
-    ensures ended { IfOk result (λ served. AreEnded _script.now limit stations.items desks.items served) }
+    ensures ended { IfOk result (λ served. AreEnded bare.now limit stations.items desks.items served) }
     ensures rounds { IfOk result (λ served. served.rounds ≡ rounds) }
 {
-    let (callers, sessions) = part(alloc, desks)?;
+    let (callers, mut sessions) = part(alloc, desks)?;
+    take_all_in(bare, &mut stations, &mut sessions)?;
     let (script, run, ending) = end_run(alloc, stations, sessions, limit)?;
     Ok(Served {
         script,

@@ -6,7 +6,6 @@ ghost use Rattle.lt_live_callers.specs.declared.turning.TheConstants.{TIMES_A_RO
 
 use crate::caller::Caller;
 use crate::desk::{Desk, all_over};
-use crate::resting::come_to_rest;
 use lt_live::Station;
 use lt_runner::Open;
 use std::thread::{Threads, for_each_mut, join_mut};
@@ -14,25 +13,8 @@ use std::thread::{Threads, for_each_mut, join_mut};
 /// How many steps each caller makes in a round on threads, and how many turns each station.
 pub const TIMES_A_ROUND: u32 = 1_000;
 
-/// All are at work beside each other, in rounds, until no desk needs a step; then the stations come to rest. Tells how
-/// many rounds were made.
+/// All are at work beside each other, in rounds, until no desk needs a step. Tells how many rounds were made.
 pub(crate) fn work<R: Threads + Sync, C: Caller + Send>(
-    rt: &R,
-    stations: &mut Vec<Station>,
-    desks: &mut Vec<Desk<C>>,
-    threads: usize,
-    rounds: u32,
-) -> u32
-    ensures stations { StationsGoOn (result * TIMES_A_ROUND) stations.old.items stations.new.items }
-    ensures desks { DesksGoOn C.goes (result * TIMES_A_ROUND) desks.old.items desks.new.items }
-    ensures rounds { MadeRounds C.says rounds result (map called_of desks.new.items) }
-{
-    let made = work_in_rounds(rt, stations, desks, threads, rounds);
-    come_to_rest(stations);
-    made
-}
-
-fn work_in_rounds<R: Threads + Sync, C: Caller + Send>(
     rt: &R,
     stations: &mut Vec<Station>,
     desks: &mut Vec<Desk<C>>,

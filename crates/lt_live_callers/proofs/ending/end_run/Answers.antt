@@ -6,7 +6,7 @@ use Rattle.lt_threads.proofs.Whole.{all_grew}
 use Rattle.lt_live.proofs.Finished.{are_shares, never_many}
 use Rattle.lt_live_callers.specs.declared.ending.LiveEnding.{LiveEnding}
 use Rattle.lt_live_callers.specs.Served.{CallersEndSo}
-use Rattle.lt_live_callers.proofs.Grown.{settled_have_all, serves, ends, keeps, have_made}
+use Rattle.lt_live_callers.proofs.Grown.{settled_have_all, serves, ends, keeps, made_by, all_commands}
 use Rattle.lt_live_callers.proofs.ending.end_run.Goals as goal
 
 pub settle_all-requires : goal.settle_all-requires
@@ -32,12 +32,12 @@ move_on-requires c =
     (subst (λ (rs : List Parts). IsJoined rs c.in_ok-script.script) c.deref.ensures.value c.in_ok-script.ensures).crew
 
 pub gather_logs-requires-clause-crew : goal.gather_logs-requires-clause-crew
-gather_logs-requires-clause-crew c = c.in_ok-ending.ensures.crew
+gather_logs-requires-clause-crew c = c.in_ok-ending.ensures.moved.crew
 
 pub gather_logs-requires-clause-all : goal.gather_logs-requires-clause-all
 gather_logs-requires-clause-all c =
     let runners = c.take_runners-runners.result.items in
-    all_grew runners c.move_on.new.runners.items c.in_ok-ending.ensures.grew
+    all_grew runners c.move_on.new.runners.items c.in_ok-ending.ensures.moved.grew
     (settled_have_all c.args.stations.items c.settle_all.new.stations.items c.args.sessions.items c.settle_all.new.sessions.items runners
     c.requires.live c.settle_all.ensures c.take_runners-runners.ensures c.requires.all)
 
@@ -46,7 +46,7 @@ returns-clause-served c =
     let runners = c.take_runners-runners.result.items in
     serves c.args.stations.items c.settle_all.new.stations.items c.args.sessions.items c.settle_all.new.sessions.items runners c.move_on.new.runners.items
     c.in_ok-script.script c.in_ok-ending.ending c.in_ok-logs.logs.items c.in_ok-run.run'.entries c.settle_all.ensures c.take_runners-runners.ensures
-    (subst (λ (rs : List Parts). IsJoined rs c.in_ok-script.script) c.deref.ensures.value c.in_ok-script.ensures) c.in_ok-ending.ensures
+    (subst (λ (rs : List Parts). IsJoined rs c.in_ok-script.script) c.deref.ensures.value c.in_ok-script.ensures) c.in_ok-ending.ensures.moved
     c.in_ok-logs.ensures c.in_ok-run.ensures c.law_live_lasts.ensures.last
 
 pub returns-clause-few_commands : goal.returns-clause-few_commands
@@ -58,7 +58,7 @@ returns-clause-ends c =
     subst (λ (e : LiveEnding). CallersEndSo e c.in_ok-script.script c.in_ok-run.run'.entries) (sym c.live_ending.ensures)
     (ends c.args.stations.items c.settle_all.new.stations.items c.args.sessions.items c.settle_all.new.sessions.items runners c.move_on.new.runners.items
     c.in_ok-script.script c.in_ok-ending.ending c.in_ok-logs.logs.items c.in_ok-run.run'.entries c.settle_all.ensures c.take_runners-runners.ensures
-    (subst (λ (rs : List Parts). IsJoined rs c.in_ok-script.script) c.deref.ensures.value c.in_ok-script.ensures) c.in_ok-ending.ensures
+    (subst (λ (rs : List Parts). IsJoined rs c.in_ok-script.script) c.deref.ensures.value c.in_ok-script.ensures) c.in_ok-ending.ensures.moved
     c.in_ok-logs.ensures c.in_ok-run.ensures)
 
 pub returns-clause-within : goal.returns-clause-within
@@ -66,7 +66,7 @@ returns-clause-within c =
     let runners = c.take_runners-runners.result.items in
     (keeps c.args.stations.items c.settle_all.new.stations.items c.args.sessions.items c.settle_all.new.sessions.items runners c.move_on.new.runners.items
     c.in_ok-script.script c.in_ok-ending.ending c.in_ok-logs.logs.items c.in_ok-run.run'.entries c.settle_all.ensures c.take_runners-runners.ensures
-    (subst (λ (rs : List Parts). IsJoined rs c.in_ok-script.script) c.deref.ensures.value c.in_ok-script.ensures) c.in_ok-ending.ensures
+    (subst (λ (rs : List Parts). IsJoined rs c.in_ok-script.script) c.deref.ensures.value c.in_ok-script.ensures) c.in_ok-ending.ensures.moved
     c.in_ok-logs.ensures c.in_ok-run.ensures c.law_can_move.ensures.rest c.args._limit
     (c.settle_all.ensures c.requires.live.0 c.requires.live.1).runners c.requires.limits).within
 
@@ -75,14 +75,22 @@ returns-clause-far c =
     let runners = c.take_runners-runners.result.items in
     (keeps c.args.stations.items c.settle_all.new.stations.items c.args.sessions.items c.settle_all.new.sessions.items runners c.move_on.new.runners.items
     c.in_ok-script.script c.in_ok-ending.ending c.in_ok-logs.logs.items c.in_ok-run.run'.entries c.settle_all.ensures c.take_runners-runners.ensures
-    (subst (λ (rs : List Parts). IsJoined rs c.in_ok-script.script) c.deref.ensures.value c.in_ok-script.ensures) c.in_ok-ending.ensures
+    (subst (λ (rs : List Parts). IsJoined rs c.in_ok-script.script) c.deref.ensures.value c.in_ok-script.ensures) c.in_ok-ending.ensures.moved
     c.in_ok-logs.ensures c.in_ok-run.ensures c.law_can_move.ensures.rest c.args._limit
     (c.settle_all.ensures c.requires.live.0 c.requires.live.1).runners c.requires.limits).far
 
 pub returns-clause-made : goal.returns-clause-made
 returns-clause-made c =
     let runners = c.take_runners-runners.result.items in
-    have_made c.args.stations.items c.settle_all.new.stations.items c.args.sessions.items c.settle_all.new.sessions.items runners c.move_on.new.runners.items
+    made_by c.args.stations.items c.settle_all.new.stations.items c.args.sessions.items c.settle_all.new.sessions.items runners c.move_on.new.runners.items
     c.in_ok-script.script c.in_ok-ending.ending c.in_ok-logs.logs.items c.in_ok-run.run'.entries c.settle_all.ensures c.take_runners-runners.ensures
-    (subst (λ (rs : List Parts). IsJoined rs c.in_ok-script.script) c.deref.ensures.value c.in_ok-script.ensures) c.in_ok-ending.ensures
+    (subst (λ (rs : List Parts). IsJoined rs c.in_ok-script.script) c.deref.ensures.value c.in_ok-script.ensures) c.in_ok-ending.ensures.moved
     c.in_ok-logs.ensures c.in_ok-run.ensures (c.settle_all.ensures c.requires.live.0 c.requires.live.1).runners
+
+pub returns-clause-all : goal.returns-clause-all
+returns-clause-all c =
+    let runners = c.take_runners-runners.result.items in
+    all_commands c.args.stations.items c.settle_all.new.stations.items c.args.sessions.items c.settle_all.new.sessions.items runners c.move_on.new.runners.items
+    c.in_ok-script.script c.in_ok-ending.ending c.in_ok-logs.logs.items c.in_ok-run.run'.entries c.settle_all.ensures c.take_runners-runners.ensures
+    (subst (λ (rs : List Parts). IsJoined rs c.in_ok-script.script) c.deref.ensures.value c.in_ok-script.ensures) c.in_ok-ending.ensures.moved
+    c.in_ok-logs.ensures c.in_ok-run.ensures

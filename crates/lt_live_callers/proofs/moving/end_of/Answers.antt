@@ -18,3 +18,7 @@ returns-in-Rest-2-clause-ends c = (
       (subst (λ (ended : Ended). RoundsEnd ended c.args.script.now c.args.runners.now.items) c.in-Rest.is c.requires.ended),
   sym c.anyone_waits.ensures.waits ∙ c.if-anyone_waits.false,
 )
+
+pub returns-in-NoMemory-clause-memory : goal.returns-in-NoMemory-clause-memory
+returns-in-NoMemory-clause-memory c =
+    subst (λ (ended : Ended). RoundsEnd ended c.args.script.now c.args.runners.now.items) c.in-NoMemory.is c.requires.ended

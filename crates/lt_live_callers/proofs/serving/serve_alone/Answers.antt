@@ -2,15 +2,16 @@
 use Rattle.std.proofs.Common.{subst}
 use Rattle.lt_modes.specs.Script.{ScriptData}
 use Rattle.lt_live_callers.specs.Served.{AreServed}
-use Rattle.lt_live_callers.proofs.GoingOn.{serving_lasts, equal_shares}
+use Rattle.lt_live_callers.proofs.GoingOn.{serving_lasts, are_asking}
 use Rattle.lt_live_callers.proofs.Made.{are_served}
 use Rattle.lt_live_callers.proofs.serving.serve_alone.Goals as goal
 
-pub end-requires-clause-live : goal.end-requires-clause-live
-end-requires-clause-live g c =
+pub end-requires-clause-asking : goal.end-requires-clause-asking
+end-requires-clause-asking g c =
+    are_asking g.C.Caller.goes c.work_alone-made.result c.in_ok-bare.bare c.args.limit c.args.callers.items c.work_alone-made.new.stations.items c.work_alone-made.new.desks.items
     (serving_lasts g.C.Caller.goes c.law_live_lasts.ensures.last c.work_alone-made.result c.work_alone-made.result c.in_ok-bare.bare c.args.limit
     c.args.callers.items c.in_ok-stations.stations.items c.work_alone-made.new.stations.items c.in_ok-stations.desks.items c.work_alone-made.new.desks.items
-    c.in_ok-stations.ensures.serving c.work_alone-made.ensures.stations c.work_alone-made.ensures.desks).live
+    c.in_ok-stations.ensures.serving c.work_alone-made.ensures.stations c.work_alone-made.ensures.desks)
 
 pub end-requires-clause-limits : goal.end-requires-clause-limits
 end-requires-clause-limits g c =
@@ -23,13 +24,6 @@ end-requires-clause-all g c =
     (serving_lasts g.C.Caller.goes c.law_live_lasts.ensures.last c.work_alone-made.result c.work_alone-made.result c.in_ok-bare.bare c.args.limit
     c.args.callers.items c.in_ok-stations.stations.items c.work_alone-made.new.stations.items c.in_ok-stations.desks.items c.work_alone-made.new.desks.items
     c.in_ok-stations.ensures.serving c.work_alone-made.ensures.stations c.work_alone-made.ensures.desks).all
-
-pub end-requires-clause-shares : goal.end-requires-clause-shares
-end-requires-clause-shares g c =
-    equal_shares g.C.Caller.goes c.work_alone-made.result c.in_ok-bare.bare c.args.limit c.args.callers.items c.work_alone-made.new.stations.items c.work_alone-made.new.desks.items
-    (serving_lasts g.C.Caller.goes c.law_live_lasts.ensures.last c.work_alone-made.result c.work_alone-made.result c.in_ok-bare.bare c.args.limit
-    c.args.callers.items c.in_ok-stations.stations.items c.work_alone-made.new.stations.items c.in_ok-stations.desks.items c.work_alone-made.new.desks.items
-    c.in_ok-stations.ensures.serving c.work_alone-made.ensures.stations c.work_alone-made.ensures.desks)
 
 pub returns : goal.returns
 returns g c =

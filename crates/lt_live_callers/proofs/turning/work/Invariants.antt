@@ -2,7 +2,7 @@
 use Rattle.std.proofs.Common.{◌*◌}
 use Rattle.lt_live_callers.specs.declared.turning.TheConstants.{TIMES_A_ROUND}
 use Rattle.lt_live_callers.specs.Desks.{DesksGoOn, StationsGoOn}
-use Rattle.lt_live_callers.proofs.turning.work_in_rounds.Given as goal
+use Rattle.lt_live_callers.proofs.turning.work.Given as goal
 
 abbrev pub invariant-loop-round : goal.invariant-loop-round
 invariant-loop-round g l = record {
