@@ -7,7 +7,6 @@ use Rattle.lt_modes.specs.declared.mode.Mode.TheVariants.{Write}
 use Rattle.lt_modes.specs.Script.{ScriptData}
 use Rattle.lt_spec.specs.Script.{set_number}
 use Rattle.lt_script.specs.Reading.{read_of}
-use Rattle.lt_live.specs.declared.ends.Session.{Session}
 use Rattle.lt_live.specs.Stations.{IsOpen}
 use Rattle.lt_live_c.specs.declared.content.Content.{Content}
 use Rattle.lt_live_c.specs.declared.content.Content.TheVariants as contents

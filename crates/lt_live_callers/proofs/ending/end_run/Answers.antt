@@ -15,17 +15,17 @@ settle_all-requires c = c.requires.live
 pub join-requires-clause-shares : goal.join-requires-clause-shares
 join-requires-clause-shares c =
     are_shares c.args.stations.items c.settle_all.new.stations.items c.args.sessions.items c.settle_all.new.sessions.items c.deref.result.now
-    c.requires.live c.settle_all.ensures (c.deref.ensures.value ∙ c.take_runners-runners.ensures)
+    c.requires.live c.settle_all.ensures.settled (c.deref.ensures.value ∙ c.take_runners-runners.ensures)
 
 pub join-requires-clause-few : goal.join-requires-clause-few
 join-requires-clause-few c =
     never_many c.args.stations.items c.settle_all.new.stations.items c.args.sessions.items c.settle_all.new.sessions.items c.deref.result.now
-    c.requires.live c.settle_all.ensures (c.deref.ensures.value ∙ c.take_runners-runners.ensures) c.requires.shares
+    c.requires.live c.settle_all.ensures.settled (c.deref.ensures.value ∙ c.take_runners-runners.ensures) c.requires.shares
 
 pub join-requires-clause-all : goal.join-requires-clause-all
 join-requires-clause-all c =
     settled_have_all c.args.stations.items c.settle_all.new.stations.items c.args.sessions.items c.settle_all.new.sessions.items c.deref.result.now
-    c.requires.live c.settle_all.ensures (c.deref.ensures.value ∙ c.take_runners-runners.ensures) c.requires.all
+    c.requires.live c.settle_all.ensures.settled (c.deref.ensures.value ∙ c.take_runners-runners.ensures) c.requires.all
 
 pub move_on-requires : goal.move_on-requires
 move_on-requires c =
@@ -39,13 +39,13 @@ gather_logs-requires-clause-all c =
     let runners = c.take_runners-runners.result.items in
     all_grew runners c.move_on.new.runners.items c.in_ok-ending.ensures.moved.grew
     (settled_have_all c.args.stations.items c.settle_all.new.stations.items c.args.sessions.items c.settle_all.new.sessions.items runners
-    c.requires.live c.settle_all.ensures c.take_runners-runners.ensures c.requires.all)
+    c.requires.live c.settle_all.ensures.settled c.take_runners-runners.ensures c.requires.all)
 
 pub returns-clause-served : goal.returns-clause-served
 returns-clause-served c =
     let runners = c.take_runners-runners.result.items in
     serves c.args.stations.items c.settle_all.new.stations.items c.args.sessions.items c.settle_all.new.sessions.items runners c.move_on.new.runners.items
-    c.in_ok-script.script c.in_ok-ending.ending c.in_ok-logs.logs.items c.in_ok-run.run'.entries c.settle_all.ensures c.take_runners-runners.ensures
+    c.in_ok-script.script c.in_ok-ending.ending c.in_ok-logs.logs.items c.in_ok-run.run'.entries c.settle_all.ensures.settled c.take_runners-runners.ensures
     (subst (λ (rs : List Parts). IsJoined rs c.in_ok-script.script) c.deref.ensures.value c.in_ok-script.ensures) c.in_ok-ending.ensures.moved
     c.in_ok-logs.ensures c.in_ok-run.ensures c.law_live_lasts.ensures.last
 
@@ -57,7 +57,7 @@ returns-clause-ends c =
     let runners = c.take_runners-runners.result.items in
     subst (λ (e : LiveEnding). CallersEndSo e c.in_ok-script.script c.in_ok-run.run'.entries) (sym c.live_ending.ensures)
     (ends c.args.stations.items c.settle_all.new.stations.items c.args.sessions.items c.settle_all.new.sessions.items runners c.move_on.new.runners.items
-    c.in_ok-script.script c.in_ok-ending.ending c.in_ok-logs.logs.items c.in_ok-run.run'.entries c.settle_all.ensures c.take_runners-runners.ensures
+    c.in_ok-script.script c.in_ok-ending.ending c.in_ok-logs.logs.items c.in_ok-run.run'.entries c.settle_all.ensures.settled c.take_runners-runners.ensures
     (subst (λ (rs : List Parts). IsJoined rs c.in_ok-script.script) c.deref.ensures.value c.in_ok-script.ensures) c.in_ok-ending.ensures.moved
     c.in_ok-logs.ensures c.in_ok-run.ensures)
 
@@ -65,32 +65,32 @@ pub returns-clause-within : goal.returns-clause-within
 returns-clause-within c =
     let runners = c.take_runners-runners.result.items in
     (keeps c.args.stations.items c.settle_all.new.stations.items c.args.sessions.items c.settle_all.new.sessions.items runners c.move_on.new.runners.items
-    c.in_ok-script.script c.in_ok-ending.ending c.in_ok-logs.logs.items c.in_ok-run.run'.entries c.settle_all.ensures c.take_runners-runners.ensures
+    c.in_ok-script.script c.in_ok-ending.ending c.in_ok-logs.logs.items c.in_ok-run.run'.entries c.settle_all.ensures.settled c.take_runners-runners.ensures
     (subst (λ (rs : List Parts). IsJoined rs c.in_ok-script.script) c.deref.ensures.value c.in_ok-script.ensures) c.in_ok-ending.ensures.moved
     c.in_ok-logs.ensures c.in_ok-run.ensures c.law_can_move.ensures.rest c.args._limit
-    (c.settle_all.ensures c.requires.live.0 c.requires.live.1).runners c.requires.limits).within
+    (c.settle_all.ensures.settled c.requires.live.0 c.requires.live.1).runners c.requires.limits).within
 
 pub returns-clause-far : goal.returns-clause-far
 returns-clause-far c =
     let runners = c.take_runners-runners.result.items in
     (keeps c.args.stations.items c.settle_all.new.stations.items c.args.sessions.items c.settle_all.new.sessions.items runners c.move_on.new.runners.items
-    c.in_ok-script.script c.in_ok-ending.ending c.in_ok-logs.logs.items c.in_ok-run.run'.entries c.settle_all.ensures c.take_runners-runners.ensures
+    c.in_ok-script.script c.in_ok-ending.ending c.in_ok-logs.logs.items c.in_ok-run.run'.entries c.settle_all.ensures.settled c.take_runners-runners.ensures
     (subst (λ (rs : List Parts). IsJoined rs c.in_ok-script.script) c.deref.ensures.value c.in_ok-script.ensures) c.in_ok-ending.ensures.moved
     c.in_ok-logs.ensures c.in_ok-run.ensures c.law_can_move.ensures.rest c.args._limit
-    (c.settle_all.ensures c.requires.live.0 c.requires.live.1).runners c.requires.limits).far
+    (c.settle_all.ensures.settled c.requires.live.0 c.requires.live.1).runners c.requires.limits).far
 
 pub returns-clause-made : goal.returns-clause-made
 returns-clause-made c =
     let runners = c.take_runners-runners.result.items in
     made_by c.args.stations.items c.settle_all.new.stations.items c.args.sessions.items c.settle_all.new.sessions.items runners c.move_on.new.runners.items
-    c.in_ok-script.script c.in_ok-ending.ending c.in_ok-logs.logs.items c.in_ok-run.run'.entries c.settle_all.ensures c.take_runners-runners.ensures
+    c.in_ok-script.script c.in_ok-ending.ending c.in_ok-logs.logs.items c.in_ok-run.run'.entries c.settle_all.ensures.settled c.take_runners-runners.ensures
     (subst (λ (rs : List Parts). IsJoined rs c.in_ok-script.script) c.deref.ensures.value c.in_ok-script.ensures) c.in_ok-ending.ensures.moved
-    c.in_ok-logs.ensures c.in_ok-run.ensures (c.settle_all.ensures c.requires.live.0 c.requires.live.1).runners
+    c.in_ok-logs.ensures c.in_ok-run.ensures (c.settle_all.ensures.settled c.requires.live.0 c.requires.live.1).runners
 
 pub returns-clause-all : goal.returns-clause-all
 returns-clause-all c =
     let runners = c.take_runners-runners.result.items in
     all_commands c.args.stations.items c.settle_all.new.stations.items c.args.sessions.items c.settle_all.new.sessions.items runners c.move_on.new.runners.items
-    c.in_ok-script.script c.in_ok-ending.ending c.in_ok-logs.logs.items c.in_ok-run.run'.entries c.settle_all.ensures c.take_runners-runners.ensures
+    c.in_ok-script.script c.in_ok-ending.ending c.in_ok-logs.logs.items c.in_ok-run.run'.entries c.settle_all.ensures.settled c.take_runners-runners.ensures
     (subst (λ (rs : List Parts). IsJoined rs c.in_ok-script.script) c.deref.ensures.value c.in_ok-script.ensures) c.in_ok-ending.ensures.moved
     c.in_ok-logs.ensures c.in_ok-run.ensures
