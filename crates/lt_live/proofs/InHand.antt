@@ -1,17 +1,16 @@
 -- Commands in hand were submitted, and there is room for them.
-use Rattle.std.proofs.Common.{◌≡◌, ◌≢◌, ◌<◌, ◌≤◌, ◌+◌, ◌*◌, ◌++◌, ℕ, zero, suc, List, [], ◌∷◌, length, Option, Some, None, true, refl, sym, ap, subst, arith, ◌∙◌, inl, inr, slice_get, filter_map, nat_lt, ◌⊎◌, option_map, append_assoc, append-nil, suc-mul, lt-ltb, ne_eqb, length-append, if◌then◌else◌}
-use Rattle.std.specs.List.{AllByRecursion, cons_option}
+use Rattle.std.proofs.Common.{◌≡◌, ◌≢◌, ◌<◌, ◌≤◌, ◌+◌, ◌*◌, ◌++◌, ℕ, zero, suc, List, [], ◌∷◌, length, Option, Some, None, true, refl, sym, ap, subst, arith, ◌∙◌, inl, inr, slice_get, filter_map, nat_lt, ◌⊎◌, option_map, suc-mul, lt-ltb, ne_eqb, length-append, if◌then◌else◌}
+use Rattle.std.specs.List.{cons_option}
 use Rattle.std.proofs.Math.Nat.{mul-div-le}
 use Rattle.std.proofs.lemmas.Bool.{cases_eq, false≢true, and_from}
 use Rattle.std.proofs.lemmas.List.Elements.{recursion_from_All}
-use Rattle.std.proofs.lemmas.Option.{same_Some, slice_get-map, slice_get_within}
-use mathlib.Core.List.{IsPrefix}
+use Rattle.std.proofs.lemmas.Option.{same_Some, slice_get-map}
 use Rattle.lt_modes.specs.declared.command.Command.{Command}
 use Rattle.lt_modes.specs.Script.{ScriptData}
 use Rattle.lt_lists.specs.Below.{sum_below}
 use Rattle.lt_lists.proofs.AllLemmas.{all_weaker}
 use Rattle.lt_script.proofs.NameLemmas.{element_at}
-use Rattle.lt_spec.specs.NodeMove.{home, with_commands, commands_of, command_if, AreAt}
+use Rattle.lt_spec.specs.NodeMove.{home, commands_of, command_if, AreAt}
 use Rattle.lt_spec.specs.Script.{IsRequest, HasTargets, HasModesOf}
 use Rattle.lt_spec.specs.declared.limits.TheConstants.{MAX_COMMANDS_OF_SERVICE}
 use Rattle.lt_threads.specs.Meeting.{InShares}

@@ -1,12 +1,11 @@
 -- What a seat takes, and what it knows.
-use Rattle.std.proofs.Common.{◌≡◌, ◌<◌, ◌++◌, List, [], ◌∷◌, length, Option, Some, None, refl, sym, ap, arith, ◌∙◌, inl, inr, append_assoc, append-nil}
+use Rattle.std.proofs.Common.{◌≡◌, ◌++◌, List, [], ◌∷◌, length, Option, Some, None, refl, sym, ap, arith, ◌∙◌, inl, inr, append_assoc, append-nil}
 use Rattle.std.proofs.lemmas.List.{append_cancel_left}
 use mathlib.Core.List.{IsPrefix}
 use Rattle.lt_modes.specs.declared.command.Command.{Command}
 use Rattle.lt_live.specs.declared.ends.Seat.{Seat}
 use Rattle.lt_live.specs.declared.reply.Reply.{Reply}
-use Rattle.lt_live.specs.Words.{taken, known_commands, taken_or_known, outbox_replies, command_held}
-use Rattle.lt_live.specs.Seats.{TakesIn, OnlyTells}
+use Rattle.lt_live.specs.Words.{taken, known_commands, taken_or_known, command_held}
 use Rattle.lt_live.specs.Stations.{HandMayGo}
 use Rattle.lt_live.specs.InHand.{TurnsKeepKnown, TurnTakesNext}
 

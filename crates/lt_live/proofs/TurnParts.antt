@@ -16,7 +16,7 @@ use Rattle.lt_runner.specs.declared.turning.Turned.{Turned}
 use Rattle.lt_runner.specs.declared.turning.Turned.TheVariants.{Moved, Quiet, Full, NoMemory}
 use Rattle.lt_runner.specs.Choices.{next_choice}
 use Rattle.lt_runner.specs.declared.parts.Hand.{Hand}
-use Rattle.lt_runner.specs.Kept.{HandStays, AsSeen, Grew, TurnEnds, with_appended}
+use Rattle.lt_runner.specs.Kept.{HandStays, AsSeen, Grew, TurnEnds, HasPassedOn, with_appended}
 use Rattle.lt_runner.proofs.TurnLemmas.{same_self}
 use Rattle.lt_live.specs.Submitting.{may_ask, has_set, is_neighbour}
 use Rattle.lt_live.specs.Stations.{may_append, IsStation, EachSeat, SeatAt, OnlyAppends, with_all, CanNotAppend, NoneCanAppend, SomeCanAppend, MayHandOver, HandMayGo, MoveEnds, SeatTurns, StationTurns, HaveCursors}
@@ -199,6 +199,7 @@ pub record Moving (fits : Bool) (turned : Turned) (a b : Parts) : Type 0 where
   pub grew : Grew a b
   pub ends : fits ≡ true → TurnEnds turned a b
   pub shown : fits ≡ true → next_choice a ≢ choices.Nothing → turned ≢ Quiet
+  pub passed : fits ≡ true → HasPassedOn a b
   pub memory : fits ≡ false → (turned ≡ NoMemory) × (b ≡ a)
 
 turn_ends : (turned : Turned) (a b : Parts) (seats : List Seat) → TurnEnds turned a b → MoveEnds turned a b seats
@@ -220,6 +221,10 @@ fits_then : (fits : Bool) (turned : Turned) (a b : Parts) → Moving fits turned
 fits_then true turned a b h some = refl
 fits_then false turned a b h some = absurd (some (h.memory refl).0)
 
+-- commands that were appended are in no letter
+passed_before : (a mid b : Parts) → OnlyAppends a mid → HasPassedOn mid b → HasPassedOn a b
+passed_before a mid b only passed = subst (λ (p : Parts). HasPassedOn p b) only.runner passed
+
 pub turns : (turned : Turned) (fits : Bool) (a mid b : Parts) (seats one two later : List Seat) → EachSeat TakesIn seats one → OnlyAppends a mid → EachSeat HandMayGo one two
     → (fits ≡ true → NoneCanAppend mid two) → (fits ≡ false → SomeCanAppend mid two) → Moving fits turned mid b → EachSeat (TellsSeat b.log.entries) two later
     → StationTurns turned a seats b later
@@ -230,6 +235,7 @@ turns turned fits a mid b seats one two later takes only gives none some h tells
   ends = move_ends fits turned mid b b.log.entries two later h some tells;
   shown = λ moves. h.shown (fits_then fits turned mid b h moves);
   hands = λ moves. none_told mid b b.log.entries two later h.grew.same.script tells (none (fits_then fits turned mid b h moves));
+  passed = λ moves. passed_before a mid b only (h.passed (fits_then fits turned mid b h moves));
   each = each_join TookAndGave (TellsSeat b.log.entries) (SeatTurns b.log.entries) (seat_turned b.log.entries) seats two later
       (each_join TakesIn HandMayGo TookAndGave took_and_gave seats one two takes gives) tells;
 }

@@ -14,7 +14,7 @@ use Rattle.lt_runner.specs.declared.parts.Parts.{Parts}
 use Rattle.lt_runner.specs.declared.turning.Turned.{Turned}
 use Rattle.lt_runner.specs.declared.turning.Turned.TheVariants.{Moved, Quiet, Full, NoMemory}
 use Rattle.lt_runner.specs.Choices.{next_choice}
-use Rattle.lt_runner.specs.Kept.{AsSeen, CouldMove, Grew, TurnEnds, with_appended}
+use Rattle.lt_runner.specs.Kept.{AsSeen, CouldMove, Grew, TurnEnds, HasPassedOn, with_appended}
 use Rattle.lt_threads.specs.Pushes.{IsFirstCrew}
 use Rattle.lt_live.specs.declared.ends.Session.{Session}
 use Rattle.lt_live.specs.declared.ends.Seat.{Seat}
@@ -131,7 +131,7 @@ pub record SeatTurns (log : List Logged) (s t : Seat) : Type 0 where
   pub tells : TellsSeat log left t
 
 -- commands were appended, one move was made or none was found, and replies were told; where memory ran out no move was made, and
--- otherwise no command is in hand that can be appended
+-- otherwise no command is in hand that can be appended, and each letter that was sent before is in its ring, or that ring is full
 pub record StationTurns (turned : Turned) (a : Parts) (seats : List Seat) (b : Parts) (later : List Seat) : Type 0 where
   pub between : Parts
   pub appends : OnlyAppends a between
@@ -139,6 +139,7 @@ pub record StationTurns (turned : Turned) (a : Parts) (seats : List Seat) (b : P
   pub ends : MoveEnds turned between b later
   pub shown : turned ≢ NoMemory → next_choice between ≢ choices.Nothing → turned ≢ Quiet
   pub hands : turned ≢ NoMemory → NoneCanAppend b later
+  pub passed : turned ≢ NoMemory → HasPassedOn a b
   pub each : EachSeat (SeatTurns b.log.entries) seats later
 
 -- Moves that are forgotten.

@@ -4,7 +4,7 @@ ghost use Rattle.lt_spec.specs.NodeMove.{home};
 ghost use Rattle.lt_runner.specs.declared.choice.Choice.TheVariants as choices;
 ghost use Rattle.lt_runner.specs.declared.turning.Turned.TheVariants as turns;
 ghost use Rattle.lt_runner.specs.Choices.{next_choice};
-ghost use Rattle.lt_runner.specs.Kept.{Grew, TurnEnds};
+ghost use Rattle.lt_runner.specs.Kept.{Grew, TurnEnds, HasPassedOn};
 ghost use Rattle.lt_live.specs.declared.ends.Seat.{Seat as SeatEnds};
 ghost use Rattle.lt_live.specs.Seats.{TakesIn, TellsSeat};
 ghost use Rattle.lt_live.specs.Stations.{IsStation, EachSeat, SeatAt, OnlyAppends, HandMayGo, MayHandOver, CanNotAppend, CanAppend, may_append, NoneCanAppend, SomeCanAppend, StationTurns, HasCursorAt, HaveCursors};
@@ -36,6 +36,7 @@ fn make_move<G: Gate>(runner: &mut Runner, fits: bool, gate: &G) -> Turned
     ensures grew { Grew runner.old runner.new }
     ensures ends { fits ≡ true → TurnEnds result runner.old runner.new }
     ensures shown { fits ≡ true → next_choice runner.old ≢ choices.Nothing → result ≢ turns.Quiet }
+    ensures passed { fits ≡ true → HasPassedOn runner.old runner.new }
     ensures memory { fits ≡ false → (result ≡ turns.NoMemory) × (runner.new ≡ runner.old) }
 {
     if fits {

@@ -28,5 +28,5 @@ returns-clause-turns g c =
     turns c.make_move-turned.result c.append_all-fits.result c.args.runner.now c.append_all-fits.new.runner c.make_move-turned.new.runner
     c.args.seats.now.items c.take_all.new.seats.items c.append_all-fits.new.seats.items c.tell_all.new.seats.items
     c.take_all.ensures c.append_all-fits.ensures.runner c.append_all-fits.ensures.seats c.append_all-fits.ensures.all c.append_all-fits.ensures.memory
-    (record { grew = move.grew; ends = move.ends; shown = move.shown; memory = move.memory })
+    (record { grew = move.grew; ends = move.ends; shown = move.shown; passed = move.passed; memory = move.memory })
     (subst (λ (log : LogData). EachSeat (TellsSeat log.entries) c.append_all-fits.new.seats.items c.tell_all.new.seats.items) c.log.ensures c.tell_all.ensures)
