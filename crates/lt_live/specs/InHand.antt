@@ -42,7 +42,8 @@ KnowAllAt script q sessions seats =
     (client : ℕ) (s : Session) → slice_get sessions client ≡ Some s → home script client ≡ q → KnowsAllAt s seats
 
 -- the station of node q is one of a live service, and what it keeps
-pub record StandsAt (script : ScriptData) (stations : List StationData) (sessions : List Session) (q : ℕ) (station : StationData) : Type 0 where
+pub record StandsAt (script : ScriptData) (stations : List StationData) (sessions : List Session) (q : ℕ)
+    (station : StationData) : Type 0 where
   pub live : AreLive script stations sessions
   pub here : slice_get stations q ≡ Some station
   pub kept : IsStation station.runner station.seats
@@ -56,12 +57,13 @@ NoneInHand seats = (k : ℕ) (seat : Seat) → slice_get seats k ≡ Some seat �
 
 -- once a session and its seat have looked, a command in hand was submitted, so that its client may ask for it
 abbrev pub HandMayAsk : Type 0
-HandMayAsk = (s : Session) (seat : Seat) (list : List Command) (log : List Logged) → IsSeat list log s.client seat → KnowAll s seat
-    → (command : Command) → seat.hand ≡ Some command → may_ask s.script s.client command ≡ true
+HandMayAsk = (s : Session) (seat : Seat) (list : List Command) (log : List Logged) → IsSeat list log s.client seat
+    → KnowAll s seat → (command : Command) → seat.hand ≡ Some command → may_ask s.script s.client command ≡ true
 
 -- once those of all clients of a node have, each command in hand at its station can be appended
 abbrev pub HandsCanAppend : Type 0
-HandsCanAppend = (script : ScriptData) (stations : List StationData) (sessions : List Session) (q : ℕ) (station : StationData)
+HandsCanAppend =
+    (script : ScriptData) (stations : List StationData) (sessions : List Session) (q : ℕ) (station : StationData)
     → StandsAt script stations sessions q station → KnowAllAt script q sessions station.seats
     → (k : ℕ) (seat : Seat) (command : Command) → slice_get station.seats k ≡ Some seat → seat.hand ≡ Some command
     → may_append station.runner.node.script seat.client command ≡ true
@@ -73,6 +75,7 @@ LooksLeaveHands = (p : Parts) (s t : Session) (old new : List Seat) → SeatLook
 
 -- so none is in hand
 abbrev pub NoneStaysInHand : Type 0
-NoneStaysInHand = (script : ScriptData) (stations : List StationData) (sessions : List Session) (q : ℕ) (station : StationData)
+NoneStaysInHand =
+    (script : ScriptData) (stations : List StationData) (sessions : List Session) (q : ℕ) (station : StationData)
     → StandsAt script stations sessions q station → KnowAllAt script q sessions station.seats
     → NoneCanAppend station.runner station.seats → NoneInHand station.seats

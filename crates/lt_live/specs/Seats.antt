@@ -70,8 +70,8 @@ pub record OnlyTells (a b : Seat) : Type 0 where
   pub places : known_free a.replies + length (told_to a) ≤ known_free b.replies + length (told_to b)
   pub fewer : length (outbox_replies b) ≤ length (outbox_replies a)
 
--- nothing happened but that a command may have been taken into the hand; none was, where replies wait in the outbox. What is known
--- and isn't taken stays known
+-- nothing happened but that a command may have been taken into the hand; none was, where replies wait in the outbox. What is
+-- known and isn't taken stays known
 pub record TakesIn (a b : Seat) : Type 0 where
   pub same : SameSeat a b
   pub told : (told_to b ≡ told_to a) × (outbox_replies b ≡ outbox_replies a)
@@ -226,7 +226,7 @@ pub record HasAllCommands (list : List Command) (s : Session) (seat : Seat) : Ty
   pub all : submitted s ≡ (list ++ command_held seat.hand) ++ in_ring
 
 -- no command was taken, and that in hand stays there
-pub record TakesNone (a b : Seat) : Type 0 where
+pub record TakesNoCommand (a b : Seat) : Type 0 where
   pub client : b.client ≡ a.client
   pub taken : taken b ≡ taken a
   pub hand : b.hand ≡ a.hand

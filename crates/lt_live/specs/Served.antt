@@ -16,7 +16,7 @@ use Rattle.lt_live.specs.declared.reply.Reply.{Reply}
 use Rattle.lt_live.specs.Words.{submitted, polled, SameSession}
 use Rattle.lt_live.specs.Stations.{StationData, runner_of}
 use Rattle.lt_live.specs.Seats.{replies_in}
-use Rattle.lt_live.specs.Live.{AreLive, EachSession, IsServedRun, IsServedNow, IsWholeRun, IsWholeNow, IsReplyTo}
+use Rattle.lt_live.specs.Live.{AreLive, EachSession, IsServedRun, IsServedNow, IsRunOfService, IsWholeNow, IsReplyTo}
 
 -- the station's runner made no move and was given no command; it may know more of the letters in its rings, and some of
 -- its own may have gone into theirs
@@ -118,8 +118,8 @@ MomentsFollow = (one two three : List Session)
     → EachSession SaysMore one two → EachSession SaysMore two three → EachSession SaysMore one three
 
 -- stations have made one such run alone, of one script
-abbrev pub OneWholeRun : Type 0
-OneWholeRun =
+abbrev pub OneRunOfService : Type 0
+OneRunOfService =
     (first script other : ScriptData) (stations : List StationData) (sessions : List Session) (run moves : List Logged)
-    → IsWholeRun first stations sessions script run → IsWholeRun first stations sessions other moves
+    → IsRunOfService first stations sessions script run → IsRunOfService first stations sessions other moves
     → (script ≡ other) × (run ≡ moves)

@@ -130,8 +130,9 @@ pub record SeatTurns (log : List Logged) (s t : Seat) : Type 0 where
   pub hand : HandMayGo held left
   pub tells : TellsSeat log left t
 
--- commands were appended, one move was made or none was found, and replies were told; where memory ran out no move was made, and
--- otherwise no command is in hand that can be appended, and each letter that was sent before is in its ring, or that ring is full
+-- commands were appended, one move was made or none was found, and replies were told; where memory ran out no move was made,
+-- and otherwise no command is in hand that can be appended, and each letter that was sent before is in its ring, or that
+-- ring is full
 pub record StationTurns (turned : Turned) (a : Parts) (seats : List Seat) (b : Parts) (later : List Seat) : Type 0 where
   pub between : Parts
   pub appends : OnlyAppends a between
@@ -176,8 +177,8 @@ pub record IsSeated (s : Session) (seats : List Seat) : Type 0 where
 abbrev pub StaySeated : List Seat → List Seat → Type 0
 StaySeated old new = (s : Session) → IsSeated s old → IsSeated s new
 
--- the session and its seat looked at their rings from both ends, and the other seats stay: all replies were told, or their ring
--- is full, so that the session knows one
+-- the session and its seat looked at their rings from both ends, and the other seats stay: all replies were told, or their
+-- ring is full, so that the session knows one
 pub record SeatLooks (log : List Logged) (s t : Session) (old new : List Seat) : Type 0 where
   pub x : Seat
   pub y : Seat

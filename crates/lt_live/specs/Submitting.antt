@@ -10,9 +10,11 @@ has_set script set = nat_lt set (length script.sets)
 
 -- the other client is of the script, and of the client's node
 abbrev pub is_neighbour : ScriptData → ℕ → ℕ → Bool
-is_neighbour script client other = nat_lt other (length script.clients) && home_at script.clients other == home_at script.clients client
+is_neighbour script client other =
+    nat_lt other (length script.clients) && home_at script.clients other == home_at script.clients client
 
--- all that the command names is of the script and of its version, and so is the client whose locks it drops, of the same node
+-- all that the command names is of the script and of its version, and so is the client whose locks it drops, of the same
+-- node
 abbrev pub may_ask : ScriptData → ℕ → Command → Bool
 may_ask script client (Lock set mode) = has_set script set && is_of_version script.version mode
 may_ask script client (Try set mode) = has_set script set && is_of_version script.version mode
@@ -23,4 +25,5 @@ may_ask script client (DropAll other set) = has_set script set && is_neighbour s
 
 -- so it is of each of these
 abbrev pub MayAskAll : ScriptData → ℕ → List Command → Type 0
-MayAskAll script client commands = (k : ℕ) (command : Command) → slice_get commands k ≡ Some command → may_ask script client command ≡ true
+MayAskAll script client commands =
+    (k : ℕ) (command : Command) → slice_get commands k ≡ Some command → may_ask script client command ≡ true

@@ -1,5 +1,5 @@
 ghost use Rattle.lt_live.specs.Live.{OpenedAreLive, LiveLasts, OneStationLasts, OneSessionLasts, RepliesOfLines, RepliesInLog, PolledInTurn, NoMoreThanSubmitted, SharedNow, ServedNow};
-ghost use Rattle.lt_live.specs.Served.{ServedGoesOn, MomentsFollow, OneWholeRun};
+ghost use Rattle.lt_live.specs.Served.{ServedGoesOn, MomentsFollow, OneRunOfService};
 ghost use Rattle.lt_live.specs.Moves.{ShowsNow};
 ghost use Rattle.lt_live.specs.InHand.{TurnsKeepKnown, TurnTakesNext, HandMayAsk, HandsCanAppend, LooksLeaveHands, NoneStaysInHand};
 
@@ -20,8 +20,8 @@ pub fn law_taken()
     ensures next { TurnTakesNext }
 {}
 
-/// A station appends each command that was submitted: once the sessions of all clients of its node and their seats have looked
-/// at their rings, a command that is in hand after a turn is one for which there was no memory.
+/// A station appends each command that was submitted: once the sessions of all clients of its node and their seats have
+/// looked at their rings, a command that is in hand after a turn is one for which there was no memory.
 pub fn law_in_hand()
     ensures may { HandMayAsk }
     ensures can { HandsCanAppend }
@@ -58,5 +58,5 @@ pub fn law_served_goes_on()
 
 /// There is one run that holds all moves of the stations and all commands that they took: none can be left out.
 pub fn law_one_run()
-    ensures { OneWholeRun }
+    ensures { OneRunOfService }
 {}

@@ -11,11 +11,12 @@ use Rattle.lt_threads.specs.Meeting.{InShares}
 use Rattle.lt_live.specs.declared.ends.Seat.{Seat}
 use Rattle.lt_live.specs.declared.ends.Session.{Session}
 use Rattle.lt_live.specs.Live.{IsSessionOf}
-use Rattle.lt_live.specs.Stations.{may_ask, runner_of, StationData, equal_share}
+use Rattle.lt_live.specs.Submitting.{may_ask}
+use Rattle.lt_live.specs.Stations.{runner_of, StationData, equal_share}
 use Rattle.lt_live.specs.Words.{submitted, taken, known_commands, outbox_replies, command_held}
 use Rattle.lt_live.proofs.SeatLists.{each_before}
 use Rattle.lt_live.proofs.TurnParts.{asks, ask_same}
-use Rattle.lt_live_callers.specs.Taking.{IsBeside, BesideTo, AreAsking, IsKept, SameHand, OnlyLooks}
+use Rattle.lt_live_callers.specs.Taking.{SessionIsBeside, SessionsBesideTo, AreAsking, IsKeptStation, SeatKeepsHand, StationOnlyLooks}
 use Rattle.lt_live_callers.proofs.Missing.{Within, none_apart, middle}
 
 -- what the station of this client knows of its commands, once both ends looked
@@ -39,12 +40,12 @@ HasTaken station = (k : ℕ) (seat : Seat) → slice_get station.seats k ≡ Som
 abbrev pub HaveTaken : List StationData → Type 0
 HaveTaken stations = (q : ℕ) (station : StationData) → slice_get stations q ≡ Some station → HasTaken station
 
-pub taken_kept : (station : StationData) → IsKept station → HasTaken station
+pub taken_kept : (station : StationData) → IsKeptStation station → HasTaken station
 taken_kept station kept k seat here = (kept.is_station.each k seat here).kept.taken
 
-pub taken_looked : (a b : StationData) → OnlyLooks a b → HasTaken a → HasTaken b
+pub taken_looked : (a b : StationData) → StationOnlyLooks a b → HasTaken a → HasTaken b
 taken_looked a b looks had k seat here =
-    let (was, there, same) = each_before SameHand a.seats b.seats looks.hands k seat here in
+    let (was, there, same) = each_before SeatKeepsHand a.seats b.seats looks.hands k seat here in
     same.taken
     ∙ had k was there
     ∙ ap (λ (p : Parts). commands_of p.node.script was.client ++ command_held was.hand) (sym looks.runner)
@@ -57,7 +58,7 @@ share_at script stations sessions asking q x here =
     asking.live.runners.each q x.runner (slice_get-map runner_of stations q ∙ ap (option_map runner_of) here)
 
 module _ (script : ScriptData) (stations : List StationData) (sessions : List Session) (client : ℕ) (s : Session) (asking : AreAsking script stations sessions)
-    (had : HaveTaken stations) (found : slice_get sessions client ≡ Some s) (b : IsBeside script stations client s) where
+    (had : HaveTaken stations) (found : slice_get sessions client ≡ Some s) (b : SessionIsBeside script stations client s) where
   session_is : IsSessionOf script stations client s
   session_is = asking.live.each client s found
 
@@ -106,7 +107,7 @@ module _ (script : ScriptData) (stations : List StationData) (sessions : List Se
 pub record AllBeside (script : ScriptData) (stations : List StationData) (sessions : List Session) : Type 0 where
   pub asking : AreAsking script stations sessions
   pub had : HaveTaken stations
-  pub beside : BesideTo script (length sessions) stations sessions
+  pub beside : SessionsBesideTo script (length sessions) stations sessions
 
 module _ (script : ScriptData) (stations : List StationData) (sessions : List Session) (h : AllBeside script stations sessions) where
   pub seen_at : (k : ℕ) (s : Session) → slice_get sessions k ≡ Some s → Seen stations script k s

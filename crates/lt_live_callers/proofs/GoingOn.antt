@@ -26,7 +26,7 @@ use Rattle.lt_live_callers.proofs.Outboxes.{waits_turned}
 use Rattle.lt_live_callers.proofs.Places.{each_then, mapped_at}
 use Rattle.lt_live_callers.proofs.Steps.{desk_itself, desk_join, calls_go_on}
 
--- Turns of stations.
+-- StationTakesTurn of stations.
 
 station_join : (a b c : StationData) → StationGoesOn a b → StationGoesOn b c → StationGoesOn a c
 station_join a b c first second = record {

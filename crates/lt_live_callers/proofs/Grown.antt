@@ -28,7 +28,7 @@ use Rattle.lt_live.specs.Live.{AreLive, LiveScript, GoesOn, StationGoesOn, EachS
 use Rattle.lt_live.proofs.Finished.{AllSettled, served_run}
 use Rattle.lt_live.proofs.SeatLists.{alike_after, alike_self, alike_weaker}
 use Rattle.lt_live.proofs.Settling.{session_itself}
-use Rattle.lt_live_callers.specs.Served.{StopsSo, CallersEndSo, as_live, IsMadeBy}
+use Rattle.lt_live_callers.specs.Served.{StopsSo, CallersEndSo, as_live, IsRunOfStations}
 use Rattle.lt_live_callers.specs.Taking.{GoesFurther, HaveTakenAll, AreAllAppended}
 use Rattle.lt_live_callers.proofs.Steps.{prefix_same, prefix_join}
 
@@ -162,7 +162,7 @@ module _ (stations later : List StationData) (sessions after : List Session) (rs
       finished merges moved.ends
 
   -- the run is made by the stations
-  pub made_by : map runner_of later ≡ map runner_of stations → IsMadeBy stations made run
+  pub made_by : map runner_of later ≡ map runner_of stations → IsRunOfStations stations made run
   made_by same = record {
     last = last;
     on = alike_weaker Grew GoesFurther further_of_grew (map runner_of stations) last

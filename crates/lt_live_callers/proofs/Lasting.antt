@@ -13,7 +13,7 @@ use Rattle.lt_live.specs.Words.{submitted, SameSession}
 use Rattle.lt_live.proofs.LiveShares.{goes_itself, goes_join}
 use Rattle.lt_live.proofs.SeatLists.{alike_self, alike_before, alike_join, alike_weaker}
 use Rattle.lt_live.proofs.Settling.{live_lasts, session_itself, same_sessions, station_itself, station_same, turn_has_all}
-use Rattle.lt_live_callers.specs.Taking.{NoneWaitsAt, GoesFurther, ServesOn, AreAsking, OnlyTakes}
+use Rattle.lt_live_callers.specs.Taking.{NoneWaitsAt, GoesFurther, StationTakesOn, AreAsking, OnlyTakes}
 use Rattle.lt_live_callers.proofs.Outboxes.{waits_turned}
 use Rattle.lt_live_callers.proofs.Steps.{names_same, prefix_same, prefix_join}
 
@@ -43,7 +43,7 @@ turn_further turned a b turns goes = record {
 
 -- stations
 
-pub serves_itself : (a : StationData) → ServesOn a a
+pub serves_itself : (a : StationData) → StationTakesOn a a
 serves_itself a = record { goes = station_itself a; further = further_itself a.runner; has_all = λ had. had; waits = λ place none. none }
 
 station_join : (a b c : StationData) → StationGoesOn a b → StationGoesOn b c → StationGoesOn a c
@@ -52,7 +52,7 @@ station_join a b c first second = record {
   seated = λ s seated. second.seated s (first.seated s seated);
 }
 
-pub serves_join : (a b c : StationData) → ServesOn a b → ServesOn b c → ServesOn a c
+pub serves_join : (a b c : StationData) → StationTakesOn a b → StationTakesOn b c → StationTakesOn a c
 serves_join a b c first second = record {
   goes = station_join a b c first.goes second.goes;
   further = further_join a.runner b.runner c.runner first.further second.further;
@@ -60,7 +60,7 @@ serves_join a b c first second = record {
   waits = λ place none. second.waits place (first.waits place none);
 }
 
-pub serves_turned : (turned : Turned) (a b : StationData) → StationTurns turned a.runner a.seats b.runner b.seats → StationGoesOn a b → ServesOn a b
+pub serves_turned : (turned : Turned) (a b : StationData) → StationTurns turned a.runner a.seats b.runner b.seats → StationGoesOn a b → StationTakesOn a b
 serves_turned turned a b turns goes = record {
   goes = goes;
   further = turn_further turned a b turns goes.runner;
@@ -69,7 +69,7 @@ serves_turned turned a b turns goes = record {
 }
 
 -- a station whose runner stays
-pub serves_same : (a b : StationData) → b.runner ≡ a.runner → StaySeated a.seats b.seats → ((place : ℕ) → NoneWaitsAt place a.seats → NoneWaitsAt place b.seats) → ServesOn a b
+pub serves_same : (a b : StationData) → b.runner ≡ a.runner → StaySeated a.seats b.seats → ((place : ℕ) → NoneWaitsAt place a.seats → NoneWaitsAt place b.seats) → StationTakesOn a b
 serves_same a b same stay waits = record {
   goes = station_same a b same stay;
   further = subst (λ (p : Parts). GoesFurther a.runner p) (sym same) (further_itself a.runner);
@@ -91,7 +91,7 @@ says_join a b c first second = record {
 
 -- whatever stations do, while nothing is submitted
 pub asking_lasts : (script : ScriptData) (stations later : List StationData) (sessions after : List Session) → AreAsking script stations sessions
-    → EachStation ServesOn stations later → EachSession SaysSame sessions after → AreAsking script later after
+    → EachStation StationTakesOn stations later → EachSession SaysSame sessions after → AreAsking script later after
 asking_lasts script stations later sessions after h serves says = record {
   live = live_lasts script stations later sessions after h.live goes (alike_weaker SaysSame SameSession (λ s t same. same.same) sessions after says);
   each = λ client t e.
@@ -102,19 +102,19 @@ asking_lasts script stations later sessions after h serves says = record {
         share = let least = before.share in omega (arith, share, least);
         names = names_same s t same.same same.submitted before.names;
         hears = λ y there.
-            let (x, here, on) = alike_before ServesOn stations later serves (home script client) y there in
+            let (x, here, on) = alike_before StationTakesOn stations later serves (home script client) y there in
             subst (λ (k : ℕ). NoneWaitsAt k y.seats) (sym same.same.place) (on.waits s.place (before.hears x here));
       };
 }
   where
     goes : EachStation StationGoesOn stations later
-    goes = alike_weaker ServesOn StationGoesOn (λ x y on. on.goes) stations later serves
+    goes = alike_weaker StationTakesOn StationGoesOn (λ x y on. on.goes) stations later serves
 
 pub takes_none : (script : ScriptData) (stations : List StationData) (sessions : List Session) → AreAsking script stations sessions
     → OnlyTakes script stations sessions stations sessions
 takes_none script stations sessions h = record {
   asking = h;
-  serves = alike_self ServesOn serves_itself stations;
+  serves = alike_self StationTakesOn serves_itself stations;
   says = alike_self SaysSame says_itself sessions;
 }
 
@@ -122,6 +122,6 @@ pub takes_join : (script : ScriptData) (stations mid later : List StationData) (
     → OnlyTakes script stations sessions mid between → OnlyTakes script mid between later after → OnlyTakes script stations sessions later after
 takes_join script stations mid later sessions between after first second = record {
   asking = second.asking;
-  serves = alike_join ServesOn serves_join stations mid later first.serves second.serves;
+  serves = alike_join StationTakesOn serves_join stations mid later first.serves second.serves;
   says = alike_join SaysSame says_join sessions between after first.says second.says;
 }

@@ -12,34 +12,34 @@ use Rattle.lt_live.specs.Live.{SaysSame}
 use Rattle.lt_live.specs.Stations.{StationData, IsSeated, StaySeated, SeatLooks, EachSeat}
 use Rattle.lt_live.proofs.SeatLists.{alike_self, alike_set, alike_join, set_here, set_other}
 use Rattle.lt_live.proofs.Settling.{says_looked}
-use Rattle.lt_live_callers.specs.Taking.{ServesOn, AreAsking, OnlyTakes, IsBeside, SameHand, OnlyLooks, SessionsLook, SessionLooks}
+use Rattle.lt_live_callers.specs.Taking.{StationTakesOn, AreAsking, OnlyTakes, SessionIsBeside, SeatKeepsHand, StationOnlyLooks, SessionsLook, SessionLooks}
 use Rattle.lt_live_callers.proofs.Lasting.{serves_itself, serves_same, says_itself, asking_lasts, takes_none, takes_join}
 use Rattle.lt_live_callers.proofs.Outboxes.{waits_looked}
 
-same_hand : (s : Seat) → SameHand s s
+same_hand : (s : Seat) → SeatKeepsHand s s
 same_hand s = record { client = refl; hand = refl; taken = refl }
 
-hand_join : (a b c : Seat) → SameHand a b → SameHand b c → SameHand a c
+hand_join : (a b c : Seat) → SeatKeepsHand a b → SeatKeepsHand b c → SeatKeepsHand a c
 hand_join a b c first second = record { client = second.client ∙ first.client; hand = second.hand ∙ first.hand; taken = second.taken ∙ first.taken }
 
-only_itself : (a : StationData) → OnlyLooks a a
-only_itself a = record { runner = refl; stay = λ s h. h; hands = alike_self SameHand same_hand a.seats }
+only_itself : (a : StationData) → StationOnlyLooks a a
+only_itself a = record { runner = refl; stay = λ s h. h; hands = alike_self SeatKeepsHand same_hand a.seats }
 
-only_join : (a b c : StationData) → OnlyLooks a b → OnlyLooks b c → OnlyLooks a c
+only_join : (a b c : StationData) → StationOnlyLooks a b → StationOnlyLooks b c → StationOnlyLooks a c
 only_join a b c first second = record {
   runner = second.runner ∙ first.runner;
   stay = λ s h. second.stay s (first.stay s h);
-  hands = alike_join SameHand hand_join a.seats b.seats c.seats first.hands second.hands;
+  hands = alike_join SeatKeepsHand hand_join a.seats b.seats c.seats first.hands second.hands;
 }
 
-hands_looked : (log : List Logged) (s t : Session) (old new : List Seat) → SeatLooks log s t old new → EachSeat SameHand old new
+hands_looked : (log : List Logged) (s t : Session) (old new : List Seat) → SeatLooks log s t old new → EachSeat SeatKeepsHand old new
 hands_looked log s t old new h k = elim (cases_eq k s.place) [
   | inl at ↦
-      subst (λ (j : ℕ). Alike SameHand (slice_get old j) (slice_get new j)) (sym at)
-      (subst (λ (o : Option Seat). Alike SameHand o (slice_get new s.place)) (sym h.before)
-      (subst (λ (o : Option Seat). Alike SameHand (Some h.x) o) (sym h.now)
+      subst (λ (j : ℕ). Alike SeatKeepsHand (slice_get old j) (slice_get new j)) (sym at)
+      (subst (λ (o : Option Seat). Alike SeatKeepsHand o (slice_get new s.place)) (sym h.before)
+      (subst (λ (o : Option Seat). Alike SeatKeepsHand (Some h.x) o) (sym h.now)
       (record { client = h.looks.seat.client; hand = h.looks.taken.1; taken = h.looks.taken.0 })))
-  | inr apart ↦ subst (λ (o : Option Seat). Alike SameHand (slice_get old k) o) (sym (h.others k apart)) (alike_self SameHand same_hand old k)
+  | inr apart ↦ subst (λ (o : Option Seat). Alike SeatKeepsHand (slice_get old k) o) (sym (h.others k apart)) (alike_self SeatKeepsHand same_hand old k)
 ]
 
 module _ (script : ScriptData) (client place : ℕ) (stations : List StationData) (sessions : List Session) (x y : StationData) (s t : Session)
@@ -55,10 +55,10 @@ module _ (script : ScriptData) (client place : ℕ) (stations : List StationData
   client_of : (k : ℕ) (u : Session) → slice_get sessions k ≡ Some u → u.client ≡ k
   client_of k u found = (h.live.each k u found).client_is
 
-  one : (u : Session) → slice_get (slice_set sessions client t) client ≡ Some u → IsBeside script (slice_set stations place y) client u
+  one : (u : Session) → slice_get (slice_set sessions client t) client ≡ Some u → SessionIsBeside script (slice_set stations place y) client u
   one u found =
       let is : t ≡ u = same_Some t u (sym (set_here sessions client t (slice_get_within sessions client s here)) ∙ found) in
-      subst (λ (v : Session). IsBeside script (slice_set stations place y) client v) is
+      subst (λ (v : Session). SessionIsBeside script (slice_set stations place y) client v) is
       (record {
         station = y;
         here = ap (slice_get (slice_set stations place y)) (sym at) ∙ there;
@@ -69,7 +69,7 @@ module _ (script : ScriptData) (client place : ℕ) (stations : List StationData
       })
 
   -- the seat of another session is another one
-  stays : (k : ℕ) (u : Session) → k ≢ client → slice_get sessions k ≡ Some u → IsBeside script stations k u → IsBeside script (slice_set stations place y) k u
+  stays : (k : ℕ) (u : Session) → k ≢ client → slice_get sessions k ≡ Some u → SessionIsBeside script stations k u → SessionIsBeside script (slice_set stations place y) k u
   stays k u other found b = elim (cases_eq (home script k) place) [
     | inr apart ↦ record {
       station = b.station;
@@ -101,7 +101,7 @@ module _ (script : ScriptData) (client place : ℕ) (stations : List StationData
 
   takes : OnlyTakes script stations sessions (slice_set stations place y) (slice_set sessions client t)
   takes =
-      let serves = alike_set ServesOn serves_itself stations place x y station
+      let serves = alike_set StationTakesOn serves_itself stations place x y station
       (serves_same x y runner stay (waits_looked x.runner.log.entries s t x.seats y.seats looks)) in
       let all_say = alike_set SaysSame says_itself sessions client s t here says in
       record {
@@ -113,7 +113,7 @@ module _ (script : ScriptData) (client place : ℕ) (stations : List StationData
   pub looks_at : SessionLooks script client stations sessions (slice_set stations place y) (slice_set sessions client t)
   looks_at = record {
     all = takes;
-    looks = alike_set OnlyLooks only_itself stations place x y station
+    looks = alike_set StationOnlyLooks only_itself stations place x y station
         (record { runner = runner; stay = stay; hands = hands_looked x.runner.log.entries s t x.seats y.seats looks });
     one = one;
     others = λ k u apart found.
@@ -127,7 +127,7 @@ pub none_look : (script : ScriptData) (stations : List StationData) (sessions : 
     → SessionsLook script 0 stations sessions stations sessions
 none_look script stations sessions h = record {
   all = takes_none script stations sessions h;
-  looks = alike_self OnlyLooks only_itself stations;
+  looks = alike_self StationOnlyLooks only_itself stations;
   beside = λ client s below. absurd (omega (arith, below));
 }
 
@@ -135,10 +135,10 @@ pub next_look : (script : ScriptData) (n : ℕ) (stations mid later : List Stati
     → SessionsLook script n stations sessions mid between → SessionLooks script n mid between later after → SessionsLook script (n + 1) stations sessions later after
 next_look script n stations mid later sessions between after h at = record {
   all = takes_join script stations mid later sessions between after h.all at.all;
-  looks = alike_join OnlyLooks only_join stations mid later h.looks at.looks;
+  looks = alike_join StationOnlyLooks only_join stations mid later h.looks at.looks;
   beside = λ client s below e. elim (cases_eq client n) [
     | inl here ↦
-        subst (λ (k : ℕ). IsBeside script later k s) (sym here) (at.one s (ap (slice_get after) (sym here) ∙ e))
+        subst (λ (k : ℕ). SessionIsBeside script later k s) (sym here) (at.one s (ap (slice_get after) (sym here) ∙ e))
     | inr apart ↦
         let (old, stays) = at.others client s apart e in
         stays (h.beside client s (omega (arith, below, apart)) old)

@@ -15,9 +15,10 @@ use Rattle.lt_spec.specs.World.{Logged}
 use Rattle.lt_threads.proofs.Shares.{counted}
 use Rattle.lt_live.specs.declared.ends.Seat.{Seat}
 use Rattle.lt_live.specs.declared.reply.Reply.{Reply}
-use Rattle.lt_live.specs.Stations.{may_ask, may_append, equal_share, SeatTurns, HandMayGo}
+use Rattle.lt_live.specs.Submitting.{may_ask}
+use Rattle.lt_live.specs.Stations.{may_append, equal_share, SeatTurns, HandMayGo}
 use Rattle.lt_live.specs.Words.{taken, known_commands, outbox_replies, command_held}
-use Rattle.lt_live_callers.specs.Taking.{SameHand}
+use Rattle.lt_live_callers.specs.Taking.{SeatKeepsHand}
 
 -- the taken commands stay where the one in hand goes
 gone_taken : (s t : Seat) → HandMayGo s t → taken t ≡ taken s
@@ -28,7 +29,7 @@ some_none : {X : Type 0} (x : X) → Some x ≡ None → ⊥
 some_none x f = cc
 
 -- between two looks a turn took a command in, where there was one
-module _ (log : List Logged) (old new all : List Command) (x y z : Seat) (turn : SeatTurns log x y) (look : SameHand y z)
+module _ (log : List Logged) (old new all : List Command) (x y z : Seat) (turn : SeatTurns log x y) (look : SeatKeepsHand y z)
     (before : taken x ≡ old ++ command_held x.hand) (after : taken z ≡ new ++ command_held z.hand)
     (rest : (old ++ command_held x.hand) ++ known_commands x ≡ all) (empty : outbox_replies x ≡ []) (none : z.hand ≡ None) where
   grown : new ≡ old ++ command_held turn.held.hand

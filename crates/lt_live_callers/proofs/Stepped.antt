@@ -13,22 +13,22 @@ use Rattle.lt_live.specs.Live.{SaysSame}
 use Rattle.lt_live.specs.Stations.{may_append, StationData, SeatTurns}
 use Rattle.lt_live.specs.Words.{submitted, known_commands}
 use Rattle.lt_live.proofs.SeatLists.{alike_before, alike_after, alike_self, alike_weaker, each_after}
-use Rattle.lt_live_callers.specs.Taking.{HaveTakenAll, ServesOn, AreAsking, OnlyTakes, appended_at, room_at, all_room, SameHand, OnlyLooks, SessionsLook, Turns, AnyTurns, SameCount, AllTurn}
+use Rattle.lt_live_callers.specs.Taking.{HaveTakenAll, StationTakesOn, AreAsking, OnlyTakes, commands_at, room_at, all_room, SeatKeepsHand, StationOnlyLooks, SessionsLook, StationTakesTurn, StationMayTurn, AppendsNothing, AllStationsTurn}
 use Rattle.lt_live_callers.proofs.Missing.{advances, no_hand}
 use Rattle.lt_live_callers.proofs.Lasting.{turn_further, serves_turned, says_itself, asking_lasts, takes_join}
 use Rattle.lt_live_callers.proofs.Turned.{no_more_room, falls}
 use Rattle.lt_live_callers.proofs.Beside.{Seen, HaveTaken, taken_kept, taken_looked, AllBeside, seen_at, within, same_clients}
 
-pub takes_turned : (script : ScriptData) (more : Bool) (a b : List StationData) (sessions : List Session) → AreAsking script a sessions → AllTurn more a b
+pub takes_turned : (script : ScriptData) (more : Bool) (a b : List StationData) (sessions : List Session) → AreAsking script a sessions → AllStationsTurn more a b
     → OnlyTakes script a sessions b sessions
 takes_turned script more a b sessions asking turn =
-    let serves = alike_weaker AnyTurns ServesOn (λ x y t. serves_turned t.1.turned x y t.1.turns t.1.goes) a b turn.each in
+    let serves = alike_weaker StationMayTurn StationTakesOn (λ x y t. serves_turned t.1.turned x y t.1.turns t.1.goes) a b turn.each in
     let says = alike_self SaysSame says_itself sessions in
     record { asking = asking_lasts script a b sessions sessions asking serves says; serves = serves; says = says }
 
 -- one client, whose station turned between two looks
 module _ (script : ScriptData) (a c : List StationData) (k : ℕ) (u v : Session) (s : Seen a script k u) (t : Seen c script k v) (some : Bool) (y : StationData) (seat : Seat)
-    (turned : Turns some s.station y) (one : SeatTurns y.runner.log.entries s.seat seat) (at : slice_get y.seats u.place ≡ Some seat) (look : SameHand seat t.seat)
+    (turned : StationTakesTurn some s.station y) (one : SeatTurns y.runner.log.entries s.seat seat) (at : slice_get y.seats u.place ≡ Some seat) (look : SeatKeepsHand seat t.seat)
     (runner_is : t.station.runner ≡ y.runner) (clients : length t.station.runner.node.script.clients ≡ length script.clients)
     (below : k < length script.clients) where
   can_not : (command : Command) → t.seat.hand ≡ Some command → may_append t.station.runner.node.script k command ≡ false
@@ -59,9 +59,9 @@ same_there : (stations : List StationData) (q : ℕ) (x y : StationData) → sli
 same_there stations q x y here there = same_Some x y (sym here ∙ there)
 
 looked_seat : (z t : StationData) (p q : ℕ) (seat last found : Seat) → z ≡ t → q ≡ p → slice_get z.seats p ≡ Some last → slice_get t.seats q ≡ Some found
-    → SameHand seat last → SameHand seat found
+    → SeatKeepsHand seat last → SeatKeepsHand seat found
 looked_seat z t p q seat last found is same there at hand =
-    subst (SameHand seat)
+    subst (SeatKeepsHand seat)
     (same_Some last found (sym there ∙ ap (λ (v : StationData). slice_get v.seats p) is ∙ ap (slice_get t.seats) (sym same) ∙ at)) hand
 
 -- a list that didn't grow had all
@@ -70,17 +70,17 @@ had_all all old new same (inl less) = let count_is = ap (λ (list : List Command
 had_all all old new same (inr is) = same ∙ sym is
 
 module _ (script : ScriptData) (more : Bool) (stations a b c : List StationData) (sessions mid after : List Session)
-    (first : SessionsLook script (length mid) stations sessions a mid) (turn : AllTurn more a b)
+    (first : SessionsLook script (length mid) stations sessions a mid) (turn : AllStationsTurn more a b)
     (second : SessionsLook script (length after) b mid c after) where
   had_a : HaveTaken a
   had_a q x here =
-      let (y, there, turned) = alike_after AnyTurns a b turn.each q x here in
+      let (y, there, turned) = alike_after StationMayTurn a b turn.each q x here in
       taken_kept x turned.1.before
 
   had_c : HaveTaken c
   had_c q z here =
-      let (y, there, looked) = alike_before OnlyLooks b c second.looks q z here in
-      let (x, was, turned) = alike_before AnyTurns a b turn.each q y there in
+      let (y, there, looked) = alike_before StationOnlyLooks b c second.looks q z here in
+      let (x, was, turned) = alike_before StationMayTurn a b turn.each q y there in
       taken_looked y z looked (taken_kept y turned.1.now)
 
   beside_a : AllBeside script a mid
@@ -95,17 +95,17 @@ module _ (script : ScriptData) (more : Bool) (stations a b c : List StationData)
   complete e client u v found then on station here =
       let s = seen_at script a mid beside_a client u found in
       let t = seen_at script c after beside_c client v then in
-      let (y, at_y, turned) = alike_after AnyTurns a b turn.each (home script client) s.station s.here in
-      let (w, again, count_is) = alike_after SameCount a b (turn.none e) (home script client) s.station s.here in
-      let (z, at_z, looked) = alike_after OnlyLooks b c second.looks (home script client) y at_y in
+      let (y, at_y, turned) = alike_after StationMayTurn a b turn.each (home script client) s.station s.here in
+      let (w, again, count_is) = alike_after AppendsNothing a b (turn.none e) (home script client) s.station s.here in
+      let (z, at_z, looked) = alike_after StationOnlyLooks b c second.looks (home script client) y at_y in
       let (seat, there, one) = each_after (SeatTurns y.runner.log.entries) s.station.seats y.seats turned.1.turns.each u.place s.seat s.at in
-      let (last, place, hand) = each_after SameHand y.seats z.seats looked.hands u.place seat there in
+      let (last, place, hand) = each_after SeatKeepsHand y.seats z.seats looked.hands u.place seat there in
       let is : z ≡ t.station = same_there c (home script client) z t.station at_z t.here in
       let same_y : w ≡ y = same_there b (home script client) w y again at_y in
       let runner_is : t.station.runner ≡ y.runner = subst (λ (x : StationData). x.runner ≡ y.runner) is looked.runner in
       let same : y.runner.node.script.commands ≡ s.station.runner.node.script.commands =
       whole s.station.runner.node.script.commands y.runner.node.script.commands (turn_further turned.1.turned s.station y turned.1.turns turned.1.goes.runner).commands
-      (sym (ap appended_at same_y) ∙ count_is) in
+      (sym (ap commands_at same_y) ∙ count_is) in
       let lists : commands_of t.station.runner.node.script client ≡ commands_of s.station.runner.node.script client =
       ap (λ (p : Parts). commands_of p.node.script client) runner_is ∙ ap (λ (commands : List (ℕ × Command)). filter_map (command_if client) commands) same in
       let hands = looked_seat z t.station u.place v.place seat last t.seat is on.same.place place t.at hand in
@@ -129,16 +129,16 @@ module _ (script : ScriptData) (more : Bool) (stations a b c : List StationData)
       takes_join script stations a c sessions mid after first.all
       (takes_join script a b c mid mid after (takes_turned script more a b mid first.all.asking turn) second.all)
 
-  no_more : (x y : StationData) → ServesOn x y → room_at y ≤ room_at x
+  no_more : (x y : StationData) → StationTakesOn x y → room_at y ≤ room_at x
   no_more x y on = no_more_room x y on.further
 
   pub less : more ≡ true → all_room c < all_room stations
   less e =
       let g = turn.some e in
-      let (x, before, look) = alike_before OnlyLooks stations a first.looks g.place g.x g.before in
-      let (z, now, again) = alike_after OnlyLooks b c second.looks g.place g.y g.now in
+      let (x, before, look) = alike_before StationOnlyLooks stations a first.looks g.place g.x g.before in
+      let (z, now, again) = alike_after StationOnlyLooks b c second.looks g.place g.y g.now in
       let one : room_at z < room_at x =
       subst (λ (p : Parts). room_at (record { runner = p; seats = z.seats }) < room_at x) (sym again.runner)
       (subst (λ (p : Parts). room_at (record { runner = g.y.runner; seats = z.seats }) < room_at (record { runner = p; seats = x.seats })) look.runner g.less) in
-      falls room_at stations c (alike_weaker ServesOn (λ (x : StationData) (y : StationData). room_at y ≤ room_at x) no_more stations c takes_more.serves)
+      falls room_at stations c (alike_weaker StationTakesOn (λ (x : StationData) (y : StationData). room_at y ≤ room_at x) no_more stations c takes_more.serves)
       g.place x z before now one

@@ -18,48 +18,48 @@ use Rattle.lt_live.specs.Live.{StationGoesOn, EachStation, EachSession, SaysSame
 use Rattle.lt_live.specs.Seats.{replies_in}
 use Rattle.lt_live.specs.Stations.{StationData, runner_of, equal_share, HaveEqualShares}
 use Rattle.lt_live.proofs.SeatLists.{alike_before, alike_after, alike_join, alike_weaker}
-use Rattle.lt_live_callers.specs.Served.{HaveMade, IsMadeBy}
-use Rattle.lt_live_callers.specs.Taking.{GoesFurther, ServesOn, AreAsking, AreAllAppended}
+use Rattle.lt_live_callers.specs.Served.{HaveMade, IsRunOfStations}
+use Rattle.lt_live_callers.specs.Taking.{GoesFurther, StationTakesOn, AreAsking, AreAllAppended}
 use Rattle.lt_live_callers.proofs.GoingOn.{limits_last}
 use Rattle.lt_live_callers.proofs.Lasting.{further_join}
 use Rattle.lt_live_callers.proofs.Places.{mapped_at}
 
 -- the moves of stations that made a run are in it
-pub have_made : (stations : List StationData) (script : ScriptData) (run : List Logged) → IsMadeBy stations script run → HaveMade stations run
+pub have_made : (stations : List StationData) (script : ScriptData) (run : List Logged) → IsRunOfStations stations script run → HaveMade stations run
 have_made stations script run h node station here =
     let there : slice_get (map runner_of stations) node ≡ Some station.runner = slice_get-map runner_of stations node ∙ ap (option_map runner_of) here in
     let (p, now, on) = alike_after GoesFurther (map runner_of stations) h.last h.on node station.runner there in
     subst (λ (log : List Logged). IsPrefix station.runner.log.entries log) (sym (h.all.moves node p now)) on.log
 
-runners_further : (stations later : List StationData) → EachStation ServesOn stations later → EachIs GoesFurther (map runner_of stations) (map runner_of later)
+runners_further : (stations later : List StationData) → EachStation StationTakesOn stations later → EachIs GoesFurther (map runner_of stations) (map runner_of later)
 runners_further stations later serves k =
     subst (λ (o : Option Parts). Alike GoesFurther o (slice_get (map runner_of later) k)) (sym (slice_get-map runner_of stations k))
     (subst (λ (o : Option Parts). Alike GoesFurther (option_map runner_of (slice_get stations k)) o) (sym (slice_get-map runner_of later k))
     (here (slice_get stations k) (slice_get later k) (serves k)))
   where
-    here : (x y : Option StationData) → Alike ServesOn x y → Alike GoesFurther (option_map runner_of x) (option_map runner_of y)
+    here : (x y : Option StationData) → Alike StationTakesOn x y → Alike GoesFurther (option_map runner_of x) (option_map runner_of y)
     here None None p = tt
     here None (Some y) p = absurd p
     here (Some x) None p = absurd p
     here (Some x) (Some y) p = p.further
 
 -- what stations made later they made
-pub made_before : (stations later : List StationData) (script : ScriptData) (run : List Logged) → EachStation ServesOn stations later → IsMadeBy later script run
-    → IsMadeBy stations script run
+pub made_before : (stations later : List StationData) (script : ScriptData) (run : List Logged) → EachStation StationTakesOn stations later → IsRunOfStations later script run
+    → IsRunOfStations stations script run
 made_before stations later script run serves h = record {
   last = h.last;
   on = alike_join GoesFurther further_join (map runner_of stations) (map runner_of later) h.last (runners_further stations later serves) h.on;
   all = h.all;
 }
 
-pub limits_served : (limit : ℕ) (stations later : List StationData) → EachStation ServesOn stations later → HasLimit limit (map runner_of stations)
+pub limits_served : (limit : ℕ) (stations later : List StationData) → EachStation StationTakesOn stations later → HasLimit limit (map runner_of stations)
     → HasLimit limit (map runner_of later)
-limits_served limit stations later serves = limits_last limit stations later (alike_weaker ServesOn StationGoesOn (λ x y on. on.goes) stations later serves)
+limits_served limit stations later serves = limits_last limit stations later (alike_weaker StationTakesOn StationGoesOn (λ x y on. on.goes) stations later serves)
 
-pub all_served : (stations later : List StationData) → EachStation ServesOn stations later → HaveAll (map runner_of stations) → HaveAll (map runner_of later)
+pub all_served : (stations later : List StationData) → EachStation StationTakesOn stations later → HaveAll (map runner_of stations) → HaveAll (map runner_of later)
 all_served stations later serves had k p here =
     let (y, there, now) = mapped_at runner_of later k p here in
-    let (x, was, on) = alike_before ServesOn stations later serves k y there in
+    let (x, was, on) = alike_before StationTakesOn stations later serves k y there in
     subst HasAll now (on.has_all (had k x.runner (slice_get-map runner_of stations k ∙ ap (option_map runner_of) was)))
 
 -- all submit no more together than the text of a script may have

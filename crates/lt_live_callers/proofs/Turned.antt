@@ -11,7 +11,7 @@ use Rattle.lt_live.specs.Live.{EachStation, GoesOn}
 use Rattle.lt_live.specs.Stations.{StationData, StationTurns, StaySeated}
 use Rattle.lt_live.proofs.SeatLists.{alike_self, set_here, set_other}
 use Rattle.lt_live.proofs.Finished.{first_few}
-use Rattle.lt_live_callers.specs.Taking.{GoesFurther, appended_at, room_at, IsKept, TurnLeaves, Turns, TurnsAt, AnyTurns, SameCount, SomeLess, AllTurn}
+use Rattle.lt_live_callers.specs.Taking.{GoesFurther, commands_at, room_at, IsKeptStation, TurnLeaves, StationTakesTurn, StationTakesTurnAt, StationMayTurn, AppendsNothing, SomeLess, AllStationsTurn}
 use Rattle.lt_live_callers.proofs.Lasting.{turn_further}
 
 -- One turn.
@@ -24,10 +24,10 @@ no_more_room a b on =
     let limit = on.goes.limit in
     omega (arith, moves, commands, limit)
 
-further_turned : (more : Bool) (a b : StationData) → Turns more a b → GoesFurther a.runner b.runner
+further_turned : (more : Bool) (a b : StationData) → StationTakesTurn more a b → GoesFurther a.runner b.runner
 further_turned more a b h = turn_further h.turned a b h.turns h.goes.runner
 
-pub less_room : (a b : StationData) (t : AnyTurns a b) → room_at b ≤ room_at a
+pub less_room : (a b : StationData) (t : StationMayTurn a b) → room_at b ≤ room_at a
 less_room a b t = no_more_room a b (further_turned t.0 a b t.1)
 
 -- it made a move
@@ -45,22 +45,22 @@ moved_less a b turns goes =
     omega (arith, one, added, before, room, most, commands, limit)
 
 -- it appended more commands
-appended_less : (a b : StationData) → GoesFurther a.runner b.runner → IsKept b → appended_at a < appended_at b → room_at b < room_at a
+appended_less : (a b : StationData) → GoesFurther a.runner b.runner → IsKeptStation b → commands_at a < commands_at b → room_at b < room_at a
 appended_less a b on kept grew =
     let moves = first_few a.runner.log.entries b.runner.log.entries on.log in
     let limit = on.goes.limit in
     let few = kept.is_script.few_commands in
     omega (arith, moves, limit, few, grew)
 
-leaves_by : (more : Bool) (a b : StationData) → GoesFurther a.runner b.runner → IsKept b → more ≡ nat_lt (appended_at a) (appended_at b) → TurnLeaves more a b
-leaves_by true a b on kept e = appended_less a b on kept (ltb-true (appended_at a) (appended_at b) (sym e))
+leaves_by : (more : Bool) (a b : StationData) → GoesFurther a.runner b.runner → IsKeptStation b → more ≡ nat_lt (commands_at a) (commands_at b) → TurnLeaves more a b
+leaves_by true a b on kept e = appended_less a b on kept (ltb-true (commands_at a) (commands_at b) (sym e))
 leaves_by false a b on kept e =
-    let most = ltb-false (appended_at a) (appended_at b) (sym e) in
+    let most = ltb-false (commands_at a) (commands_at b) (sym e) in
     let least = first_few a.runner.node.script.commands b.runner.node.script.commands on.commands in
     omega (arith, most, least)
 
 pub turned_moved : (turned : Turned) (a b : StationData) → turned ≡ Moved → StationTurns turned a.runner a.seats b.runner b.seats → GoesOn a.runner b.runner
-    → StaySeated a.seats b.seats → IsKept a → IsKept b → Turns true a b
+    → StaySeated a.seats b.seats → IsKeptStation a → IsKeptStation b → StationTakesTurn true a b
 turned_moved turned a b is turns goes stay before now = record {
   turned = turned;
   fits = λ e. absurd (cc (is, e));
@@ -71,8 +71,8 @@ turned_moved turned a b is turns goes stay before now = record {
   leaves = moved_less a b (subst (λ (t : Turned). StationTurns t a.runner a.seats b.runner b.seats) is turns) goes;
 }
 
-pub turned_still : (turned : Turned) (more : Bool) (a b : StationData) → turned ≢ NoMemory → more ≡ nat_lt (appended_at a) (appended_at b)
-    → StationTurns turned a.runner a.seats b.runner b.seats → GoesOn a.runner b.runner → StaySeated a.seats b.seats → IsKept a → IsKept b → Turns more a b
+pub turned_still : (turned : Turned) (more : Bool) (a b : StationData) → turned ≢ NoMemory → more ≡ nat_lt (commands_at a) (commands_at b)
+    → StationTurns turned a.runner a.seats b.runner b.seats → GoesOn a.runner b.runner → StaySeated a.seats b.seats → IsKeptStation a → IsKeptStation b → StationTakesTurn more a b
 turned_still turned more a b fits e turns goes stay before now = record {
   turned = turned;
   fits = fits;
@@ -86,7 +86,7 @@ turned_still turned more a b fits e turns goes stay before now = record {
 -- One station after the other.
 
 pub turned_at : (more : Bool) (place : ℕ) (stations : List StationData) (x y : StationData) → place < length stations
-    → slice_get stations place ≡ Some x → Turns more x y → TurnsAt more place stations (slice_set stations place y)
+    → slice_get stations place ≡ Some x → StationTakesTurn more x y → StationTakesTurnAt more place stations (slice_set stations place y)
 turned_at more place stations x y inside here one = record {
   x = x;
   y = y;
@@ -100,12 +100,12 @@ turned_at more place stations x y inside here one = record {
 -- the first n stations turned, and the others stay
 pub record TurnsTo (n : ℕ) (more : Bool) (old new : List StationData) : Type 0 where
   pub count : length new ≡ length old
-  pub done : (k : ℕ) → k < n → Alike AnyTurns (slice_get old k) (slice_get new k)
+  pub done : (k : ℕ) → k < n → Alike StationMayTurn (slice_get old k) (slice_get new k)
   pub rest : (k : ℕ) → n ≤ k → slice_get new k ≡ slice_get old k
   pub some : more ≡ true → SomeLess old new
-  pub none : more ≡ false → EachStation SameCount old new
+  pub none : more ≡ false → EachStation AppendsNothing old new
 
-same_itself : (a : StationData) → SameCount a a
+same_itself : (a : StationData) → AppendsNothing a a
 same_itself a = refl
 
 pub none_turn : (stations : List StationData) → TurnsTo 0 false stations stations
@@ -114,21 +114,21 @@ none_turn stations = record {
   done = λ k below. absurd (omega (arith, below));
   rest = λ k past. refl;
   some = λ e. absurd (false≢true e);
-  none = λ e. alike_self SameCount same_itself stations;
+  none = λ e. alike_self AppendsNothing same_itself stations;
 }
 
-module _ (n : ℕ) (one more : Bool) (old mid new : List StationData) (h : TurnsTo n more old mid) (at : TurnsAt one n mid new) where
+module _ (n : ℕ) (one more : Bool) (old mid new : List StationData) (h : TurnsTo n more old mid) (at : StationTakesTurnAt one n mid new) where
   was : slice_get old n ≡ Some at.x
   was = sym (h.rest n (omega arith)) ∙ at.before
 
-  done : (k : ℕ) → k < n + 1 → Alike AnyTurns (slice_get old k) (slice_get new k)
+  done : (k : ℕ) → k < n + 1 → Alike StationMayTurn (slice_get old k) (slice_get new k)
   done k below = elim (cases_eq k n) [
     | inl here ↦
-        subst (λ (j : ℕ). Alike AnyTurns (slice_get old j) (slice_get new j)) (sym here)
-        (subst (λ (o : Option StationData). Alike AnyTurns o (slice_get new n)) (sym was)
-        (subst (λ (o : Option StationData). Alike AnyTurns (Some at.x) o) (sym at.now) (one, at.one)))
+        subst (λ (j : ℕ). Alike StationMayTurn (slice_get old j) (slice_get new j)) (sym here)
+        (subst (λ (o : Option StationData). Alike StationMayTurn o (slice_get new n)) (sym was)
+        (subst (λ (o : Option StationData). Alike StationMayTurn (Some at.x) o) (sym at.now) (one, at.one)))
     | inr apart ↦
-        subst (λ (o : Option StationData). Alike AnyTurns (slice_get old k) o) (sym (at.others k apart)) (h.done k (omega (arith, below, apart)))
+        subst (λ (o : Option StationData). Alike StationMayTurn (slice_get old k) o) (sym (at.others k apart)) (h.done k (omega (arith, below, apart)))
   ]
 
   rest : (k : ℕ) → n + 1 ≤ k → slice_get new k ≡ slice_get old k
@@ -146,16 +146,16 @@ module _ (n : ℕ) (one more : Bool) (old mid new : List StationData) (h : Turns
     | inr apart ↦ record { place = g.place; x = g.x; y = g.y; before = g.before; now = at.others g.place apart ∙ g.now; less = g.less }
   ]
 
-  same : EachStation SameCount old mid → SameCount at.x at.y → EachStation SameCount old new
+  same : EachStation AppendsNothing old mid → AppendsNothing at.x at.y → EachStation AppendsNothing old new
   same before now k = elim (cases_eq k n) [
     | inl here ↦
-        subst (λ (j : ℕ). Alike SameCount (slice_get old j) (slice_get new j)) (sym here)
-        (subst (λ (o : Option StationData). Alike SameCount o (slice_get new n)) (sym was)
-        (subst (λ (o : Option StationData). Alike SameCount (Some at.x) o) (sym at.now) now))
-    | inr apart ↦ subst (λ (o : Option StationData). Alike SameCount (slice_get old k) o) (sym (at.others k apart)) (before k)
+        subst (λ (j : ℕ). Alike AppendsNothing (slice_get old j) (slice_get new j)) (sym here)
+        (subst (λ (o : Option StationData). Alike AppendsNothing o (slice_get new n)) (sym was)
+        (subst (λ (o : Option StationData). Alike AppendsNothing (Some at.x) o) (sym at.now) now))
+    | inr apart ↦ subst (λ (o : Option StationData). Alike AppendsNothing (slice_get old k) o) (sym (at.others k apart)) (before k)
   ]
 
-pub next_less : (n : ℕ) (one more : Bool) (old mid new : List StationData) → one ≡ true → TurnsTo n more old mid → TurnsAt one n mid new → TurnsTo (n + 1) true old new
+pub next_less : (n : ℕ) (one more : Bool) (old mid new : List StationData) → one ≡ true → TurnsTo n more old mid → StationTakesTurnAt one n mid new → TurnsTo (n + 1) true old new
 next_less n true more old mid new e h at = record {
   count = at.count ∙ h.count;
   done = done n true more old mid new h at;
@@ -165,7 +165,7 @@ next_less n true more old mid new e h at = record {
 }
 next_less n false more old mid new e h at = absurd (false≢true e)
 
-pub next_same : (n : ℕ) (one more : Bool) (old mid new : List StationData) → one ≡ false → TurnsTo n more old mid → TurnsAt one n mid new → TurnsTo (n + 1) more old new
+pub next_same : (n : ℕ) (one more : Bool) (old mid new : List StationData) → one ≡ false → TurnsTo n more old mid → StationTakesTurnAt one n mid new → TurnsTo (n + 1) more old new
 next_same n false more old mid new e h at = record {
   count = at.count ∙ h.count;
   done = done n false more old mid new h at;
@@ -175,16 +175,16 @@ next_same n false more old mid new e h at = record {
 }
 next_same n true more old mid new e h at = absurd (false≢true (sym e))
 
-pub all_turn : (n : ℕ) (more : Bool) (old new : List StationData) → length old ≤ n → TurnsTo n more old new → AllTurn more old new
+pub all_turn : (n : ℕ) (more : Bool) (old new : List StationData) → length old ≤ n → TurnsTo n more old new → AllStationsTurn more old new
 all_turn n more old new long h = record { each = each; some = h.some; none = h.none }
   where
-    by_place : (k : ℕ) (o : Option StationData) → slice_get old k ≡ o → slice_get new k ≡ slice_get old k → n ≤ k → Alike AnyTurns (slice_get old k) (slice_get new k)
+    by_place : (k : ℕ) (o : Option StationData) → slice_get old k ≡ o → slice_get new k ≡ slice_get old k → n ≤ k → Alike StationMayTurn (slice_get old k) (slice_get new k)
     by_place k (Some x) e same past = let inside = slice_get_within old k x e in absurd (omega (arith, inside, long, past))
     by_place k None e same past =
-        subst (λ (o : Option StationData). Alike AnyTurns (slice_get old k) o) (sym (same ∙ e))
-        (subst (λ (o : Option StationData). Alike AnyTurns o None) (sym e) tt)
+        subst (λ (o : Option StationData). Alike StationMayTurn (slice_get old k) o) (sym (same ∙ e))
+        (subst (λ (o : Option StationData). Alike StationMayTurn o None) (sym e) tt)
 
-    each : EachStation AnyTurns old new
+    each : EachStation StationMayTurn old new
     each k = elim (cases_lt k n) [
       | inl below ↦ h.done k below
       | inr past ↦ by_place k (slice_get old k) refl (h.rest k past) past

@@ -54,8 +54,8 @@ as_live endings.Stuck = Stuck
 as_live (endings.Cut node) = Unfinished node
 
 -- runners went on to where one could make a move
-abbrev pub WantsMemory : List Parts → Type 0
-WantsMemory rs = (between : List Parts) × EachIs Grew rs between × SomeCouldMove between
+abbrev pub MemoryIsWanted : List Parts → Type 0
+MemoryIsWanted rs = (between : List Parts) × EachIs Grew rs between × SomeCouldMove between
 
 -- the text of a script, the line `journal`, and the text of a run of it at rest
 abbrev pub with_journal : ScriptData → List Logged → List ℕ
@@ -75,7 +75,7 @@ HaveMade stations run = (node : ℕ) (station : StationData) → slice_get stati
 
 -- runners went on from those of the stations; the run is all their moves, by the script with all commands that they
 -- were given
-pub record IsMadeBy (stations : List StationData) (script : ScriptData) (run : List Logged) : Type 0 where
+pub record IsRunOfStations (stations : List StationData) (script : ScriptData) (run : List Logged) : Type 0 where
   pub last : List Parts
   pub on : EachIs GoesFurther (map runner_of stations) last
   pub all : IsRunOfAll last script run
@@ -89,7 +89,7 @@ pub record ComesOfTurns (first : ScriptData) (limit turns : ℕ) (script : Scrip
   pub fresh : WereOpened first limit opened
   pub passed : StationsGoOn turns opened turned
   pub made : HaveMade turned run
-  pub whole : IsMadeBy turned script run
+  pub whole : IsRunOfStations turned script run
 
 -- What callers made of it.
 
@@ -198,5 +198,5 @@ module _ {C : Type 0} where
     pub within : StaysWithin limit served.script served.run.entries
     pub far : GoesFar limit served.script served.run.entries
     pub all : AreAllAppended served.script (map session_of desks)
-    pub made : IsMadeBy stations served.script served.run.entries
+    pub made : IsRunOfStations stations served.script served.run.entries
     pub callers : map called_of desks ≡ served.callers.items

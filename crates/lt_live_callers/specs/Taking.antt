@@ -46,7 +46,7 @@ pub record GoesFurther (a b : Parts) : Type 0 where
 
 -- the station of the same node, where all sessions keep their other ends; it has forgotten nothing if it had not
 -- before, and where no reply waited none does
-pub record ServesOn (a b : StationData) : Type 0 where
+pub record StationTakesOn (a b : StationData) : Type 0 where
   pub goes : StationGoesOn a b
   pub further : GoesFurther a.runner b.runner
   pub has_all : HasAll a.runner → HasAll b.runner
@@ -72,13 +72,13 @@ pub record AreAsking (script : ScriptData) (stations : List StationData) (sessio
 pub record OnlyTakes (script : ScriptData) (stations : List StationData) (sessions : List Session)
     (later : List StationData) (after : List Session) : Type 0 where
   pub asking : AreAsking script later after
-  pub serves : EachStation ServesOn stations later
+  pub serves : EachStation StationTakesOn stations later
   pub says : EachSession SaysSame sessions after
 
 -- Looks at the rings.
 
 -- the session and its seat know all that is in their rings
-pub record IsBeside (script : ScriptData) (stations : List StationData) (client : ℕ) (s : Session) : Type 0 where
+pub record SessionIsBeside (script : ScriptData) (stations : List StationData) (client : ℕ) (s : Session) : Type 0 where
   pub station : StationData
   pub here : slice_get stations (home script client) ≡ Some station
   pub seat : Seat
@@ -87,89 +87,89 @@ pub record IsBeside (script : ScriptData) (stations : List StationData) (client 
   pub beside : KnowAll s seat
 
 -- so it is of the first n sessions
-abbrev pub BesideTo : ScriptData → ℕ → List StationData → List Session → Type 0
-BesideTo script n stations sessions = (client : ℕ) (s : Session) → client < n → slice_get sessions client ≡ Some s
-    → IsBeside script stations client s
+abbrev pub SessionsBesideTo : ScriptData → ℕ → List StationData → List Session → Type 0
+SessionsBesideTo script n stations sessions = (client : ℕ) (s : Session) → client < n → slice_get sessions client ≡ Some s
+    → SessionIsBeside script stations client s
 
 -- the seat took no command, and has the same in hand
-pub record SameHand (s t : Seat) : Type 0 where
+pub record SeatKeepsHand (s t : Seat) : Type 0 where
   pub client : t.client ≡ s.client
   pub hand : t.hand ≡ s.hand
   pub taken : taken t ≡ taken s
 
 -- the station's seats looked at their rings
-pub record OnlyLooks (a b : StationData) : Type 0 where
+pub record StationOnlyLooks (a b : StationData) : Type 0 where
   pub runner : b.runner ≡ a.runner
   pub stay : StaySeated a.seats b.seats
-  pub hands : EachSeat SameHand a.seats b.seats
+  pub hands : EachSeat SeatKeepsHand a.seats b.seats
 
 -- the first n sessions and their seats looked at their rings
 pub record SessionsLook (script : ScriptData) (n : ℕ) (stations : List StationData) (sessions : List Session)
     (later : List StationData) (after : List Session) : Type 0 where
   pub all : OnlyTakes script stations sessions later after
-  pub looks : EachStation OnlyLooks stations later
-  pub beside : BesideTo script n later after
+  pub looks : EachStation StationOnlyLooks stations later
+  pub beside : SessionsBesideTo script n later after
 
 -- the session of this client and its seat did
 pub record SessionLooks (script : ScriptData) (client : ℕ) (stations : List StationData) (sessions : List Session)
     (later : List StationData) (after : List Session) : Type 0 where
   pub all : OnlyTakes script stations sessions later after
-  pub looks : EachStation OnlyLooks stations later
-  pub one : (s : Session) → slice_get after client ≡ Some s → IsBeside script later client s
+  pub looks : EachStation StationOnlyLooks stations later
+  pub one : (s : Session) → slice_get after client ≡ Some s → SessionIsBeside script later client s
   pub others : (k : ℕ) (s : Session) → k ≢ client → slice_get after k ≡ Some s
-      → (slice_get sessions k ≡ Some s) × (IsBeside script stations k s → IsBeside script later k s)
+      → (slice_get sessions k ≡ Some s) × (SessionIsBeside script stations k s → SessionIsBeside script later k s)
 
--- Turns.
+-- StationTakesTurn.
 
 -- how many commands the station has appended
-abbrev pub appended_at : StationData → ℕ
-appended_at station = length station.runner.node.script.commands
+abbrev pub commands_at : StationData → ℕ
+commands_at station = length station.runner.node.script.commands
 
 -- how many moves and commands more it may have, and so all stations together
 abbrev pub room_at : StationData → ℕ
 room_at station =
-    (station.runner.limit - length station.runner.log.entries) + (MAX_COMMANDS_OF_SERVICE - appended_at station)
+    (station.runner.limit - length station.runner.log.entries) + (MAX_COMMANDS_OF_SERVICE - commands_at station)
 
 abbrev pub all_room : List StationData → ℕ
 all_room stations = sum_by room_at stations
 
 -- it is a station, and what it appended makes up a script
-pub record IsKept (station : StationData) : Type 0 where
+pub record IsKeptStation (station : StationData) : Type 0 where
   pub is_station : IsStation station.runner station.seats
   pub is_script : IsScript station.runner.node.script
 
 -- after a turn the station has less room, or it has appended nothing
 abbrev pub TurnLeaves : Bool → StationData → StationData → Type 0
 TurnLeaves true a b = room_at b < room_at a
-TurnLeaves false a b = appended_at b ≡ appended_at a
+TurnLeaves false a b = commands_at b ≡ commands_at a
 
 -- the station made a turn, for which there was memory
-pub record Turns (more : Bool) (a b : StationData) : Type 0 where
+pub record StationTakesTurn (more : Bool) (a b : StationData) : Type 0 where
   pub turned : Turned
   pub fits : turned ≢ NoMemory
   pub turns : StationTurns turned a.runner a.seats b.runner b.seats
   pub goes : StationGoesOn a b
-  pub before : IsKept a
-  pub now : IsKept b
+  pub before : IsKeptStation a
+  pub now : IsKeptStation b
   pub leaves : TurnLeaves more a b
 
 -- the station at this place did, and the others stay
-pub record TurnsAt (more : Bool) (place : ℕ) (old new : List StationData) : Type 0 where
+pub record StationTakesTurnAt (more : Bool) (place : ℕ) (old new : List StationData) : Type 0 where
   pub x : StationData
   pub y : StationData
   pub before : slice_get old place ≡ Some x
   pub now : slice_get new place ≡ Some y
-  pub one : Turns more x y
+  pub one : StationTakesTurn more x y
   pub count : length new ≡ length old
   pub others : (k : ℕ) → k ≢ place → slice_get new k ≡ slice_get old k
 
 -- each station did
-abbrev pub AnyTurns : StationData → StationData → Type 0
-AnyTurns a b = (more : Bool) × Turns more a b
+abbrev pub StationMayTurn : StationData → StationData → Type 0
+StationMayTurn a b = (more : Bool) × StationTakesTurn more a b
 
 -- the station has appended as many as before
-abbrev pub SameCount : StationData → StationData → Type 0
-SameCount a b = appended_at b ≡ appended_at a
+abbrev pub AppendsNothing : StationData → StationData → Type 0
+AppendsNothing a b = commands_at b ≡ commands_at a
 
 -- some station has less room
 pub record SomeLess (old new : List StationData) : Type 0 where
@@ -181,7 +181,7 @@ pub record SomeLess (old new : List StationData) : Type 0 where
   pub less : room_at y < room_at x
 
 -- all stations made a turn; some has less room now, or none has appended a command
-pub record AllTurn (more : Bool) (old new : List StationData) : Type 0 where
-  pub each : EachStation AnyTurns old new
+pub record AllStationsTurn (more : Bool) (old new : List StationData) : Type 0 where
+  pub each : EachStation StationMayTurn old new
   pub some : more ≡ true → SomeLess old new
-  pub none : more ≡ false → EachStation SameCount old new
+  pub none : more ≡ false → EachStation AppendsNothing old new

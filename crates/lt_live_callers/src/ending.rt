@@ -7,7 +7,7 @@ ghost use Rattle.lt_threads.specs.Pushes.{HasLimit};
 ghost use Rattle.lt_threads.specs.Threads.{StaysWithin, GoesFar};
 ghost use Rattle.lt_live.specs.Live.{AreLive, LiveScript, IsServedRun};
 ghost use Rattle.lt_live.specs.Stations.{runner_of, HaveEqualShares};
-ghost use Rattle.lt_live_callers.specs.Served.{CallersEndSo, as_live, IsMadeBy};
+ghost use Rattle.lt_live_callers.specs.Served.{CallersEndSo, as_live, IsRunOfStations};
 ghost use Rattle.lt_live_callers.specs.Taking.{HaveTakenAll, AreAllAppended};
 
 use crate::moving::move_on;
@@ -60,7 +60,7 @@ pub(crate) fn end_run(
     ensures ends { IfOk result (λ made. CallersEndSo made.2 made.0 made.1.entries) }
     ensures within { IfOk result (λ made. StaysWithin _limit made.0 made.1.entries) }
     ensures far { IfOk result (λ made. GoesFar _limit made.0 made.1.entries) }
-    ensures made { IfOk result (λ made. IsMadeBy stations.items made.0 made.1.entries) }
+    ensures made { IfOk result (λ made. IsRunOfStations stations.items made.0 made.1.entries) }
     ensures all { IfOk result (λ made.
         (script : ScriptData) → AreLive script stations.items sessions.items
         → HaveTakenAll script stations.items sessions.items → AreAllAppended made.0 sessions.items) }

@@ -3,7 +3,7 @@ ghost use Rattle.std.specs.Prelude.{◌<◌, length, IfOk, IfErr};
 ghost use Rattle.lt_runner.specs.Kept.{Grew, AsSeen};
 ghost use Rattle.lt_threads.specs.Meeting.{EachIs, SomeCouldMove, IsCrew, RoundsEnd};
 ghost use Rattle.lt_threads.specs.Pushes.{OnePushed, PushedAt, CanPush, PushEnds, CrewEnds, MovedOn};
-ghost use Rattle.lt_live_callers.specs.Served.{WantsMemory};
+ghost use Rattle.lt_live_callers.specs.Served.{MemoryIsWanted};
 
 use lt_runner::{Open, Runner, Turned};
 use lt_script::Script;
@@ -15,7 +15,7 @@ use std::alloc::AllocError;
 pub(crate) fn move_on(script: &Script, runners: &mut Vec<Runner>) -> Result<Ending, AllocError>
     requires { IsCrew script.now runners.old.items }
     ensures moved { IfOk result (λ ending. MovedOn script.now ending runners.old.items runners.new.items) }
-    ensures memory { IfErr result (λ error. WantsMemory runners.old.items) }
+    ensures memory { IfErr result (λ error. MemoryIsWanted runners.old.items) }
 {
     let ended = push_all(script, runners);
     let ending = end_of(script, runners, ended)?;

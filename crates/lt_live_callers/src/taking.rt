@@ -1,7 +1,7 @@
 // Brings all commands to their stations.
 ghost use Rattle.std.specs.Prelude.{◌≡◌, ◌<◌, true, false, length, IfOk, OnOk};
 ghost use Rattle.lt_spec.specs.NodeMove.{home};
-ghost use Rattle.lt_live_callers.specs.Taking.{AreAsking, OnlyTakes, HaveTakenAll, SessionsLook, SessionLooks, Turns, TurnsAt, AllTurn, all_room};
+ghost use Rattle.lt_live_callers.specs.Taking.{AreAsking, OnlyTakes, HaveTakenAll, SessionsLook, SessionLooks, StationTakesTurn, StationTakesTurnAt, AllStationsTurn, all_room};
 
 use lt_live::{Session, Station};
 use lt_runner::{Open, Turned};
@@ -82,7 +82,7 @@ fn home_of(session: &Session) -> u8
 
 // Each station makes a turn; true where one of them made a move or appended a command.
 fn turn_all(stations: &mut Vec<Station>) -> Result<bool, AllocError>
-    ensures { IfOk result (λ more. AllTurn more stations.old.items stations.new.items) }
+    ensures { IfOk result (λ more. AllStationsTurn more stations.old.items stations.new.items) }
 {
     let mut more = false;
     for place in 0..stations.len() {
@@ -95,14 +95,14 @@ fn turn_all(stations: &mut Vec<Station>) -> Result<bool, AllocError>
 
 fn turn_at(stations: &mut Vec<Station>, place: usize) -> Result<bool, AllocError>
     requires { place < length stations.old.items }
-    ensures { IfOk result (λ more. TurnsAt more place stations.old.items stations.new.items) }
+    ensures { IfOk result (λ more. StationTakesTurnAt more place stations.old.items stations.new.items) }
 {
     let more = turn(&mut stations[place])?;
     Ok(more)
 }
 
 fn turn(station: &mut Station) -> Result<bool, AllocError>
-    ensures { IfOk result (λ more. Turns more station.old station.new) }
+    ensures { IfOk result (λ more. StationTakesTurn more station.old station.new) }
 {
     station.kept();
     let before = station.commands();

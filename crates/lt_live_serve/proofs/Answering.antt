@@ -16,7 +16,7 @@ use Rattle.lt_live_serve.specs.declared.served.Served.{Served}
 use Rattle.lt_live_serve.specs.declared.status.Status.{Status}
 use Rattle.lt_live_serve.specs.declared.status.Status.TheVariants.{Done, Stuck, Usage, Refused, TooLong, ReadFault, WriteFault, NoMemory, Cut, Share}
 use Rattle.lt_live_serve.specs.Status.{outcome_of, status_by_end}
-use Rattle.lt_live_serve.specs.Serves.{Serves, Did, WroteByFewest, StoppedByFewest, Ends, GoesWell, IsUnfit, IsGood}
+use Rattle.lt_live_serve.specs.Serves.{Serves, Did, WroteLiveByFewest, StoppedLiveByFewest, Ends, GoesWell, IsUnfit, IsGood}
 use Rattle.lt_call.specs.Scripts.{DenotesOrdered}
 
 -- what is known where nothing fails
@@ -76,9 +76,9 @@ pub written_serves : {S K : Type 0} (state : S → SourceState) (held : K → Op
     → Did answer.status (state before).left answer.run.entries answer.polled.items (held sink) (held sink_after)
     → IsReadWhole MAX_INPUT (state before) (state after)
     → (IsEnding (outcome_of answer.status)
-    → WroteByFewest answer.status (state before).left answer.run.entries answer.polled.items (held sink) (held sink_after) (pace sink) (pace sink_after))
+    → WroteLiveByFewest answer.status (state before).left answer.run.entries answer.polled.items (held sink) (held sink_after) (pace sink) (pace sink_after))
     → (answer.status ≡ WriteFault
-    → StoppedByFewest (state before).left answer.run.entries answer.polled.items (held sink) (held sink_after) (pace sink) (pace sink_after))
+    → StoppedLiveByFewest (state before).left answer.run.entries answer.polled.items (held sink) (held sink_after) (pace sink) (pace sink_after))
     → SaysOfSink (outcome_of answer.status) (write_faults sink) (write_faults sink_after)
     → (WritesNothing (outcome_of answer.status) → sink_after ≡ sink) → Serves state held write_faults pace words answer before after sink sink_after
 written_serves state held write_faults pace words answer before after sink sink_after none told did whole few few_failed writing unwritten =

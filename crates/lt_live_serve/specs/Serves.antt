@@ -119,16 +119,16 @@ Did WriteFault left run polled old new = WrotePart left run polled old new
 Did other left run polled old new = DidNothing run polled old new
 
 -- the journal of a run that ended as the status says was appended by as few writes as can be
-abbrev pub WroteByFewest : Status → Option (List ℕ) → List Logged → List (ℕ × Reply) → Option (List ℕ)
+abbrev pub WroteLiveByFewest : Status → Option (List ℕ) → List Logged → List (ℕ × Reply) → Option (List ℕ)
     → Option (List ℕ) → Option Pace → Option Pace → Type 0
-WroteByFewest status left run polled old new pace pace_new =
+WroteLiveByFewest status left run polled old new pace pace_new =
     (end : Ending) × (status ≡ status_by_end end) × (text : List ℕ) × Journals end left run polled text
     × Appends old new text × WritesByFewest pace pace_new (length text)
 
 -- a first part of the journal was, and one write more failed
-abbrev pub StoppedByFewest : Option (List ℕ) → List Logged → List (ℕ × Reply) → Option (List ℕ)
+abbrev pub StoppedLiveByFewest : Option (List ℕ) → List Logged → List (ℕ × Reply) → Option (List ℕ)
     → Option (List ℕ) → Option Pace → Option Pace → Type 0
-StoppedByFewest left run polled old new pace pace_new =
+StoppedLiveByFewest left run polled old new pace pace_new =
     (end : Ending) × (text : List ℕ) × Journals end left run polled text × StopsByFewest pace pace_new old new text
 
 -- the script has this fault, or this client more commands than its session may submit
@@ -166,10 +166,10 @@ pub record Serves {S K : Type 0} (state : S → SourceState) (held : K → Optio
   pub did : Did answer.status (state source_before).left answer.run.entries answer.polled.items (held sink_before) (held sink_after)
   -- each write was given all that was not written yet: of the whole journal, or until one failed
   pub few : IsEnding (outcome_of answer.status)
-      → WroteByFewest answer.status (state source_before).left answer.run.entries answer.polled.items
+      → WroteLiveByFewest answer.status (state source_before).left answer.run.entries answer.polled.items
       (held sink_before) (held sink_after) (pace sink_before) (pace sink_after)
   pub few_failed : answer.status ≡ WriteFault
-      → StoppedByFewest (state source_before).left answer.run.entries answer.polled.items
+      → StoppedLiveByFewest (state source_before).left answer.run.entries answer.polled.items
       (held sink_before) (held sink_after) (pace sink_before) (pace sink_after)
   -- there is a word
   pub usage : answer.status ≡ Usage → 0 < words

@@ -4,7 +4,7 @@ ghost use Rattle.lt_call.specs.Outcomes.{IsEnding, IsRefusal, SaysOfSink, SaysOf
 ghost use Rattle.lt_live_serve.specs.declared.limits.TheConstants.{MAX_INPUT};
 ghost use Rattle.lt_spec.specs.Script.{IsScript, IsShort};
 ghost use Rattle.lt_journal.specs.RunLines.{text_of};
-ghost use Rattle.lt_live_serve.specs.Serves.{Journals, LiveRun, Serves, Did, IsFirstOver, IsUnfit, WroteByFewest, StoppedByFewest};
+ghost use Rattle.lt_live_serve.specs.Serves.{Journals, LiveRun, Serves, Did, IsFirstOver, IsUnfit, WroteLiveByFewest, StoppedLiveByFewest};
 ghost use Rattle.lt_live_serve.specs.Status.{cut_node, outcome_of};
 
 use crate::live::live_run;
@@ -99,11 +99,11 @@ fn write_made<K: Sink>(sink: &mut K, made: Made) -> Served
     ensures few { (left : Option (List ℕ))
         → Journals made.ending left made.run.entries made.polled.items made.text.items
         → IsEnding (outcome_of result.status)
-        → WroteByFewest result.status left result.run.entries result.polled.items
+        → WroteLiveByFewest result.status left result.run.entries result.polled.items
         (K.held sink.old) (K.held sink.new) (K.pace sink.old) (K.pace sink.new) }
     ensures few_failed { (left : Option (List ℕ))
         → Journals made.ending left made.run.entries made.polled.items made.text.items
-        → result.status ≡ Status.WriteFault → StoppedByFewest left result.run.entries result.polled.items
+        → result.status ≡ Status.WriteFault → StoppedLiveByFewest left result.run.entries result.polled.items
         (K.held sink.old) (K.held sink.new) (K.pace sink.old) (K.pace sink.new) }
     ensures written { IsEnding (outcome_of result.status) ⊎ (result.status ≡ Status.WriteFault) }
     ensures writing { SaysOfSink (outcome_of result.status) (K.faults sink.old) (K.faults sink.new) }
