@@ -17,7 +17,7 @@ use Rattle.lt_threads.specs.Meeting.{AreShares, AreScripts, AreKept, RunnersLink
 use Rattle.lt_threads.proofs.Shares.{counted}
 use Rattle.lt_live.specs.declared.ends.Session.{Session}
 use Rattle.lt_live.specs.declared.ends.Seat.{Seat}
-use Rattle.lt_live.specs.Seats.{TakesNone}
+use Rattle.lt_live.specs.Seats.{TakesNoCommand}
 use Rattle.lt_live.specs.Stations.{StationData, runner_of, StaySeated, EachSeat}
 use Rattle.lt_live.specs.Words.{SameSession}
 use Rattle.lt_live.specs.Live.{AreLive, LiveScript, GoesOn, StationGoesOn, EachStation, EachSession, SaysSame, Settled, ServedAt, IsServedNow, IsWholeNow, SeatsTakeNone, HaveAllCommands, HaveOwnCommands}
@@ -199,7 +199,7 @@ few_commands script stations later sessions after settled scripts =
 -- stations that met have taken no commands
 none_met : (old new : List StationData) → StationsMet old new → EachStation SeatsTakeNone old new
 none_met old new met =
-    alike_weaker Looked SeatsTakeNone (λ a b h. subst (λ (seats : List Seat). EachSeat TakesNone a.seats seats) (sym h.seats) (station_none_itself a))
+    alike_weaker Looked SeatsTakeNone (λ a b h. subst (λ (seats : List Seat). EachSeat TakesNoCommand a.seats seats) (sym h.seats) (station_none_itself a))
     old new (each_looked old new met)
 
 all_met : (script made : ScriptData) (stations later new : List StationData) (sessions after : List Session) → Settled script stations sessions later after

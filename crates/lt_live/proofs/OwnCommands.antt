@@ -11,17 +11,17 @@ use Rattle.lt_runner.specs.declared.parts.Parts.{Parts}
 use Rattle.lt_live.specs.declared.ends.Session.{Session}
 use Rattle.lt_live.specs.declared.ends.Seat.{Seat}
 use Rattle.lt_live.specs.Words.{submitted, taken, known_commands, command_held}
-use Rattle.lt_live.specs.Seats.{HasAllCommands, TakesNone}
+use Rattle.lt_live.specs.Seats.{HasAllCommands, TakesNoCommand}
 use Rattle.lt_live.specs.Stations.{StationData, IsStation, EachSeat, SeatLooks, runner_of}
 use Rattle.lt_live.specs.Live.{AreLive, EachStation, EachSession, SaysSame, SeatsTakeNone, Settling, HasOwnCommands, HaveOwnCommands, KeepsOwnCommands}
 use Rattle.lt_live.proofs.SeatLists.{alike_self, alike_set, alike_join, alike_after, each_after}
 
 -- No command was taken.
 
-none_itself : (seat : Seat) → TakesNone seat seat
+none_itself : (seat : Seat) → TakesNoCommand seat seat
 none_itself seat = record { client = refl; taken = refl; hand = refl }
 
-none_join : (a b c : Seat) → TakesNone a b → TakesNone b c → TakesNone a c
+none_join : (a b c : Seat) → TakesNoCommand a b → TakesNoCommand b c → TakesNoCommand a c
 none_join a b c first second = record {
   client = second.client ∙ first.client;
   taken = second.taken ∙ first.taken;
@@ -29,26 +29,26 @@ none_join a b c first second = record {
 }
 
 pub station_none_itself : (station : StationData) → SeatsTakeNone station station
-station_none_itself station k = alike_self TakesNone none_itself station.seats k
+station_none_itself station k = alike_self TakesNoCommand none_itself station.seats k
 
 pub station_none_join : (a b c : StationData) → SeatsTakeNone a b → SeatsTakeNone b c → SeatsTakeNone a c
-station_none_join a b c first second k = alike_join TakesNone none_join a.seats b.seats c.seats first second k
+station_none_join a b c first second k = alike_join TakesNoCommand none_join a.seats b.seats c.seats first second k
 
 -- a look at the rings of one session takes none
-look_takes_none : (log : List Logged) (s t : Session) (old new : List Seat) → SeatLooks log s t old new → EachSeat TakesNone old new
+look_takes_none : (log : List Logged) (s t : Session) (old new : List Seat) → SeatLooks log s t old new → EachSeat TakesNoCommand old new
 look_takes_none log s t old new h k = elim (cases_eq k s.place) [
   | inl at ↦
-      subst (λ (j : ℕ). Alike TakesNone (slice_get old j) (slice_get new j)) (sym at)
-      (subst (λ (o : Option Seat). Alike TakesNone o (slice_get new s.place)) (sym h.before)
-      (subst (λ (o : Option Seat). Alike TakesNone (Some h.x) o) (sym h.now)
+      subst (λ (j : ℕ). Alike TakesNoCommand (slice_get old j) (slice_get new j)) (sym at)
+      (subst (λ (o : Option Seat). Alike TakesNoCommand o (slice_get new s.place)) (sym h.before)
+      (subst (λ (o : Option Seat). Alike TakesNoCommand (Some h.x) o) (sym h.now)
       (record { client = h.looks.seat.client; taken = h.looks.taken.0; hand = h.looks.taken.1 })))
-  | inr apart ↦ subst (λ (o : Option Seat). Alike TakesNone (slice_get old k) o) (sym (h.others k apart)) (alike_self TakesNone none_itself old k)
+  | inr apart ↦ subst (λ (o : Option Seat). Alike TakesNoCommand (slice_get old k) o) (sym (h.others k apart)) (alike_self TakesNoCommand none_itself old k)
 ]
 
 -- All that was submitted, but what is in hand and in the ring.
 
 -- so it is where the same was submitted, and no command taken
-pub all_before : (list other : List Command) (s t : Session) (x y : Seat) → other ≡ list → submitted t ≡ submitted s → TakesNone x y → HasAllCommands other t y
+pub all_before : (list other : List Command) (s t : Session) (x y : Seat) → other ≡ list → submitted t ≡ submitted s → TakesNoCommand x y → HasAllCommands other t y
     → HasAllCommands list s x
 all_before list other s t x y same says none h = record {
   taken = sym none.taken ∙ h.taken ∙ held;
@@ -61,7 +61,7 @@ all_before list other s t x y same says none h = record {
         ap (λ (commands : List Command). commands ++ command_held y.hand) same
         ∙ ap (λ (hand : Option Command). list ++ command_held hand) none.hand
 
-pub all_after : (list : List Command) (s t : Session) (x y : Seat) → submitted t ≡ submitted s → TakesNone x y → HasAllCommands list s x → HasAllCommands list t y
+pub all_after : (list : List Command) (s t : Session) (x y : Seat) → submitted t ≡ submitted s → TakesNoCommand x y → HasAllCommands list s x → HasAllCommands list t y
 all_after list s t x y says none h =
     all_before list list t s y x refl (sym says) (record { client = sym none.client; taken = sym none.taken; hand = sym none.hand }) h
 
@@ -116,7 +116,7 @@ own_before : (script : ScriptData) (client : ℕ) (stations mid : List StationDa
 own_before script client stations mid sessions between none runners says own s seat here end =
     let (t, now, said) = alike_after SaysSame sessions between says client s here in
     let (later, there, seats) = alike_after SeatsTakeNone stations mid none (home script client) end.station end.here in
-    let (other, other_is, taken) = each_after TakesNone end.station.seats later.seats seats s.place seat end.seat_is in
+    let (other, other_is, taken) = each_after TakesNoCommand end.station.seats later.seats seats s.place seat end.seat_is in
     let say : SaysSame s t = said in
     let same : later.runner ≡ end.station.runner =
     same_Some later.runner end.station.runner

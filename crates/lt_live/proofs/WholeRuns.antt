@@ -13,9 +13,9 @@ use Rattle.lt_threads.proofs.Each.{each_weaker}
 use Rattle.lt_threads.proofs.Logs.{crew_last, SameLog, same_run}
 use Rattle.lt_threads.proofs.Whole.{HaveAllTo, next_has, one_has, all_have}
 use Rattle.lt_live.specs.declared.ends.Session.{Session}
-use Rattle.lt_live.specs.Seats.{HasAllCommands, TakesNone}
+use Rattle.lt_live.specs.Seats.{HasAllCommands, TakesNoCommand}
 use Rattle.lt_live.specs.Stations.{StationData, runner_of}
-use Rattle.lt_live.specs.Live.{AreLive, LiveScript, EachStation, EachSession, SaysSame, SeatsTakeNone, IsRunOfAll, IsWholeRun, HaveAllCommands, HaveOwnCommands}
+use Rattle.lt_live.specs.Live.{AreLive, LiveScript, EachStation, EachSession, SaysSame, SeatsTakeNone, IsRunOfAll, IsRunOfStations, HaveAllCommands, HaveOwnCommands}
 use Rattle.lt_live.specs.Served.{OneWholeRun}
 use Rattle.lt_live.proofs.Finished.{AllSettled, served_run, run_of_all, same_taken}
 use Rattle.lt_live.proofs.OwnCommands.{all_after}
@@ -41,7 +41,7 @@ all_later script made stations later sessions after none says all client t y her
     let (s, was, said) = alike_before SaysSame sessions after says client t here in
     let (old, there, seats) = alike_before SeatsTakeNone stations later none (home script client) end.station end.here in
     let say : SaysSame s t = said in
-    let (x, x_is, taken) = each_before TakesNone old.seats end.station.seats seats s.place y (ap (slice_get end.station.seats) (sym say.same.place) ∙ end.seat_is) in
+    let (x, x_is, taken) = each_before TakesNoCommand old.seats end.station.seats seats s.place y (ap (slice_get end.station.seats) (sym say.same.place) ∙ end.seat_is) in
     all_after (commands_of made client) s t x y say.submitted taken (all client s x was (record { station = old; here = there; seat_is = x_is }))
 
 -- The run of runners that have looked at their rings is the one that they made before.
@@ -82,7 +82,7 @@ AllOwn stations sessions later = (script : ScriptData) → AreLive script statio
 
 pub finishes : (stations later : List StationData) (sessions after : List Session) (rs : List Parts) (made : ScriptData) (run : List Logged) → LiveScript stations sessions
     → AllSettled stations sessions later after → AllOwn stations sessions later → rs ≡ map runner_of later → IsSharedRun rs made run
-    → (script : ScriptData) → AreLive script stations sessions → IsWholeRun script stations sessions made run
+    → (script : ScriptData) → AreLive script stations sessions → IsRunOfStations script stations sessions made run
 finishes stations later sessions after rs made run some settled own taken shared script live = record {
   served = served_run script stations later sessions after rs (settled script live) taken made run all;
   made = ours;

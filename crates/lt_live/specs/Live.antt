@@ -19,7 +19,7 @@ use Rattle.lt_live.specs.declared.ends.Session.{Session}
 use Rattle.lt_live.specs.declared.ends.Seat.{Seat}
 use Rattle.lt_live.specs.Stations.{StationData, IsSeated, StaySeated, most_share, runner_of, IsOpen, StationTurns, EachSeat}
 use Rattle.lt_live.specs.Words.{submitted, polled, SameSession}
-use Rattle.lt_live.specs.Seats.{IsServedSession, reply_to, replies_in, HasAllCommands, TakesNone}
+use Rattle.lt_live.specs.Seats.{IsServedSession, reply_to, replies_in, HasAllCommands, TakesNoCommand}
 use Rattle.lt_live.specs.declared.reply.Reply.{Reply}
 
 -- the session of this client, whose other end is at the station of the client's node
@@ -64,7 +64,7 @@ EachSession R old new = (client : ℕ) → Alike R (slice_get old client) (slice
 
 -- no command was taken at any of its seats
 abbrev pub SeatsTakeNone : StationData → StationData → Type 0
-SeatsTakeNone a b = EachSeat TakesNone a.seats b.seats
+SeatsTakeNone a b = EachSeat TakesNoCommand a.seats b.seats
 
 -- What the sessions were told, in the run that their stations made.
 
@@ -179,7 +179,7 @@ HaveAllCommands first stations sessions script =
 
 -- a run in which these sessions were served: the one that these stations have made, with all their moves, of the script
 -- with all commands that they took
-pub record IsWholeRun (first : ScriptData) (stations : List StationData) (sessions : List Session) (script : ScriptData)
+pub record IsRunOfStations (first : ScriptData) (stations : List StationData) (sessions : List Session) (script : ScriptData)
     (run : List Logged) : Type 0 where
   pub served : IsServedRun first sessions script run
   pub made : IsRunOfAll (map runner_of stations) script run
@@ -188,7 +188,7 @@ pub record IsWholeRun (first : ScriptData) (stations : List StationData) (sessio
 -- there are commands and a run for which it is so
 abbrev pub IsWholeNow : ScriptData → List StationData → List Session → Type 0
 IsWholeNow first stations sessions =
-    (script : ScriptData) × (run : List Logged) × IsWholeRun first stations sessions script run
+    (script : ScriptData) × (run : List Logged) × IsRunOfStations first stations sessions script run
 
 -- in the script of its own station the client has all that its session submitted but what is in hand and in the ring
 abbrev pub HasOwnCommands : ScriptData → List StationData → List Session → ℕ → Type 0

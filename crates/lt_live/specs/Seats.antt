@@ -220,7 +220,7 @@ pub record HasAllCommands (list : List Command) (s : Session) (seat : Seat) : Ty
   pub all : submitted s ≡ (list ++ command_held seat.hand) ++ in_ring
 
 -- no command was taken, and that in hand stays there
-pub record TakesNone (a b : Seat) : Type 0 where
+pub record TakesNoCommand (a b : Seat) : Type 0 where
   pub client : b.client ≡ a.client
   pub taken : taken b ≡ taken a
   pub hand : b.hand ≡ a.hand

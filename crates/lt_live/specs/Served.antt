@@ -16,7 +16,7 @@ use Rattle.lt_live.specs.declared.reply.Reply.{Reply}
 use Rattle.lt_live.specs.Words.{submitted, polled, SameSession}
 use Rattle.lt_live.specs.Stations.{StationData, runner_of}
 use Rattle.lt_live.specs.Seats.{replies_in}
-use Rattle.lt_live.specs.Live.{AreLive, EachSession, IsServedRun, IsServedNow, IsWholeRun, IsWholeNow, IsReplyTo}
+use Rattle.lt_live.specs.Live.{AreLive, EachSession, IsServedRun, IsServedNow, IsRunOfStations, IsWholeNow, IsReplyTo}
 
 -- the station's runner made no move and was given no command; it may know more of the letters in its rings, and some of
 -- its own may have gone into theirs
@@ -121,5 +121,5 @@ MomentsFollow = (one two three : List Session)
 abbrev pub OneWholeRun : Type 0
 OneWholeRun =
     (first script other : ScriptData) (stations : List StationData) (sessions : List Session) (run moves : List Logged)
-    → IsWholeRun first stations sessions script run → IsWholeRun first stations sessions other moves
+    → IsRunOfStations first stations sessions script run → IsRunOfStations first stations sessions other moves
     → (script ≡ other) × (run ≡ moves)

@@ -6,7 +6,7 @@ ghost use Rattle.lt_spec.specs.declared.limits.TheConstants.{MAX_COMMANDS};
 ghost use Rattle.lt_threads.specs.Meeting.{HaveAll, AreTooMany};
 ghost use Rattle.lt_live.specs.declared.finishing.FinishError.TheVariants as errors;
 ghost use Rattle.lt_live.specs.Stations.{runner_of, HaveEqualShares};
-ghost use Rattle.lt_live.specs.Live.{AreLive, LiveScript, IsWholeRun, SettlesAt, Settled, KeepsOwnCommands, HaveOwnCommands};
+ghost use Rattle.lt_live.specs.Live.{AreLive, LiveScript, IsRunOfStations, SettlesAt, Settled, KeepsOwnCommands, HaveOwnCommands};
 
 use crate::ends::Session;
 use crate::station::Station;
@@ -47,7 +47,7 @@ pub fn finish(
 ) -> Result<(Script, Run), FinishError>
     requires { LiveScript stations.items sessions.items }
     ensures run { IfOk result (λ made. (script : ScriptData) → AreLive script stations.items sessions.items
-        → IsWholeRun script stations.items sessions.items made.0 made.1.entries) }
+        → IsRunOfStations script stations.items sessions.items made.0 made.1.entries) }
     ensures few_commands { IfOk result (λ made. length made.0.commands ≤ MAX_COMMANDS) }
     ensures forgotten { (result ≡ Err errors.Forgotten) ↔ (¬ HaveAll (map runner_of stations.items)) }
     ensures many { IfErr result (λ error. error ≡ errors.TooMany → AreTooMany (map runner_of stations.items)) }

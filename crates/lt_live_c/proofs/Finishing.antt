@@ -4,7 +4,7 @@ use Rattle.std.specs.Prelude.{IfOk, IfErr}
 use Rattle.lt_modes.specs.Script.{ScriptData}
 use Rattle.lt_spec.specs.declared.limits.TheConstants.{MAX_COMMANDS, MAX_SETS}
 use Rattle.lt_spec.specs.World.{Logged}
-use Rattle.lt_live.specs.Live.{AreLive, IsWholeRun}
+use Rattle.lt_live.specs.Live.{AreLive, IsRunOfStations}
 use Rattle.lt_live.specs.declared.finishing.FinishError.{FinishError}
 use Rattle.lt_live.specs.declared.finishing.FinishError.TheVariants as errors
 use Rattle.lt_live_c.specs.declared.code.TheConstants.{WRONG_HANDLE, NO_MEMORY, FORGOTTEN, TOO_MANY}
@@ -16,7 +16,7 @@ use Rattle.lt_live_c.specs.Journals.{TellsOf, IsJournalOfService, SomeForgot, Ha
 -- it is the run that the service's stations have made
 abbrev ServesAll : Service → ScriptData → List Logged → Type 0
 ServesAll s script run =
-    (first : ScriptData) → AreLive first s.stations.items s.sessions.items → IsWholeRun first s.stations.items s.sessions.items script run
+    (first : ScriptData) → AreLive first s.stations.items s.sessions.items → IsRunOfStations first s.stations.items s.sessions.items script run
 
 -- what is made of the script and the run, and why nothing is
 abbrev pub IsMade : ScriptData → List Logged → Journal → Type 0

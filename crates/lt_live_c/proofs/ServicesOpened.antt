@@ -20,7 +20,7 @@ use Rattle.lt_script.specs.Printing.{print_of}
 use Rattle.lt_script.specs.Reading.{read_of}
 use Rattle.lt_script.specs.Reading as reading
 use Rattle.lt_journal.specs.RunLines.{closing_lines}
-use Rattle.lt_live.specs.Live.{AreLive, IsServedRun, IsWholeRun}
+use Rattle.lt_live.specs.Live.{AreLive, IsServedRun, IsRunOfStations}
 use Rattle.lt_threads.specs.Meeting.{AreTooMany, commands_in, crew_run}
 use Rattle.lt_live.specs.Stations.{StationData, IsOpen, most_share, runner_of}
 use Rattle.lt_live.specs.Seats.{HasAllCommands}
@@ -112,7 +112,7 @@ opens_told = record {
 -- what follows of the run that was made
 finished : (first : ScriptData) (Told : Service → ScriptData → List Logged → Type 0)
     → ((s : Service) (script : ScriptData) (run : List Logged) → AreLive first s.stations.items s.sessions.items
-    → IsWholeRun first s.stations.items s.sessions.items script run → Told s script run) → AfterFinish first Told
+    → IsRunOfStations first s.stations.items s.sessions.items script run → Told s script run) → AfterFinish first Told
 finished first Told told s None live h = absurd h
 finished first Told told s (Some (contents.Service other)) live h = absurd h
 finished first Told told s (Some (contents.Station other)) live h = absurd h
@@ -120,7 +120,7 @@ finished first Told told s (Some (contents.Session other)) live h = absurd h
 finished first Told told s (Some (contents.Journal journal)) live h =
     let made = h first live in (made.0, made.1, told s made.0 made.1 live made.2, made.4)
 
-moves_so : (first : ScriptData) (s : Service) (script : ScriptData) (run : List Logged) → IsWholeRun first s.stations.items s.sessions.items script run
+moves_so : (first : ScriptData) (s : Service) (script : ScriptData) (run : List Logged) → IsRunOfStations first s.stations.items s.sessions.items script run
     → (node : ℕ) (x : StationData) → slice_get s.stations.items node ≡ Some x → filter (is_of_node node) run ≡ x.runner.log.entries
 moves_so first s script run whole node x here =
     whole.made.moves node x.runner (slice_get-map runner_of s.stations.items node ∙ ap (option_map runner_of) here)
@@ -163,8 +163,8 @@ counted_so x s (Some (contents.Station other)) is own log live h = absurd h
 counted_so x s (Some (contents.Session other)) is own log live h = absurd h
 counted_so x s (Some (contents.Journal journal)) is own log live h =
     let made = h (record three_writers { commands = [] }) live in
-    let whole : IsWholeRun (record three_writers { commands = [] }) (x ∷ []) s.sessions.items made.0 made.1 =
-    subst (λ (stations : List StationData). IsWholeRun (record three_writers { commands = [] }) stations s.sessions.items made.0 made.1) is made.2 in
+    let whole : IsRunOfStations (record three_writers { commands = [] }) (x ∷ []) s.sessions.items made.0 made.1 =
+    subst (λ (stations : List StationData). IsRunOfStations (record three_writers { commands = [] }) stations s.sessions.items made.0 made.1) is made.2 in
     let script = script_so x made.0 own whole.served.same whole.made.commands in
     let run = run_so x made.1 log (whole.made.is_crew_run ∙ ap (λ (one : ScriptData). crew_run one (map runner_of (x ∷ []))) script) in
     let tells : TellsOf three_writers one_holds journal =

@@ -8,7 +8,7 @@ use Rattle.lt_script.specs.Printing.{print_of}
 use Rattle.lt_journal.specs.declared.line.Line.{Line}
 use Rattle.lt_journal.specs.declared.line.Line.TheVariants.{Held, Waiting}
 use Rattle.lt_journal.specs.RunLines.{closing_lines, text_of}
-use Rattle.lt_live.specs.Live.{AreLive, IsWholeRun}
+use Rattle.lt_live.specs.Live.{AreLive, IsRunOfStations}
 use Rattle.lt_threads.specs.Meeting.{HaveAll, AreTooMany}
 use Rattle.lt_live.specs.Stations.{runner_of}
 use Rattle.lt_live_c.specs.declared.code.TheConstants.{OK, WRONG_HANDLE, NO_MEMORY, FORGOTTEN, TOO_MANY}
@@ -39,7 +39,7 @@ pub record TellsOf (script : ScriptData) (run : List Logged) (journal : Journal)
 -- but those in hand and in the rings; the text of its script can be read
 abbrev pub IsJournalOfService : Service → Journal → Type 0
 IsJournalOfService s journal = (first : ScriptData) → AreLive first s.stations.items s.sessions.items
-    → (script : ScriptData) × (run : List Logged) × IsWholeRun first s.stations.items s.sessions.items script run
+    → (script : ScriptData) × (run : List Logged) × IsRunOfStations first s.stations.items s.sessions.items script run
     × IsShort script × TellsOf script run journal
 
 abbrev pub JournalIsOf : Content → Content → Type 0
