@@ -48,7 +48,7 @@ def programs():
     """Names and counts of runs of programs."""
     scripts = {1: drawn(1, 16, 4096), 16: drawn(16, 64, 4096), 64: drawn(64, 256, 4096, version=2)}
     for nodes, script in scripts.items():
-        yield f'sim first, {nodes} nodes', beyond([program('lockrun'), 'sim', 'first'], script, SHORT)
+        yield f'sim first, {nodes} node{"s" if nodes > 1 else ""}', beyond([program('lockrun'), 'sim', 'first'], script, SHORT)
     short = with_journal(SHORT, 'first')
     yield 'check, 16 nodes', beyond([program('lockrun'), 'check'], with_journal(scripts[16], '7'), short)
     yield 'lockwaits, 16 nodes', beyond([program('lockwaits')], with_journal(scripts[16], 'first'), short)
