@@ -1,7 +1,7 @@
 -- What an answer says once the text is written, and where nothing is to be written.
-use Rattle.std.proofs.Common.{◌≡◌, ◌<◌, ◌≤◌, ◌+◌, ℕ, List, Option, refl, sym, subst, arith, inl, inr, ◌⊎◌, ◌≢◌}
+use Rattle.std.proofs.Common.{◌≡◌, ◌<◌, ◌≤◌, ◌+◌, ℕ, List, Option, IfSome, length, refl, sym, subst, arith, inl, inr, ◌⊎◌, ◌≢◌}
 use Rattle.std.specs.Io.KnownBytes.{Appends}
-use Rattle.lt_io.specs.Streams.{CountsFaults, RoseBy, count_after, SourceState, AppendsPart, IsReadWhole}
+use Rattle.lt_io.specs.Streams.{CountsFaults, RoseBy, count_after, SourceState, AppendsPart, Pace, WritesByFewest, StopsByFewest, IsReadWhole}
 use Rattle.lt_call.specs.declared.outcome.Outcome.{Outcome}
 use Rattle.lt_call.specs.declared.outcome.Outcome.TheVariants.{Done, Usage, Refused, TooLong, Stuck, ReadFault, WriteFault, NoMemory, Cut, BadJournal, Share}
 use Rattle.lt_call.specs.Outcomes.{IsEnding, IsRefused, IsRefusal, WritesNothing, SaysOfSource, SaysOfSink}
@@ -60,9 +60,11 @@ pub written_reading : (limit : ℕ) (outcome : Outcome) (before after : SourceSt
 written_reading limit outcome before after whole h = record {
   too_long = λ e. absurd (is_other outcome TooLong h tt e);
   not_too_long = λ other. whole.few;
+  too_many_left = λ e. absurd (is_other outcome TooLong h tt e);
   read_fault = λ e. absurd (is_other outcome ReadFault h tt e);
   no_read_fault = λ other. whole.without_fault;
   whole = λ read. whole.ended;
+  used_up = λ read. whole.at_end;
 }
 
 -- a read failed
@@ -71,20 +73,24 @@ pub failed_reading : (limit : ℕ) (before after : SourceState) → CountsFaults
 failed_reading limit before after failed few = record {
   too_long = λ e. absurd (cc e);
   not_too_long = λ other. few;
+  too_many_left = λ e. absurd (cc e);
   read_fault = λ e. failed;
   no_read_fault = λ other. absurd (other refl);
   whole = λ read. absurd read;
+  used_up = λ read. absurd read;
 }
 
 -- it gave one byte too many
 pub long_reading : (limit : ℕ) (before after : SourceState) → CountsFaults (limit + 1) before.given after.given → after.faults ≡ before.faults
-    → SaysOfSource limit TooLong before after
-long_reading limit before after long sound = record {
+    → IfSome before.left (λ bytes. limit < length bytes) → SaysOfSource limit TooLong before after
+long_reading limit before after long sound many = record {
   too_long = λ e. long;
   not_too_long = λ other. absurd (other refl);
+  too_many_left = λ e. many;
   read_fault = λ e. absurd (cc e);
   no_read_fault = λ other. sound;
   whole = λ read. absurd read;
+  used_up = λ read. absurd read;
 }
 
 -- memory ran out
@@ -93,9 +99,11 @@ pub memory_reading : (limit : ℕ) (before after : SourceState) → after.given 
 memory_reading limit before after few sound = record {
   too_long = λ e. absurd (cc e);
   not_too_long = λ other. few;
+  too_many_left = λ e. absurd (cc e);
   read_fault = λ e. absurd (cc e);
   no_read_fault = λ other. sound;
   whole = λ read. absurd read;
+  used_up = λ read. absurd read;
 }
 
 -- what was read is refused
@@ -104,23 +112,27 @@ pub refused_reading : (limit : ℕ) (outcome : Outcome) (before after : SourceSt
 refused_reading limit outcome before after whole h = record {
   too_long = λ e. absurd (subst IsRefused e h);
   not_too_long = λ other. whole.few;
+  too_many_left = λ e. absurd (subst IsRefused e h);
   read_fault = λ e. absurd (subst IsRefused e h);
   no_read_fault = λ other. whole.without_fault;
   whole = λ read. whole.ended;
+  used_up = λ read. whole.at_end;
 }
 
 pub written_serves : {A S K : Type 0} (outcome : A → Outcome) (makes : Option (List ℕ) → List ℕ → Type 0) (refuses : Option (List ℕ) → A → Type 0) (wants : SourceState → SourceState → Type 0) (limit : ℕ)
-    (state : S → SourceState) (held : K → Option (List ℕ)) (write_faults : K → ℕ) (words : ℕ) (answer : A) (text : List ℕ)
+    (state : S → SourceState) (held : K → Option (List ℕ)) (write_faults : K → ℕ) (pace : K → Option Pace) (words : ℕ) (answer : A) (text : List ℕ)
     (before after : S) (sink sink_after : K) → words ≡ 0 → (outcome answer ≡ Done) ⊎ (outcome answer ≡ WriteFault)
     → makes (state before).left text → IsReadWhole limit (state before) (state after)
     → (outcome answer ≡ Done → Appends (held sink) (held sink_after) text) → (outcome answer ≡ WriteFault → AppendsPart (held sink) (held sink_after) text)
+    → (outcome answer ≡ Done → WritesByFewest (pace sink) (pace sink_after) (length text))
+    → (outcome answer ≡ WriteFault → StopsByFewest (pace sink) (pace sink_after) (held sink) (held sink_after) text)
     → SaysOfSink (outcome answer) (write_faults sink) (write_faults sink_after)
-    → Serves outcome makes refuses wants limit state held write_faults words answer before after sink sink_after
-written_serves outcome makes refuses wants limit state held write_faults words answer text before after sink sink_after none told is whole all part writing =
+    → Serves outcome makes refuses wants limit state held write_faults pace words answer before after sink sink_after
+written_serves outcome makes refuses wants limit state held write_faults pace words answer text before after sink sink_after none told is whole all part few few_failed writing =
     let written : HasWritten (outcome answer) = elim told [ inl e ↦ inl (subst IsEnding (sym e) tt) | inr e ↦ inr e ] in
     record {
-      done = λ e. (text, is, all e);
-      write_fault = λ e. (text, is, part e);
+      done = λ e. (text, is, all e, few e);
+      write_fault = λ e. (text, is, part e, few_failed e);
       unwritten = λ nothing. absurd (never_written (outcome answer) written nothing);
       usage = λ e. absurd (is_other (outcome answer) Usage written tt e);
       no_words = λ some. absurd (omega (arith, none, some));
@@ -165,11 +177,11 @@ refusal_complete reason limit WriteFault before after h says reads few fits memo
 refusal_complete reason limit Cut before after h says reads few fits memory = h
 
 pub refusal_serves : {A S K : Type 0} (outcome : A → Outcome) (makes : Option (List ℕ) → List ℕ → Type 0) (refuses : Option (List ℕ) → A → Type 0) (wants : SourceState → SourceState → Type 0) (limit : ℕ)
-    (state : S → SourceState) (held : K → Option (List ℕ)) (write_faults : K → ℕ) (words : ℕ) (answer : A)
+    (state : S → SourceState) (held : K → Option (List ℕ)) (write_faults : K → ℕ) (pace : K → Option Pace) (words : ℕ) (answer : A)
     (before after : S) (sink : K) → words ≡ 0 → IsRefusal (refuses (state before).left answer) (outcome answer)
     → SaysOfSource limit (outcome answer) (state before) (state after) → (outcome answer ≡ NoMemory → wants (state before) (state after))
-    → Serves outcome makes refuses wants limit state held write_faults words answer before after sink sink
-refusal_serves outcome makes refuses wants limit state held write_faults words answer before after sink none refusal reading memory =
+    → Serves outcome makes refuses wants limit state held write_faults pace words answer before after sink sink
+refusal_serves outcome makes refuses wants limit state held write_faults pace words answer before after sink none refusal reading memory =
     let reason = refuses (state before).left answer in
     record {
       done = λ e. absurd (subst (IsRefusal reason) e refusal);
@@ -190,9 +202,9 @@ refusal_serves outcome makes refuses wants limit state held write_faults words a
     }
 
 pub usage_serves : {A S K : Type 0} (outcome : A → Outcome) (makes : Option (List ℕ) → List ℕ → Type 0) (refuses : Option (List ℕ) → A → Type 0) (wants : SourceState → SourceState → Type 0) (limit : ℕ)
-    (state : S → SourceState) (held : K → Option (List ℕ)) (write_faults : K → ℕ) (words : ℕ) (answer : A) (source : S) (sink : K) → 0 < words → outcome answer ≡ Usage
-    → Serves outcome makes refuses wants limit state held write_faults words answer source source sink sink
-usage_serves outcome makes refuses wants limit state held write_faults words answer source sink some is = record {
+    (state : S → SourceState) (held : K → Option (List ℕ)) (write_faults : K → ℕ) (pace : K → Option Pace) (words : ℕ) (answer : A) (source : S) (sink : K) → 0 < words → outcome answer ≡ Usage
+    → Serves outcome makes refuses wants limit state held write_faults pace words answer source source sink sink
+usage_serves outcome makes refuses wants limit state held write_faults pace words answer source sink some is = record {
   done = λ e. absurd (other Done (λ h. cc h) e);
   write_fault = λ e. absurd (other WriteFault (λ h. cc h) e);
   unwritten = λ nothing. refl;

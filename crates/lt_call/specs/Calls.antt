@@ -1,7 +1,7 @@
 -- All that a call says of its answer: what was written, why the answer comes, and what it says of the source and the sink.
-use Rattle.std.specs.Prelude.{◌≡◌, ◌≢◌, ◌<◌, ◌+◌, ℕ, List, Option}
+use Rattle.std.specs.Prelude.{◌≡◌, ◌≢◌, ◌<◌, ◌+◌, ℕ, List, Option, length}
 use Rattle.std.specs.Io.KnownBytes.{Appends}
-use Rattle.lt_io.specs.Streams.{Rose, RoseBy, SourceState, AppendsPart}
+use Rattle.lt_io.specs.Streams.{Rose, RoseBy, SourceState, AppendsPart, Pace, WritesByFewest, StopsByFewest}
 use Rattle.lt_call.specs.declared.outcome.Outcome.{Outcome}
 use Rattle.lt_call.specs.declared.outcome.Outcome.TheVariants.{Done, Usage, WriteFault, NoMemory}
 use Rattle.lt_call.specs.Outcomes.{IsRefused, WritesNothing, SaysOfSource, SaysOfSink}
@@ -15,10 +15,12 @@ pub record IsGood {A : Type 0} (outcome : A → Outcome) (refuses : Option (List
 -- the answer to so many words of a program that takes none, whose input may have so many bytes, where this is what may
 -- be made of it, these answers refuse it, and memory may be wanting so; and the source and the sink before and after,
 -- with what they tell of themselves
-pub record Serves {A S K : Type 0} (outcome : A → Outcome) (makes : Option (List ℕ) → List ℕ → Type 0) (refuses : Option (List ℕ) → A → Type 0) (wants : SourceState → SourceState → Type 0) (limit : ℕ) (state : S → SourceState) (held : K → Option (List ℕ)) (write_faults : K → ℕ) (words : ℕ) (answer : A) (source_before source_after : S) (sink_before sink_after : K) : Type 0 where
-  -- what is written, and of what a part is
+pub record Serves {A S K : Type 0} (outcome : A → Outcome) (makes : Option (List ℕ) → List ℕ → Type 0) (refuses : Option (List ℕ) → A → Type 0) (wants : SourceState → SourceState → Type 0) (limit : ℕ) (state : S → SourceState) (held : K → Option (List ℕ)) (write_faults : K → ℕ) (pace : K → Option Pace) (words : ℕ) (answer : A) (source_before source_after : S) (sink_before sink_after : K) : Type 0 where
+  -- what is written, and of what a part is; each write was given all of it that was not written yet
   pub done : outcome answer ≡ Done → (text : List ℕ) × makes (state source_before).left text × Appends (held sink_before) (held sink_after) text
+      × WritesByFewest (pace sink_before) (pace sink_after) (length text)
   pub write_fault : outcome answer ≡ WriteFault → (text : List ℕ) × makes (state source_before).left text × AppendsPart (held sink_before) (held sink_after) text
+      × StopsByFewest (pace sink_before) (pace sink_after) (held sink_before) (held sink_after) text
   pub unwritten : WritesNothing (outcome answer) → sink_after ≡ sink_before
   -- there is a word
   pub usage : outcome answer ≡ Usage → 0 < words

@@ -1,5 +1,6 @@
 -- What an outcome says of reading and of writing, and with which exit status and which text.
-use Rattle.std.specs.Prelude.{◌≡◌, ◌≢◌, ◌≤◌, ◌+◌, Bool, true, false, ℕ, List, [], codes}
+use Rattle.std.specs.Prelude.{◌≡◌, ◌≢◌, ◌≤◌, ◌<◌, ◌+◌, Bool, true, false, ℕ, List, [], codes, IfSome, length}
+use Rattle.std.specs.Io.KnownBytes.{IsAtEnd}
 use Rattle.lt_io.specs.Streams.{CountsFaults, Rose, SourceState}
 use Rattle.lt_io.specs.declared.whole.ReadFailure.{ReadFailure}
 use Rattle.lt_io.specs.declared.whole.ReadFailure.TheVariants.{Memory, Failed, TooLong as Long}
@@ -97,16 +98,19 @@ outcome_of_failure Memory = NoMemory
 outcome_of_failure Failed = ReadFault
 outcome_of_failure Long = TooLong
 
--- what it says of the source's counts, before and after, where the input may have so many bytes
+-- what it says of the source, before and after, where the input may have so many bytes
 pub record SaysOfSource (limit : ℕ) (outcome : Outcome) (before after : SourceState) : Type 0 where
   -- it gave one byte more than that, or no more than that
   pub too_long : outcome ≡ TooLong → CountsFaults (limit + 1) before.given after.given
   pub not_too_long : outcome ≢ TooLong → after.given ≤ before.given + limit
+  -- and if it tells its bytes, it had more
+  pub too_many_left : outcome ≡ TooLong → IfSome before.left (λ bytes. limit < length bytes)
   -- one read failed, or none
   pub read_fault : outcome ≡ ReadFault → CountsFaults 1 before.faults after.faults
   pub no_read_fault : outcome ≢ ReadFault → after.faults ≡ before.faults
-  -- it came to its end
+  -- it came to its end, and if it tells its bytes, it has none left
   pub whole : HasRead outcome → CountsFaults 1 before.ends after.ends
+  pub used_up : HasRead outcome → IsAtEnd after.left
 
 -- bytes of the source came, and its end was not found
 pub record CameInPart (before after : SourceState) : Type 0 where

@@ -48,6 +48,7 @@ read_whole first rest room x y z few head tail =
     let out = read_all first rest room x y z head tail in
     record {
       ended = out.ended;
+      at_end = out.at_end;
       few = omega (arith, out.no_more, all_few first rest room x y z few head tail);
       without_fault = out.no_fault;
     }
@@ -138,7 +139,7 @@ fails_read Failed x z came fails =
     (fails.failed refl, fails.no_more not_long)
 fails_read Long x z came fails =
     let not_failed : Long ≢ Failed = λ e. cc in
-    (fails.too_long refl, fails.no_other_fault not_failed)
+    (fails.too_long refl, fails.no_other_fault not_failed, fails.too_many_left refl)
 
 pub fails_rest : (why : ReadFailure) (first : List ℕ) (room : Option ℕ) (x y z : SourceState) → 0 < length first → length first ≤ MAX_JOURNAL → IsHeadCut first room
     → IsReadTo first room x y → FailsRest room why y z → FailsInput (error_of why) x z

@@ -1,5 +1,5 @@
 -- What an input says that is a script and a journal, and why it says nothing.
-use Rattle.std.specs.Prelude.{◌≡◌, ◌⊎◌, ℕ, ◌+◌, ◌≤◌, List, [], Option, Some, IfSome, Ok, Err, take, drop}
+use Rattle.std.specs.Prelude.{◌≡◌, ◌⊎◌, ℕ, ◌+◌, ◌≤◌, ◌<◌, List, [], Option, Some, IfSome, Ok, Err, take, drop, length}
 use Rattle.lt_io.specs.Streams.{CountsFaults, Rose, SourceState, IsReadWhole}
 use Rattle.lt_io.specs.declared.whole.ReadFailure.{ReadFailure}
 use Rattle.lt_io.specs.declared.whole.ReadFailure.TheVariants.{Memory, Failed, TooLong as Long}
@@ -68,11 +68,13 @@ error_of Failed = ReadFault
 error_of Long = TooLong
 
 -- why an input says nothing, and what its source tells before and after: one read failed, or it gave one byte more than
--- an input may have, or memory was refused where it may be wanting, or it was read whole, and has this fault or this
--- first bad line
+-- an input may have, and had as many left if it tells them, or memory was refused where it may be wanting, or it was read
+-- whole, and has this fault or this first bad line
 abbrev pub FailsInput : InputError → SourceState → SourceState → Type 0
 FailsInput ReadFault before after = CountsFaults 1 before.faults after.faults × (after.given ≤ before.given + MAX_JOURNAL)
-FailsInput TooLong before after = CountsFaults (MAX_JOURNAL + 1) before.given after.given × (after.faults ≡ before.faults)
+FailsInput TooLong before after =
+    CountsFaults (MAX_JOURNAL + 1) before.given after.given × (after.faults ≡ before.faults)
+    × IfSome before.left (λ bytes. MAX_JOURNAL < length bytes)
 FailsInput NoMemory before after =
     (after.given ≤ before.given + MAX_JOURNAL) × (after.faults ≡ before.faults) × WantsMemory before after
 FailsInput (Refused fault) before after = HasFaultBefore before.left fault × IsReadWhole MAX_JOURNAL before after

@@ -68,9 +68,11 @@ abbrev pub Left : Option (List ℕ) → List ℕ → Type 0
 Left None bytes = Unit {0}
 Left (Some left) bytes = left ≡ bytes
 
--- the source came to its end, no read failed, and it gave no more bytes than the input may have
+-- the source came to its end, and if it tells its bytes, it has none left; no read failed, and it gave no more bytes than
+-- the input may have
 pub record IsReadWhole (limit : ℕ) (before after : SourceState) : Type 0 where
   pub ended : CountsFaults 1 before.ends after.ends
+  pub at_end : IsAtEnd after.left
   pub few : after.given ≤ before.given + limit
   pub without_fault : after.faults ≡ before.faults
 

@@ -51,7 +51,7 @@ module _ {A : Type 0} (outcome : A → Outcome) (makes : Option (List ℕ) → L
   -- the call is one of this program
   abbrev pub IsPlain : PlainCall A → Type 0
   IsPlain c =
-      Serves outcome makes refuses wants limit (λ (s : SourceState). s) (λ (k : SinkTells). k.held) (λ (k : SinkTells). k.faults)
+      Serves outcome makes refuses wants limit (λ (s : SourceState). s) (λ (k : SinkTells). k.held) (λ (k : SinkTells). k.faults) (λ (k : SinkTells). k.pace)
       c.words c.answer c.source c.source_after c.sink c.sink_after
 
   not_usage : (c : PlainCall A) → IsPlain c → c.words ≡ 0 → outcome c.answer ≢ Usage

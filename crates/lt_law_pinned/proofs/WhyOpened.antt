@@ -219,7 +219,7 @@ why_told = record {
 abbrev HasWords : PlainCall Answer → ℕ → Type 0
 HasWords c words =
     Serves outcome_of IsWhyOf IsUnfit WantsMemory 67108864
-    (λ (s : SourceState). s) (λ (k : SinkTells). k.held) (λ (k : SinkTells). k.faults)
+    (λ (s : SourceState). s) (λ (k : SinkTells). k.held) (λ (k : SinkTells). k.faults) (λ (k : SinkTells). k.pace)
     words c.answer c.source c.source_after c.sink c.sink_after
 
 abbrev IsLikeReport : PlainCall Answer → Type 0

@@ -35,7 +35,7 @@ pub record NestTextsAre : Type 0 where
 abbrev pub IsNestCall : PlainCall Answer → Type 0
 IsNestCall c =
     ServesLines (λ (s : SourceState). s) (λ (k : SinkTells). k.held) (λ (k : SinkTells). k.faults)
-    c.words c.answer c.source c.source_after c.sink c.sink_after
+    (λ (k : SinkTells). k.pace) c.words c.answer c.source c.source_after c.sink c.sink_after
 
 -- it answers so where the input is these bytes
 abbrev pub NestAnswered : List ℕ → Answer → PlainCall Answer → Type 0

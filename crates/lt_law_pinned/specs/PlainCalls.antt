@@ -1,6 +1,6 @@
 -- What the answer says of the words, the source and the sink, of a program that takes no words.
 use Rattle.std.specs.Prelude.{◌≡◌, ◌≢◌, ◌<◌, ◌≤◌, ◌⊎◌, ◌+◌, ◌++◌, ℕ, List, Option, Some, length, take}
-use Rattle.lt_io.specs.Streams.{SourceState}
+use Rattle.lt_io.specs.Streams.{SourceState, Pace}
 use Rattle.lt_call.specs.declared.outcome.Outcome.{Outcome}
 use Rattle.lt_call.specs.declared.outcome.Outcome.TheVariants.{Done, Usage, Refused, TooLong, ReadFault, WriteFault, NoMemory, BadJournal}
 
@@ -10,10 +10,12 @@ pub record IsPartWritten (text old new : List ℕ) : Type 0 where
   pub less : size < length text
   pub part : new ≡ old ++ take size text
 
--- what a sink tells: the bytes that it holds, if they are known, and its count of failed writes
+-- what a sink tells: the bytes that it holds, if they are known, its count of failed writes, and how it takes pieces,
+-- if that is known
 pub record SinkTells : Type 0 where
   pub held : Option (List ℕ)
   pub faults : ℕ
+  pub pace : Option Pace
 
 -- an answer to so many words, with what the source and the sink tell before and after it
 pub record PlainCall (A : Type 0) : Type 0 where

@@ -46,7 +46,7 @@ pub record ReportTextsAre : Type 0 where
 abbrev pub IsReportCall : PlainCall Answer → Type 0
 IsReportCall c =
     ServesReport (λ (s : SourceState). s) (λ (k : SinkTells). k.held) (λ (k : SinkTells). k.faults)
-    c.words c.answer c.source c.source_after c.sink c.sink_after
+    (λ (k : SinkTells). k.pace) c.words c.answer c.source c.source_after c.sink c.sink_after
 
 -- it answers so where the input is these bytes
 abbrev pub Answered : List ℕ → Answer → PlainCall Answer → Type 0

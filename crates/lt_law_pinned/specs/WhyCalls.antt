@@ -58,7 +58,7 @@ abbrev pub IsWhyCall : PlainCall Answer → Type 0
 IsWhyCall c =
     (c.words ≡ 0)
     × ServesWhy (λ (s : SourceState). s) (λ (k : SinkTells). k.held) (λ (k : SinkTells). k.faults)
-    c.answer c.source c.source_after c.sink c.sink_after
+    (λ (k : SinkTells). k.pace) c.answer c.source c.source_after c.sink c.sink_after
 
 -- it answers so where the input is these bytes
 abbrev pub WhyAnswered : List ℕ → Answer → PlainCall Answer → Type 0

@@ -1,6 +1,6 @@
 -- Worked rows, byte for byte.
 use Rattle.std.specs.Prelude.{◌≡◌, ◌⊎◌, ℕ, List, Result, Ok, Err, IsOk, codes, Option, Some, None, IfSome}
-use Rattle.lt_io.specs.Streams.{SourceState, IsReadWhole}
+use Rattle.lt_io.specs.Streams.{SourceState, Pace, IsReadWhole}
 use Rattle.lt_text.specs.Text.{lines}
 use Rattle.lt_call.specs.Calls.{Serves}
 use Rattle.lt_call.specs.Outcomes.{CameInPart}
@@ -94,7 +94,8 @@ LinesWantMemory before after =
     CameInPart before after ⊎ (IsReadWhole MAX_INPUT before after × IfSome before.left LinesMayWantMemory)
 
 -- the answer to so many words; and the source and the sink before and after, with what they tell of themselves
-abbrev pub ServesLines : {S K : Type 0} → (S → SourceState) → (K → Option (List ℕ)) → (K → ℕ) → ℕ → Answer → S → S → K → K → Type 0
-ServesLines state held write_faults words answer before after sink sink_after =
-    Serves outcome_of IsWritten IsUnfit LinesWantMemory MAX_INPUT state held write_faults words answer
+abbrev pub ServesLines : {S K : Type 0} → (S → SourceState) → (K → Option (List ℕ)) → (K → ℕ) → (K → Option Pace)
+    → ℕ → Answer → S → S → K → K → Type 0
+ServesLines state held write_faults pace words answer before after sink sink_after =
+    Serves outcome_of IsWritten IsUnfit LinesWantMemory MAX_INPUT state held write_faults pace words answer
     before after sink sink_after

@@ -15,7 +15,8 @@ pub fn serve<S: Source, K: Sink>(
     source: &mut S,
     sink: &mut K,
 ) -> Answer
-    ensures { ServesLines S.state K.held K.faults (length words.now) result source.old source.new sink.old sink.new }
+    ensures { ServesLines S.state K.held K.faults K.pace (length words.now) result
+        source.old source.new sink.old sink.new }
 {
     answer(alloc, &Nested, words, source, sink)
 }

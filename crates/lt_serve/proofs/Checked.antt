@@ -42,7 +42,7 @@ counted left script world run made kept short ended is promised h =
 -- what an answer says of the source, where the input says nothing
 pub fails_says : (e : InputError) (before after : SourceState) → FailsInput e before after → SaysOfSource MAX_JOURNAL (outcome_of (status_of_input e)) before after
 fails_says error.ReadFault before after fails = failed_reading MAX_JOURNAL before after fails.0 fails.1
-fails_says error.TooLong before after fails = long_reading MAX_JOURNAL before after fails.0 fails.1
+fails_says error.TooLong before after fails = long_reading MAX_JOURNAL before after fails.0 fails.1 fails.2
 fails_says error.NoMemory before after fails = memory_reading MAX_JOURNAL before after fails.0 fails.1
 fails_says (error.Refused fault) before after fails = refused_reading MAX_JOURNAL outcome.Refused before after fails.1 tt
 fails_says (error.BadJournal line) before after fails = refused_reading MAX_JOURNAL outcome.BadJournal before after fails.1 tt

@@ -6,7 +6,7 @@ use Rattle.lt_spec.specs.Holdings.{lines_of, waits_for}
 use Rattle.lt_spec.specs.World.{Logged, world_after, is_waiting}
 use Rattle.lt_spec.specs.Rings.{AreBelow, IsRing, CycleLine, EndsLine, waits_lines, waits_report, Graph, numbers_below, walk_end, waits_for_some, ReportLine, WaitsLine, NoCycleLine}
 use Rattle.lt_spec.specs.Promised.{HasEnded, HoldsUp, WaitInRing}
-use Rattle.lt_io.specs.Streams.{SourceState}
+use Rattle.lt_io.specs.Streams.{SourceState, Pace}
 use Rattle.lt_text.specs.Text.{spaced, text}
 use Rattle.lt_law_journals.specs.Checking.{IsFinished}
 use Rattle.lt_checker.specs.declared.limits.TheConstants.{MAX_JOURNAL}
@@ -114,14 +114,15 @@ IsUnfit left other = ⊥
 
 -- the answer to so many words that aren't the word `why`; and the source and the sink before and after, with what they
 -- tell of themselves
-abbrev pub ServesReport : {S K : Type 0} → (S → SourceState) → (K → Option (List ℕ)) → (K → ℕ) → ℕ → Answer → S → S → K → K → Type 0
-ServesReport state held write_faults words answer before after sink sink_after =
-    Serves outcome_of IsReportOf IsUnfit WantsMemory MAX_JOURNAL state held write_faults words answer
+abbrev pub ServesReport : {S K : Type 0} → (S → SourceState) → (K → Option (List ℕ)) → (K → ℕ) → (K → Option Pace)
+    → ℕ → Answer → S → S → K → K → Type 0
+ServesReport state held write_faults pace words answer before after sink sink_after =
+    Serves outcome_of IsReportOf IsUnfit WantsMemory MAX_JOURNAL state held write_faults pace words answer
     before after sink sink_after
 
 -- the answer to the word `why`; and the source and the sink before and after, with what they tell of themselves
-abbrev pub ServesWhy : {S K : Type 0} → (S → SourceState) → (K → Option (List ℕ)) → (K → ℕ)
+abbrev pub ServesWhy : {S K : Type 0} → (S → SourceState) → (K → Option (List ℕ)) → (K → ℕ) → (K → Option Pace)
     → Answer → S → S → K → K → Type 0
-ServesWhy state held write_faults answer before after sink sink_after =
-    Serves outcome_of IsWhyOf IsUnfit WantsMemory MAX_JOURNAL state held write_faults 0 answer
+ServesWhy state held write_faults pace answer before after sink sink_after =
+    Serves outcome_of IsWhyOf IsUnfit WantsMemory MAX_JOURNAL state held write_faults pace 0 answer
     before after sink sink_after

@@ -21,9 +21,10 @@ pub fn program<S: Source, K: Sink>(
     sink: &mut K,
 ) -> Answer
     ensures served { IfOk words.now (λ texts. IsFalse (asks_why (map string_bytes texts.items))
-        → ServesReport S.state K.held K.faults (length texts.items) result source.old source.new sink.old sink.new) }
+        → ServesReport S.state K.held K.faults K.pace (length texts.items) result
+        source.old source.new sink.old sink.new) }
     ensures why { IfOk words.now (λ texts. IsTrue (asks_why (map string_bytes texts.items))
-        → ServesWhy S.state K.held K.faults result source.old source.new sink.old sink.new) }
+        → ServesWhy S.state K.held K.faults K.pace result source.old source.new sink.old sink.new) }
     ensures no_memory { IfErr words.now (λ error. error_kind error ≡ ErrorKind.OutOfMemory → outcome_of result ≡ Outcome.NoMemory) }
     ensures no_text { IfErr words.now (λ error. error_kind error ≢ ErrorKind.OutOfMemory → outcome_of result ≡ Outcome.Usage) }
     ensures unread { IfErr words.now (λ error. source.new ≡ source.old) }

@@ -20,9 +20,10 @@ pub fn serve<S: Source, K: Sink>(
     sink: &mut K,
 ) -> Answer
     ensures report { IsFalse (asks_why (map string_bytes words.now))
-        → ServesReport S.state K.held K.faults (length words.now) result source.old source.new sink.old sink.new }
+        → ServesReport S.state K.held K.faults K.pace (length words.now) result
+        source.old source.new sink.old sink.new }
     ensures why { IsTrue (asks_why (map string_bytes words.now))
-        → ServesWhy S.state K.held K.faults result source.old source.new sink.old sink.new }
+        → ServesWhy S.state K.held K.faults K.pace result source.old source.new sink.old sink.new }
 {
     if asks_why(words) {
         return answer(alloc, &Reasons, &[], source, sink);
