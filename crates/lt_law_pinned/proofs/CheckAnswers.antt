@@ -6,7 +6,7 @@ use Rattle.lt_modes.specs.Modes.{conflicts}
 use Rattle.lt_spec.specs.World.{Logged}
 use Rattle.lt_spec.specs.Script.{IsScript}
 use Rattle.lt_spec.specs.declared.moves.TheConstants.{MAX_MOVES}
-use Rattle.lt_io.specs.Streams.{Rose, RoseBy, SourceState}
+use Rattle.lt_io.specs.Streams.{Rose, RoseBy, SourceState, Pace}
 use Rattle.lt_text.specs.Text as text
 use Rattle.lt_text.specs.Text.{lines}
 use Rattle.lt_script.specs.declared.fault.ScriptFault.{ScriptFault}
@@ -136,8 +136,8 @@ check_says = record {
       run_or_line run 7 (checked_input one_lock_script (lines wrong_mode)) (answered wrong_mode t.1.script (Ok run) wrong_before t.1.denoted accepted) wrong_answer;
   fault = λ fault h.
       same_fault fault (record { line = 4; fault = faults.Mode }) (read_of no_mode)
-      (subst (λ (bytes : List ℕ). read_of bytes ≡ Err fault) no_mode_before (h.refused fault refl)) no_mode_read;
-  never_refused = λ fault h. without_fault fault (h.refused fault refl);
+      (subst (λ (bytes : List ℕ). read_of bytes ≡ Err fault) no_mode_before (h.refused fault refl).1) no_mode_read;
+  never_refused = λ fault h. without_fault fault (h.refused fault refl).1;
 }
 
 -- What is said where something fails, and where nothing does.
@@ -266,8 +266,8 @@ not_wanted wants = elim wants.good [
   ]
 ]
 
-pub serves_say : {S K : Type 0} (state : S → SourceState) (held : K → Option (List ℕ)) (faults : K → ℕ) → ServesSay state held faults
-serves_say state held faults = record {
+pub serves_say : {S K : Type 0} (state : S → SourceState) (held : K → Option (List ℕ)) (faults : K → ℕ) (pace : K → Option Pace) → ServesSay state held faults pace
+serves_say state held faults pace = record {
   unwritten = λ answer s t k l h is. h.unwritten (subst (λ (a : Status). WritesNothing (outcome_of a)) (sym is) tt);
   unread = λ answer s t k l h. h.unread refl;
   writing = λ answer s t k l h is.

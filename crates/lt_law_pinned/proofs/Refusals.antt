@@ -26,12 +26,12 @@ no_mode_read = refl
 
 pub fault_says : FaultSays
 fault_says = record {
-  fault = λ fault h. same_fault fault (record { line = 4; fault = faults.Mode }) (read_of no_mode) (h.refused fault refl) no_mode_read;
+  fault = λ fault h. same_fault fault (record { line = 4; fault = faults.Mode }) (read_of no_mode) (h.refused fault refl).1 no_mode_read;
   never_done = λ run old new t. script_or_fault t.1.journals.script (record { line = 4; fault = faults.Mode }) (read_of no_mode) t.1.journals.denoted no_mode_read;
   never_stuck = λ run old new t. script_or_fault t.1.journals.script (record { line = 4; fault = faults.Mode }) (read_of no_mode) t.1.journals.denoted no_mode_read;
   never_cut = λ node run old new t. script_or_fault t.1.journals.script (record { line = 4; fault = faults.Mode }) (read_of no_mode) t.1.journals.denoted no_mode_read;
   nothing = λ fault run old new t. (t.0, same_bytes new old t.1);
-  never_refused = λ fault h. script_or_fault _ fault (read_of one_lock) one_lock_read (h.refused fault refl);
+  never_refused = λ fault h. script_or_fault _ fault (read_of one_lock) one_lock_read (h.refused fault refl).1;
 }
 
 pub counts_say : CountsSay

@@ -7,7 +7,7 @@ use Rattle.lt_modes.specs.declared.event.Event.TheVariants.{Grant, Unlock as Unl
 use Rattle.lt_spec.specs.NodeMove.{commands_of}
 use Rattle.lt_spec.specs.World.{Logged, world_after, is_of_node, IsRun, can_move}
 use Rattle.lt_spec.specs.Promised.{Promised}
-use Rattle.lt_io.specs.Streams.{SourceState}
+use Rattle.lt_io.specs.Streams.{SourceState, Pace}
 use Rattle.lt_script.specs.declared.fault.Fault.TheVariants as faults
 use Rattle.lt_script.specs.declared.fault.ScriptFault.{ScriptFault}
 use Rattle.lt_journal.specs.RunLines.{text_of}
@@ -51,10 +51,12 @@ pub record LiveTextsAre : Type 0 where
   pub cut : line_of_status (Cut 7) ≡ codes "locklive: cut at node 7"
   pub share : line_of_status (Share 3) ≡ codes "locklive: too many commands of client 3"
 
--- what a sink tells: the bytes that it holds, if they are known, and its count of failed writes
+-- what a sink tells: the bytes that it holds, if they are known, its count of failed writes, and how it takes pieces,
+-- if that is known
 pub record SinkState : Type 0 where
   pub held : Option (List ℕ)
   pub faults : ℕ
+  pub pace : Option Pace
 
 -- an answer to so many words, with what the source and the sink tell before and after it
 pub record LiveCall : Type 0 where
@@ -68,7 +70,8 @@ pub record LiveCall : Type 0 where
 -- the top call gives it
 abbrev pub IsCall : LiveCall → Type 0
 IsCall c =
-    Serves (λ (s : SourceState). s) (λ (k : SinkState). k.held) (λ (k : SinkState). k.faults) c.words c.answer c.source c.source_after c.sink c.sink_after
+    Serves (λ (s : SourceState). s) (λ (k : SinkState). k.held) (λ (k : SinkState). k.faults)
+    (λ (k : SinkState). k.pace) c.words c.answer c.source c.source_after c.sink c.sink_after
 
 -- it does without words, and answers so, where all counts begin at 0
 pub record Answers (status : Status) (c : LiveCall) : Type 0 where

@@ -5,7 +5,7 @@ use Rattle.lt_modes.specs.declared.command.Command.TheVariants.{Lock, Unlock}
 use Rattle.lt_modes.specs.Script.{ScriptData}
 use Rattle.lt_spec.specs.World.{Logged}
 use Rattle.lt_spec.specs.declared.moves.TheConstants.{MAX_MOVES}
-use Rattle.lt_io.specs.Streams.{SourceState}
+use Rattle.lt_io.specs.Streams.{SourceState, Pace}
 use Rattle.lt_script.specs.declared.fault.ScriptFault.{ScriptFault}
 use Rattle.lt_script.specs.declared.fault.Fault.TheVariants as faults
 use Rattle.lt_words.specs.declared.command.Command.{Command}
@@ -191,43 +191,47 @@ pub record EndsSay : Type 0 where
 -- What all that is said at once of an answer comes to, for any source and any sink, in literals.
 
 -- a fact of every answer to this command, and of the source and the sink, each before and after
-abbrev pub OfAnswers : {S K : Type 0} → (S → SourceState) → (K → Option (List ℕ)) → (K → ℕ) → ℕ → Option Command
-    → (Served → S → S → K → K → Type 0) → Type 0
-OfAnswers {S = S} {K = K} state held faults moves asked fact =
+abbrev pub OfAnswers : {S K : Type 0} → (S → SourceState) → (K → Option (List ℕ)) → (K → ℕ) → (K → Option Pace) → ℕ
+    → Option Command → (Served → S → S → K → K → Type 0) → Type 0
+OfAnswers {S = S} {K = K} state held faults pace moves asked fact =
     (answer : Served) (source_before source_after : S) (sink_before sink_after : K)
-    → Serves state held faults moves asked answer source_before source_after sink_before sink_after
+    → Serves state held faults pace moves asked answer source_before source_after sink_before sink_after
     → fact answer source_before source_after sink_before sink_after
 
 -- in each fact s and t are the source before and after, and k and l the sink
-pub record ServesSay {S K : Type 0} (state : S → SourceState) (held : K → Option (List ℕ)) (faults : K → ℕ) : Type 0 where
+pub record ServesSay {S K : Type 0} (state : S → SourceState) (held : K → Option (List ℕ)) (faults : K → ℕ)
+    (pace : K → Option Pace) : Type 0 where
   -- where memory was wanting the sink is as it was
-  pub unwritten : OfAnswers state held faults MAX_MOVES (Some SimFirst) (λ answer s t k l. answer.status ≡ NoMemory → l ≡ k)
+  pub unwritten : OfAnswers state held faults pace MAX_MOVES (Some SimFirst)
+      (λ answer s t k l. answer.status ≡ NoMemory → l ≡ k)
   -- `make` leaves the source as it was
-  pub unread : OfAnswers state held faults MAX_MOVES (Some (Make 1 1 1 7)) (λ answer s t k l. t ≡ s)
+  pub unread : OfAnswers state held faults pace MAX_MOVES (Some (Make 1 1 1 7)) (λ answer s t k l. t ≡ s)
   -- a run that is done had no failed write, no failed read, and no more than 2^20 bytes of input
-  pub writing : OfAnswers state held faults MAX_MOVES (Some SimFirst) (λ answer s t k l. answer.status ≡ Done → faults l ≡ faults k)
-  pub reading : OfAnswers state held faults MAX_MOVES (Some SimFirst)
+  pub writing : OfAnswers state held faults pace MAX_MOVES (Some SimFirst)
+      (λ answer s t k l. answer.status ≡ Done → faults l ≡ faults k)
+  pub reading : OfAnswers state held faults pace MAX_MOVES (Some SimFirst)
       (λ answer s t k l. answer.status ≡ Done → ((state t).faults ≡ (state s).faults) × ((state t).given ≤ (state s).given + 1048576))
   -- the run that `check` tells, and what it writes
-  pub told : OfAnswers state held faults MAX_MOVES (Some Check) (λ answer s t k l.
+  pub told : OfAnswers state held faults pace MAX_MOVES (Some Check) (λ answer s t k l.
       answer.status ≡ Done → (state s).left ≡ Some checked_lock → (old new : List ℕ) → held k ≡ Some old → held l ≡ Some new
       → (answer.run.entries ≡ the_move ∷ []) × (new ≡ old ++ codes "ok 1\n"))
   -- what is written where a node makes one move
-  pub cut : OfAnswers state held faults 1 (Some SimFirst) (λ answer s t k l.
+  pub cut : OfAnswers state held faults pace 1 (Some SimFirst) (λ answer s t k l.
       answer.status ≡ Cut 0 → (state s).left ≡ Some two_writers → (old new : List ℕ) → held k ≡ Some old → held l ≡ Some new
       → new ≡ old ++ cut_journal)
   -- the bad line
-  pub bad : OfAnswers state held faults MAX_MOVES (Some Check) (λ answer s t k l.
+  pub bad : OfAnswers state held faults pace MAX_MOVES (Some Check) (λ answer s t k l.
       (line : ℕ) → answer.status ≡ BadJournal line → (state s).left ≡ Some wrong_mode → line ≡ 7)
   -- where memory was wanting nothing was read, or bytes came
-  pub memory : OfAnswers state held faults MAX_MOVES (Some SimFirst) (λ answer s t k l.
+  pub memory : OfAnswers state held faults pace MAX_MOVES (Some SimFirst) (λ answer s t k l.
       answer.status ≡ NoMemory → state s ≡ fresh_source (Some one_lock) → (t ≡ s) ⊎ (0 < (state t).given))
   -- where all was read, a bad line before the last is no want of memory
-  pub no_memory : OfAnswers state held faults MAX_MOVES (Some Check) (λ answer s t k l.
+  pub no_memory : OfAnswers state held faults pace MAX_MOVES (Some Check) (λ answer s t k l.
       state s ≡ fresh_source (Some wrong_mode) → state t ≡ read_whole wrong_mode → answer.status ≢ NoMemory)
   -- wrong words are told, and leave the source and the sink as they were
-  pub wrong_words : OfAnswers state held faults MAX_MOVES None (λ answer s t k l. (answer.status ≡ Usage) × (t ≡ s) × (l ≡ k))
+  pub wrong_words : OfAnswers state held faults pace MAX_MOVES None
+      (λ answer s t k l. (answer.status ≡ Usage) × (t ≡ s) × (l ≡ k))
   -- a good journal that was read to its end is accepted, where no write failed and memory was there
-  pub complete : OfAnswers state held faults MAX_MOVES (Some Check) (λ answer s t k l.
+  pub complete : OfAnswers state held faults pace MAX_MOVES (Some Check) (λ answer s t k l.
       state s ≡ fresh_source (Some checked_lock) → state t ≡ read_whole checked_lock → faults k ≡ 0 → faults l ≡ 0
       → answer.status ≢ NoMemory → answer.status ≡ Done)

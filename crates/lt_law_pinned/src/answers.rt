@@ -20,5 +20,5 @@ pub fn law_answers<S: Source, K: Sink>()
     ensures orders { OrdersSay }
     ensures order { OrderSays }
     ensures ends { EndsSay }
-    ensures serves { ServesSay S.state K.held K.faults }
+    ensures serves { ServesSay S.state K.held K.faults K.pace }
 {}

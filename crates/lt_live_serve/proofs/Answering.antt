@@ -1,6 +1,6 @@
 -- What an answer says: once the journal is written, where there is no run, and where there is a word.
 use Rattle.std.proofs.Common.{◌≡◌, ◌∙◌, ◌≢◌, ◌<◌, ◌+◌, ◌⊎◌, ℕ, List, Option, Some, None, Ok, [], refl, sym, ap, subst, arith, inl, inr}
-use Rattle.lt_io.specs.Streams.{Rose, SourceState, IsReadWhole}
+use Rattle.lt_io.specs.Streams.{Rose, SourceState, Pace, IsReadWhole}
 use Rattle.lt_call.specs.declared.outcome.Outcome.TheVariants as outcome
 use Rattle.lt_call.specs.Outcomes.{IsEnding, IsRefusal, WritesNothing, SaysOfSource, SaysOfSink}
 use Rattle.lt_call.proofs.Answering.{HasWritten, is_other, rose, written_reading}
@@ -16,7 +16,7 @@ use Rattle.lt_live_serve.specs.declared.served.Served.{Served}
 use Rattle.lt_live_serve.specs.declared.status.Status.{Status}
 use Rattle.lt_live_serve.specs.declared.status.Status.TheVariants.{Done, Stuck, Usage, Refused, TooLong, ReadFault, WriteFault, NoMemory, Cut, Share}
 use Rattle.lt_live_serve.specs.Status.{outcome_of, status_by_end}
-use Rattle.lt_live_serve.specs.Serves.{Serves, Did, Ends, GoesWell, IsUnfit, IsGood}
+use Rattle.lt_live_serve.specs.Serves.{Serves, Did, WroteByFewest, StoppedByFewest, Ends, GoesWell, IsUnfit, IsGood}
 use Rattle.lt_call.specs.Scripts.{DenotesOrdered}
 
 -- what is known where nothing fails
@@ -71,15 +71,22 @@ ends_by words status before after run polled old new writes_before writes_after 
     never = not_cut status before.left run polled old new did
 
 -- where the journal was written, or a part of it
-pub written_serves : {S K : Type 0} (state : S → SourceState) (held : K → Option (List ℕ)) (write_faults : K → ℕ) (words : ℕ) (answer : Served) (before after : S) (sink sink_after : K)
+pub written_serves : {S K : Type 0} (state : S → SourceState) (held : K → Option (List ℕ)) (write_faults : K → ℕ) (pace : K → Option Pace) (words : ℕ) (answer : Served) (before after : S) (sink sink_after : K)
     → words ≡ 0 → IsEnding (outcome_of answer.status) ⊎ (answer.status ≡ WriteFault)
     → Did answer.status (state before).left answer.run.entries answer.polled.items (held sink) (held sink_after)
-    → IsReadWhole MAX_INPUT (state before) (state after) → SaysOfSink (outcome_of answer.status) (write_faults sink) (write_faults sink_after)
-    → (WritesNothing (outcome_of answer.status) → sink_after ≡ sink) → Serves state held write_faults words answer before after sink sink_after
-written_serves state held write_faults words answer before after sink sink_after none told did whole writing unwritten =
+    → IsReadWhole MAX_INPUT (state before) (state after)
+    → (IsEnding (outcome_of answer.status)
+    → WroteByFewest answer.status (state before).left answer.run.entries answer.polled.items (held sink) (held sink_after) (pace sink) (pace sink_after))
+    → (answer.status ≡ WriteFault
+    → StoppedByFewest (state before).left answer.run.entries answer.polled.items (held sink) (held sink_after) (pace sink) (pace sink_after))
+    → SaysOfSink (outcome_of answer.status) (write_faults sink) (write_faults sink_after)
+    → (WritesNothing (outcome_of answer.status) → sink_after ≡ sink) → Serves state held write_faults pace words answer before after sink sink_after
+written_serves state held write_faults pace words answer before after sink sink_after none told did whole few few_failed writing unwritten =
     let written : HasWritten (outcome_of answer.status) = elim told [ inl h ↦ inl h | inr e ↦ inr (ap outcome_of e) ] in
     record {
       did = did;
+      few = few;
+      few_failed = few_failed;
       usage = λ e. absurd (is_other (outcome_of answer.status) outcome.Usage written tt (ap outcome_of e));
       no_words = λ some. absurd (omega (arith, none, some));
       unread = λ e. absurd (is_other (outcome_of answer.status) outcome.Usage written tt (ap outcome_of e));
@@ -127,17 +134,31 @@ refusal_complete Stuck before after h tells good memory = absurd h
 refusal_complete (Cut node) before after h tells good memory = absurd h
 refusal_complete WriteFault before after h tells good memory = absurd h
 
+not_ended : (status : Status) (left : Option (List ℕ)) → Refuses left status → IsEnding (outcome_of status) → ⊥
+not_ended Done left h ended = h
+not_ended Stuck left h ended = h
+not_ended (Cut node) left h ended = h
+not_ended Usage left h ended = ended
+not_ended (Refused fault) left h ended = ended
+not_ended TooLong left h ended = ended
+not_ended ReadFault left h ended = ended
+not_ended WriteFault left h ended = ended
+not_ended NoMemory left h ended = ended
+not_ended (Share client) left h ended = ended
+
 -- where there is no run
-pub refusal_serves : {S K : Type 0} (state : S → SourceState) (held : K → Option (List ℕ)) (write_faults : K → ℕ) (words : ℕ) (answer : Served) (status : Status) (before after : S) (sink : K)
+pub refusal_serves : {S K : Type 0} (state : S → SourceState) (held : K → Option (List ℕ)) (write_faults : K → ℕ) (pace : K → Option Pace) (words : ℕ) (answer : Served) (status : Status) (before after : S) (sink : K)
     → words ≡ 0 → answer.status ≡ status → answer.run.entries ≡ [] → answer.polled.items ≡ [] → Refuses (state before).left status
     → SaysOfSource MAX_INPUT (outcome_of status) (state before) (state after) → (status ≡ NoMemory → Rose (state before).given (state after).given)
-    → Serves state held write_faults words answer before after sink sink
-refusal_serves state held write_faults words answer status before after sink none same no_run no_reply refused reading memory =
+    → Serves state held write_faults pace words answer before after sink sink
+refusal_serves state held write_faults pace words answer status before after sink none same no_run no_reply refused reading memory =
     let refusal = subst (Refuses (state before).left) (sym same) refused in
     let tells = subst (λ (s : Status). SaysOfSource MAX_INPUT (outcome_of s) (state before) (state after)) (sym same) reading in
     let did = refusal_did answer.status (state before).left answer.run.entries answer.polled.items (held sink) refusal no_run no_reply in
     record {
       did = did;
+      few = λ ended. absurd (not_ended answer.status (state before).left refusal ended);
+      few_failed = λ e. absurd (subst (Refuses (state before).left) e refusal);
       usage = λ e. absurd (subst (Refuses (state before).left) e refusal);
       no_words = λ some. absurd (omega (arith, none, some));
       unread = λ e. absurd (subst (Refuses (state before).left) e refusal);
@@ -155,10 +176,12 @@ refusal_serves state held write_faults words answer status before after sink non
     }
 
 -- where there is a word
-pub usage_serves : {S K : Type 0} (state : S → SourceState) (held : K → Option (List ℕ)) (write_faults : K → ℕ) (words : ℕ) (answer : Served) (source : S) (sink : K)
-    → 0 < words → answer.status ≡ Usage → answer.run.entries ≡ [] → answer.polled.items ≡ [] → Serves state held write_faults words answer source source sink sink
-usage_serves state held write_faults words answer source sink some is no_run no_reply = record {
+pub usage_serves : {S K : Type 0} (state : S → SourceState) (held : K → Option (List ℕ)) (write_faults : K → ℕ) (pace : K → Option Pace) (words : ℕ) (answer : Served) (source : S) (sink : K)
+    → 0 < words → answer.status ≡ Usage → answer.run.entries ≡ [] → answer.polled.items ≡ [] → Serves state held write_faults pace words answer source source sink sink
+usage_serves state held write_faults pace words answer source sink some is no_run no_reply = record {
   did = did;
+  few = λ ended. absurd (subst (λ (s : Status). IsEnding (outcome_of s)) is ended);
+  few_failed = λ e. absurd (cc);
   usage = λ e. some;
   no_words = λ h. is;
   unread = λ e. refl;

@@ -100,11 +100,13 @@ polled_of script later callers polled run is_script h heard told made = told ∙
 
 -- a live run
 pub live_run : RunsKeepPromises → OrderedFinish → RestIsNoMove → (script : ScriptData) (end : Ending) (before : List Parts) (stations : List StationData) (callers : List Caller)
-    (polled : List (ℕ × Reply)) (run : List Logged) → IsScript script → MovedOn script end before (map runner_of stations) → AreServing script stations callers
+    (polled : List (ℕ × Reply)) (run : List Logged) → IsScript script → IsShort script → MovedOn script end before (map runner_of stations) → AreServing script stations callers
     → polled ≡ all_replies script run → IsRunOf script (map runner_of stations) run → LiveRun end script run polled
-live_run promises finish rest script end before stations callers polled run is_script moved h told made =
+live_run promises finish rest script end before stations callers polled run is_script is_short moved h told made =
     let ran = made_run rest MOVES end script (map runner_of stations) made.logs run moved.crew h.limits made.are made.merges moved.ends in
     record {
+      is_script = is_script;
+      is_short = is_short;
       ran = ran;
       promised = promises script run (whole script is_script) ran.is_run;
       ordered = not_stuck end script run is_script ran.is_run ran.ends finish;

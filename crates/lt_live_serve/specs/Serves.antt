@@ -9,9 +9,9 @@ use Rattle.lt_spec.specs.declared.ending.Ending.{Ending}
 use Rattle.lt_spec.specs.declared.ending.Ending.TheVariants as ending
 use Rattle.lt_spec.specs.Holdings.{lines_of}
 use Rattle.lt_spec.specs.World.{Logged}
-use Rattle.lt_spec.specs.Script.{IsOrdered}
+use Rattle.lt_spec.specs.Script.{IsScript, IsShort, IsOrdered}
 use Rattle.lt_spec.specs.Promised.{Promised}
-use Rattle.lt_io.specs.Streams.{Rose, RoseBy, SourceState, AppendsPart}
+use Rattle.lt_io.specs.Streams.{Rose, RoseBy, SourceState, AppendsPart, Pace, WritesByFewest, StopsByFewest}
 use Rattle.lt_script.specs.Reading.{read_of}
 use Rattle.lt_script.specs.declared.fault.ScriptFault.{ScriptFault}
 use Rattle.lt_journal.specs.RunLines.{text_of}
@@ -20,11 +20,11 @@ use Rattle.lt_live.specs.Stations.{may_ask, equal_share}
 use Rattle.lt_live.specs.declared.reply.Reply.{Reply}
 use Rattle.lt_live.specs.Seats.{replies_in}
 use Rattle.lt_call.specs.Scripts.{Denotes, HasFault, DenotesOrdered}
-use Rattle.lt_call.specs.Outcomes.{WritesNothing, SaysOfSource, SaysOfSink}
+use Rattle.lt_call.specs.Outcomes.{IsEnding, WritesNothing, SaysOfSource, SaysOfSink}
 use Rattle.lt_live_serve.specs.declared.status.Status.{Status}
 use Rattle.lt_live_serve.specs.declared.status.Status.TheVariants.{Refused, NoMemory, Done, Stuck, Usage, WriteFault, Cut, Share}
 use Rattle.lt_live_serve.specs.declared.limits.TheConstants.{MOVES, MAX_INPUT}
-use Rattle.lt_live_serve.specs.Status.{cut_node, outcome_of}
+use Rattle.lt_live_serve.specs.Status.{cut_node, outcome_of, status_by_end}
 use Rattle.lt_live_serve.specs.declared.served.Served.{Served}
 
 -- all that these commands name is of the script and of its version
@@ -77,6 +77,8 @@ all_replies script run = replies_below (length script.clients) run
 -- a run of the script by all rules, its moves in the order of their stamps, that ended so and keeps all that is promised; and what
 -- the sessions polled, which is every reply of it
 pub record LiveRun (end : Ending) (script : ScriptData) (run : List Logged) (polled : List (ℕ × Reply)) : Type 0 where
+  pub is_script : IsScript script
+  pub is_short : IsShort script
   pub ran : IsThreadRun MOVES end script run
   pub promised : Promised script run
   -- if the script is ordered, it didn't end at rest with a client waiting
@@ -115,6 +117,19 @@ Did (Cut node) left run polled old new = WroteAll (ending.Cut node) left run pol
 Did WriteFault left run polled old new = WrotePart left run polled old new
 Did other left run polled old new = DidNothing run polled old new
 
+-- the journal of a run that ended as the status says was appended by as few writes as can be
+abbrev pub WroteByFewest : Status → Option (List ℕ) → List Logged → List (ℕ × Reply) → Option (List ℕ)
+    → Option (List ℕ) → Option Pace → Option Pace → Type 0
+WroteByFewest status left run polled old new pace pace_new =
+    (end : Ending) × (status ≡ status_by_end end) × (text : List ℕ) × Journals end left run polled text
+    × Appends old new text × WritesByFewest pace pace_new (length text)
+
+-- a first part of the journal was, and one write more failed
+abbrev pub StoppedByFewest : Option (List ℕ) → List Logged → List (ℕ × Reply) → Option (List ℕ)
+    → Option (List ℕ) → Option Pace → Option Pace → Type 0
+StoppedByFewest left run polled old new pace pace_new =
+    (end : Ending) × (text : List ℕ) × Journals end left run polled text × StopsByFewest pace pace_new old new text
+
 -- the script has this fault, or this client more commands than its session may submit
 abbrev pub IsUnfit : Option (List ℕ) → Status → Type 0
 IsUnfit left (Refused fault) = HasFault left fault
@@ -145,9 +160,16 @@ pub record Ends (words : ℕ) (answer : Status) (before after : SourceState) (wr
   pub ordered : GoesWell words answer before after writes_before writes_after → DenotesOrdered before.left → answer ≡ Done
 
 -- the answer to so many words; and the source and the sink before and after, with what they tell of themselves
-pub record Serves {S K : Type 0} (state : S → SourceState) (held : K → Option (List ℕ)) (write_faults : K → ℕ) (words : ℕ) (answer : Served) (source_before source_after : S) (sink_before sink_after : K) : Type 0 where
+pub record Serves {S K : Type 0} (state : S → SourceState) (held : K → Option (List ℕ)) (write_faults : K → ℕ) (pace : K → Option Pace) (words : ℕ) (answer : Served) (source_before source_after : S) (sink_before sink_after : K) : Type 0 where
   -- what the run is, how it ended, what was polled, and what was written
   pub did : Did answer.status (state source_before).left answer.run.entries answer.polled.items (held sink_before) (held sink_after)
+  -- each write was given all that was not written yet: of the whole journal, or until one failed
+  pub few : IsEnding (outcome_of answer.status)
+      → WroteByFewest answer.status (state source_before).left answer.run.entries answer.polled.items
+      (held sink_before) (held sink_after) (pace sink_before) (pace sink_after)
+  pub few_failed : answer.status ≡ WriteFault
+      → StoppedByFewest (state source_before).left answer.run.entries answer.polled.items
+      (held sink_before) (held sink_after) (pace sink_before) (pace sink_after)
   -- there is a word
   pub usage : answer.status ≡ Usage → 0 < words
   pub no_words : 0 < words → answer.status ≡ Usage

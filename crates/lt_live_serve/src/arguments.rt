@@ -20,7 +20,7 @@ pub fn program<R: Threads + Sync, S: Source, K: Sink, G: Gate>(
     sink: &mut K,
     gate: &G,
 ) -> Served
-    ensures served { IfOk words.now (λ texts. Serves S.state K.held K.faults (length texts.items) result source.old source.new sink.old sink.new) }
+    ensures served { IfOk words.now (λ texts. Serves S.state K.held K.faults K.pace (length texts.items) result source.old source.new sink.old sink.new) }
     ensures no_memory { IfErr words.now (λ error. error_kind error ≡ ErrorKind.OutOfMemory → result.status ≡ Status.NoMemory) }
     ensures no_text { IfErr words.now (λ error. error_kind error ≢ ErrorKind.OutOfMemory → result.status ≡ Status.Usage) }
     ensures no_run { IfErr words.now (λ error. (result.run.entries ≡ []) × (result.polled.items ≡ [])) }

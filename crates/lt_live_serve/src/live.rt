@@ -62,6 +62,7 @@ fn ended_run<R: Threads + Sync, G: Gate>(
     gate: &G,
 ) -> Result<Live, AllocError>
     requires kept { IsScript script.now }
+    requires short { IsShort script.now }
     requires shared { IsFirstOver script.now None }
     ensures { IfOk result (λ live. LiveRun live.ending script.now live.run.entries live.polled.items) }
 {

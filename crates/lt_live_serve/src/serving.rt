@@ -4,7 +4,7 @@ ghost use Rattle.lt_call.specs.Outcomes.{IsEnding, IsRefusal, SaysOfSink, SaysOf
 ghost use Rattle.lt_live_serve.specs.declared.limits.TheConstants.{MAX_INPUT};
 ghost use Rattle.lt_spec.specs.Script.{IsScript, IsShort};
 ghost use Rattle.lt_journal.specs.RunLines.{text_of};
-ghost use Rattle.lt_live_serve.specs.Serves.{Journals, LiveRun, Serves, Did, IsFirstOver, IsUnfit};
+ghost use Rattle.lt_live_serve.specs.Serves.{Journals, LiveRun, Serves, Did, IsFirstOver, IsUnfit, WroteByFewest, StoppedByFewest};
 ghost use Rattle.lt_live_serve.specs.Status.{cut_node, outcome_of};
 
 use crate::live::live_run;
@@ -31,7 +31,7 @@ pub fn serve<R: Threads + Sync, S: Source, K: Sink, G: Gate>(
     sink: &mut K,
     gate: &G,
 ) -> Served
-    ensures { Serves S.state K.held K.faults (length words.now) result source.old source.new sink.old sink.new }
+    ensures { Serves S.state K.held K.faults K.pace (length words.now) result source.old source.new sink.old sink.new }
 {
     if !words.is_empty() {
         return Served::without_run(alloc, Status::Usage);
@@ -96,6 +96,15 @@ fn made_of<R: Threads + Sync, G: Gate>(
 fn write_made<K: Sink>(sink: &mut K, made: Made) -> Served
     ensures did { (left : Option (List ℕ)) → Journals made.ending left made.run.entries made.polled.items made.text.items
         → Did result.status left result.run.entries result.polled.items (K.held sink.old) (K.held sink.new) }
+    ensures few { (left : Option (List ℕ))
+        → Journals made.ending left made.run.entries made.polled.items made.text.items
+        → IsEnding (outcome_of result.status)
+        → WroteByFewest result.status left result.run.entries result.polled.items
+        (K.held sink.old) (K.held sink.new) (K.pace sink.old) (K.pace sink.new) }
+    ensures few_failed { (left : Option (List ℕ))
+        → Journals made.ending left made.run.entries made.polled.items made.text.items
+        → result.status ≡ Status.WriteFault → StoppedByFewest left result.run.entries result.polled.items
+        (K.held sink.old) (K.held sink.new) (K.pace sink.old) (K.pace sink.new) }
     ensures written { IsEnding (outcome_of result.status) ⊎ (result.status ≡ Status.WriteFault) }
     ensures writing { SaysOfSink (outcome_of result.status) (K.faults sink.old) (K.faults sink.new) }
     ensures unwritten { WritesNothing (outcome_of result.status) → sink.new ≡ sink.old }

@@ -6,7 +6,7 @@ use Rattle.lt_spec.specs.Script.{IsScript, IsShort, IsOrdered}
 use Rattle.lt_spec.specs.World.{Logged, world_after, IsRun, is_at_rest, anyone_waits, EndsBy}
 use Rattle.lt_spec.specs.declared.ending.Ending.{Ending}
 use Rattle.lt_spec.specs.declared.ending.Ending.TheVariants as ending
-use Rattle.lt_io.specs.Streams.{CountsFaults, SourceState, IsReadWhole}
+use Rattle.lt_io.specs.Streams.{CountsFaults, SourceState, Pace, IsReadWhole}
 use Rattle.lt_text.specs.Number.{number}
 use Rattle.lt_gen.specs.Sizes.{can_make}
 use Rattle.lt_words.specs.declared.command.Command.{Command}
@@ -24,7 +24,7 @@ use Rattle.lt_serve.specs.declared.status.Status.TheVariants.{Stuck, Done, Usage
 use Rattle.lt_serve.specs.Causes.{HasStatusCause, CanBeMade, IsRefusal, RunsOrdered, WantsToRead, reads, limit_of}
 use Rattle.lt_serve.specs.Status.{outcome_of}
 use Rattle.lt_serve.specs.Endings.{EndsAs, RanTo, status_of_end}
-use Rattle.lt_serve.specs.TopCall.{JournalsBy, DidOf}
+use Rattle.lt_serve.specs.TopCall.{JournalsBy, DidOf, WroteByFewest, StoppedByFewest}
 use Rattle.lt_serve.specs.declared.serving.Served.{Served}
 use Rattle.lt_serve.specs.Serves.{IsComplete, IsAnswered, Serves}
 use Rattle.lt_serve.proofs.Completing.{complete_of, refusal_complete}
@@ -48,7 +48,7 @@ pub refused_causes : (asked : Option Command) (command : Command) (left : Option
     → IsRefusal command left status → HasStatusCause asked left status
 refused_causes asked command left status is h = subst (λ (a : Option Command). HasStatusCause a left status) (sym is) (record {
   usage = (λ e. absurd (subst (λ (s : Status). IsRefusal command left s) e h), λ none. absurd (not_none none));
-  refused = λ fault e. (subst (λ (s : Status). IsRefusal command left s) e h).1;
+  refused = λ fault e. subst (λ (s : Status). IsRefusal command left s) e h;
   bad_journal = λ line e. let k = subst (λ (s : Status). IsRefusal command left s) e h in (ap Some k.1, k.2);
   stuck = λ e. absurd (subst (λ (s : Status). IsRefusal command left s) e h);
   read_fault = λ e. subst (λ (s : Status). IsRefusal command left s) e h;
@@ -186,18 +186,21 @@ refusal_leaves command left (Cut node) h = h
 refusal_leaves command left WriteFault h = h
 
 -- a command that came to no end
-pub refusal_serves : {S K : Type 0} (state : S → SourceState) (held : K → Option (List ℕ)) (write_faults : K → ℕ)
+pub refusal_serves : {S K : Type 0} (state : S → SourceState) (held : K → Option (List ℕ)) (write_faults : K → ℕ) (pace : K → Option Pace)
     (moves : ℕ) (asked : Option Command) (command : Command) (answer : Served) (status : Status) (before after : S) (sink : K)
     → asked ≡ Some command → answer.status ≡ status → answer.run.entries ≡ [] → IsRefusal command (state before).left status
     → (reads (Some command) ≡ true → SaysOfSource (limit_of (Some command)) (outcome_of status) (state before) (state after))
     → (reads (Some command) ≡ false → after ≡ before)
     → (status ≡ NoMemory → reads (Some command) ≡ true → WantsToRead (Some command) (state before) (state after))
-    → Serves state held write_faults moves asked answer before after sink sink
-refusal_serves state held write_faults moves asked command answer status before after sink is same none refused reading unread memory =
+    → Serves state held write_faults pace moves asked answer before after sink sink
+refusal_serves state held write_faults pace moves asked command answer status before after sink is same none refused reading unread memory =
     let refusal = subst (λ (s : Status). IsRefusal command (state before).left s) (sym same) refused in
     let read = subst (λ (s : Status). reads (Some command) ≡ true → SaysOfSource (limit_of (Some command)) (outcome_of s) (state before) (state after)) (sym same) reading in
-    subst (λ (a : Option Command). Serves state held write_faults moves a answer before after sink sink) (sym is) (record {
+    subst (λ (a : Option Command). Serves state held write_faults pace moves a answer before after sink sink) (sym is) (record {
       did = refusal_did moves command answer.status (state before).left answer.run.entries (held sink) refusal none;
+      few = λ ended. absurd (is_other (outcome_of answer.status) (outcome_of answer.status) (inl ended)
+          (refusal_leaves command (state before).left answer.status refusal) refl);
+      few_failed = λ e. absurd (subst (λ (s : Status). IsRefusal command (state before).left s) e refusal);
       causes = refused_causes (Some command) command (state before).left answer.status refl refusal;
       memory = λ e asks. inr (memory (sym same ∙ e) asks);
       reading = read;
@@ -212,18 +215,24 @@ refusal_serves state held write_faults moves asked command answer status before 
     })
 
 -- a command whose text was written, or a part of it
-pub written_serves : {S K : Type 0} (state : S → SourceState) (held : K → Option (List ℕ)) (write_faults : K → ℕ)
+pub written_serves : {S K : Type 0} (state : S → SourceState) (held : K → Option (List ℕ)) (write_faults : K → ℕ) (pace : K → Option Pace)
     (moves : ℕ) (asked : Option Command) (command : Command) (answer : Served) (before after : S) (sink sink_after : K)
     → asked ≡ Some command → IsEnding (outcome_of answer.status) ⊎ (answer.status ≡ WriteFault)
     → DidOf moves command answer.status (state before).left answer.run.entries (held sink) (held sink_after)
     → (reads (Some command) ≡ true → IsReadWhole (limit_of (Some command)) (state before) (state after))
     → (reads (Some command) ≡ false → after ≡ before)
+    → (IsEnding (outcome_of answer.status)
+    → WroteByFewest moves (Some command) answer.status (state before).left answer.run.entries (held sink) (held sink_after) (pace sink) (pace sink_after))
+    → (answer.status ≡ WriteFault
+    → StoppedByFewest moves (Some command) (state before).left answer.run.entries (held sink) (held sink_after) (pace sink) (pace sink_after))
     → SaysOfSink (outcome_of answer.status) (write_faults sink) (write_faults sink_after) → (WritesNothing (outcome_of answer.status) → sink_after ≡ sink)
-    → Serves state held write_faults moves asked answer before after sink sink_after
-written_serves state held write_faults moves asked command answer before after sink sink_after is begun told whole unread writing unwritten =
+    → Serves state held write_faults pace moves asked answer before after sink sink_after
+written_serves state held write_faults pace moves asked command answer before after sink sink_after is begun told whole unread few few_failed writing unwritten =
     let written : HasWritten (outcome_of answer.status) = elim begun [ inl h ↦ inl h | inr e ↦ inr (ap outcome_of e) ] in
-    subst (λ (a : Option Command). Serves state held write_faults moves a answer before after sink sink_after) (sym is) (record {
+    subst (λ (a : Option Command). Serves state held write_faults pace moves a answer before after sink sink_after) (sym is) (record {
       did = told;
+      few = few;
+      few_failed = few_failed;
       causes = written_causes (Some command) command (state before).left answer.status refl written
           (stuck_unordered moves command answer.status (state before).left answer.run.entries (held sink) (held sink_after) told);
       memory = λ e asks. absurd (is_other (outcome_of answer.status) outcome.NoMemory written tt (ap outcome_of e));

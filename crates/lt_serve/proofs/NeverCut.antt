@@ -1,6 +1,6 @@
 -- No run is cut where a node may make more moves than any run has; so each comes to rest.
 use Rattle.std.proofs.Common.{arith, ◌≡◌, ◌≢◌, ◌≤◌, ◌∙◌, ℕ, List, Option, Some, None, refl, sym, subst, inl, inr, ◌⊎◌, ◌^◌}
-use Rattle.lt_io.specs.Streams.{SourceState}
+use Rattle.lt_io.specs.Streams.{SourceState, Pace}
 use Rattle.lt_modes.specs.Script.{ScriptData}
 use Rattle.lt_spec.specs.World.{Logged}
 use Rattle.lt_law_ends.specs.EndLaws.{NeverCutAtAll}
@@ -84,11 +84,11 @@ pub usual_is_far : 2 ^ 30 ≤ 1073741824
 usual_is_far = omega arith
 
 -- what is said of each answer has it that runs end
-pub ends : {S K : Type 0} (state : S → SourceState) (held : K → Option (List ℕ)) (write_faults : K → ℕ)
+pub ends : {S K : Type 0} (state : S → SourceState) (held : K → Option (List ℕ)) (write_faults : K → ℕ) (pace : K → Option Pace)
     (moves : ℕ) (asked : Option Command) (answer : Served) (before after : S) (sink sink_after : K)
-    → NeverCutAtAll → 2 ^ 30 ≤ moves → Serves state held write_faults moves asked answer before after sink sink_after
+    → NeverCutAtAll → 2 ^ 30 ≤ moves → Serves state held write_faults pace moves asked answer before after sink sink_after
     → Ends asked answer.status (state before) (state after) (write_faults sink) (write_faults sink_after)
-ends state held write_faults moves asked answer before after sink sink_after never far serves =
+ends state held write_faults pace moves asked answer before after sink sink_after never far serves =
     let w = write_faults sink in
     let v = write_faults sink_after in
     let uncut = never_cut moves asked answer.status (state before).left answer.run.entries (held sink) (held sink_after) never far

@@ -47,7 +47,7 @@ RunsOrdered other left = ⊥
 -- for the other ends of a run, of which `Did` speaks
 pub record HasStatusCause (asked : Option Command) (left : Option (List ℕ)) (answer : Status) : Type 0 where
   pub usage : answer ≡ Usage ↔ asked ≡ None
-  pub refused : (fault : ScriptFault) → answer ≡ Refused fault → HasFirstFault asked left fault
+  pub refused : (fault : ScriptFault) → answer ≡ Refused fault → (reads asked ≡ true) × HasFirstFault asked left fault
   pub bad_journal : (line : ℕ) → answer ≡ BadJournal line → (asked ≡ Some Check) × IsBad left line
   pub stuck : answer ≡ Stuck → RunsOrdered asked left → ⊥
   -- these come of reading alone

@@ -1,6 +1,6 @@
 -- What a command answers where nothing goes wrong.
 use Rattle.std.specs.Prelude.{◌≡◌, ◌≢◌, ◌<◌, true, ℕ, ◌+◌, length, Option, Some, ◌⊎◌, List, Err, false}
-use Rattle.lt_io.specs.Streams.{Rose, RoseBy, SourceState}
+use Rattle.lt_io.specs.Streams.{Rose, RoseBy, SourceState, Pace}
 use Rattle.lt_script.specs.declared.fault.ScriptFault.{ScriptFault}
 use Rattle.lt_script.specs.Reading.{read_of}
 use Rattle.lt_words.specs.declared.command.Command.{Command}
@@ -8,10 +8,10 @@ use Rattle.lt_words.specs.declared.command.Command.TheVariants.{Check, Make, Ord
 use Rattle.lt_checker.specs.Input.{IsBad}
 use Rattle.lt_call.specs.Outcomes.{IsEnding, SaysOfSource, SaysOfSink, WritesNothing}
 use Rattle.lt_serve.specs.declared.status.Status.{Status}
-use Rattle.lt_serve.specs.declared.status.Status.TheVariants.{Done, NoMemory, Stuck, Cut, Refused}
+use Rattle.lt_serve.specs.declared.status.Status.TheVariants.{Done, WriteFault, NoMemory, Stuck, Cut, Refused}
 use Rattle.lt_serve.specs.Causes.{RunsOrdered, HasFirstFault, reads, limit_of, HasStatusCause, WantsToRead}
 use Rattle.lt_serve.specs.Status.{outcome_of}
-use Rattle.lt_serve.specs.TopCall.{Did}
+use Rattle.lt_serve.specs.TopCall.{Did, WroteByFewest, StoppedByFewest}
 use Rattle.lt_serve.specs.declared.serving.Served.{Served}
 
 -- the source failed at no read and gave no more than the input may have, and its bytes are known: their script has no fault,
@@ -65,9 +65,16 @@ IsFaultOf bytes other = ⊥
 
 -- the answer to this command, or to words that are none, where a node makes up to so many moves; and the source and the sink
 -- before and after, with what they tell of themselves
-pub record Serves {S K : Type 0} (state : S → SourceState) (held : K → Option (List ℕ)) (write_faults : K → ℕ) (moves : ℕ) (asked : Option Command) (answer : Served) (source_before source_after : S) (sink_before sink_after : K) : Type 0 where
+pub record Serves {S K : Type 0} (state : S → SourceState) (held : K → Option (List ℕ)) (write_faults : K → ℕ) (pace : K → Option Pace) (moves : ℕ) (asked : Option Command) (answer : Served) (source_before source_after : S) (sink_before sink_after : K) : Type 0 where
   -- what the run is, how it ended, and what was written
   pub did : Did moves asked answer.status (state source_before).left answer.run.entries (held sink_before) (held sink_after)
+  -- each write was given all that was not written yet: of the whole text, or until one failed
+  pub few : IsEnding (outcome_of answer.status)
+      → WroteByFewest moves asked answer.status (state source_before).left answer.run.entries
+      (held sink_before) (held sink_after) (pace sink_before) (pace sink_after)
+  pub few_failed : answer.status ≡ WriteFault
+      → StoppedByFewest moves asked (state source_before).left answer.run.entries
+      (held sink_before) (held sink_after) (pace sink_before) (pace sink_after)
   -- why the answer comes
   pub causes : HasStatusCause asked (state source_before).left answer.status
   -- memory was wanting: for the words, before anything was read, or where it may be for a command that reads

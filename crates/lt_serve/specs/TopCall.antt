@@ -1,7 +1,7 @@
 -- What each answer of the top call means.
 use Rattle.std.specs.Prelude.{◌≡◌, ℕ, List, [], ◌∷◌, ◌++◌, ◌≤◌, Option, Some, None, length, codes, decimal}
 use Rattle.std.specs.Io.KnownBytes.{Appends}
-use Rattle.lt_io.specs.Streams.{AppendsPart}
+use Rattle.lt_io.specs.Streams.{AppendsPart, Pace, WritesByFewest, StopsByFewest}
 use Rattle.lt_call.specs.Scripts.{Denotes}
 use Rattle.lt_modes.specs.Script.{ScriptData, client_name}
 use Rattle.lt_spec.specs.World.{Logged}
@@ -123,3 +123,21 @@ DidOf moves command other left run old new = (run ≡ []) × (new ≡ old)
 abbrev pub Did : ℕ → Option Command → Status → Option (List ℕ) → List Logged → Option (List ℕ) → Option (List ℕ) → Type 0
 Did moves None status left run old new = (run ≡ []) × (new ≡ old)
 Did moves (Some command) status left run old new = DidOf moves command status left run old new
+
+-- That each write was given all of the text that was not written yet.
+
+-- the text of what the command did, which ended so, was appended by as few writes as can be
+abbrev pub WroteByFewest : ℕ → Option Command → Status → Option (List ℕ) → List Logged → Option (List ℕ)
+    → Option (List ℕ) → Option Pace → Option Pace → Type 0
+WroteByFewest moves None ending left run old new pace pace_new = ⊥
+WroteByFewest moves (Some command) ending left run old new pace pace_new =
+    (text : List ℕ) × JournalsBy moves command ending left run text × Appends old new text
+    × WritesByFewest pace pace_new (length text)
+
+-- a first part of its text was, and one write more failed
+abbrev pub StoppedByFewest : ℕ → Option Command → Option (List ℕ) → List Logged → Option (List ℕ) → Option (List ℕ)
+    → Option Pace → Option Pace → Type 0
+StoppedByFewest moves None left run old new pace pace_new = ⊥
+StoppedByFewest moves (Some command) left run old new pace pace_new =
+    (ending : Status) × (text : List ℕ) × JournalsBy moves command ending left run text
+    × StopsByFewest pace pace_new old new text

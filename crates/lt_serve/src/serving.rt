@@ -71,7 +71,7 @@ pub fn serve<R: Threads + Sync, S: Source, K: Sink, G: Gate>(
     gate: &G,
 ) -> Served
     ensures ends { Ends (command_of (map string_bytes words.now)) result.status (S.state source.old) (S.state source.new) (K.faults sink.old) (K.faults sink.new) }
-    ensures served { Serves S.state K.held K.faults USUAL.moves (command_of (map string_bytes words.now)) result source.old source.new sink.old sink.new }
+    ensures served { Serves S.state K.held K.faults K.pace USUAL.moves (command_of (map string_bytes words.now)) result source.old source.new sink.old sink.new }
     ensures setup { result.setup ≡ USUAL }
 {
     serve_with(rt, alloc, USUAL, words, source, sink, gate)
@@ -94,7 +94,7 @@ pub fn serve_with<R: Threads + Sync, S: Source, K: Sink, G: Gate>(
     requires capacity { (0 < setup.capacity) × (setup.capacity ≤ MAX_CAPACITY) }
     requires workers { (0 < setup.workers) × (setup.workers ≤ MAX_WORKERS) }
     ensures ends { 2 ^ 30 ≤ setup.moves → Ends (command_of (map string_bytes words.now)) result.status (S.state source.old) (S.state source.new) (K.faults sink.old) (K.faults sink.new) }
-    ensures served { Serves S.state K.held K.faults setup.moves (command_of (map string_bytes words.now)) result source.old source.new sink.old sink.new }
+    ensures served { Serves S.state K.held K.faults K.pace setup.moves (command_of (map string_bytes words.now)) result source.old source.new sink.old sink.new }
     ensures setup { result.setup ≡ setup }
 {
     law_never_cut();
@@ -115,7 +115,7 @@ fn answered<R: Threads + Sync, S: Source, K: Sink, G: Gate>(
     requires moves { (0 < setup.moves) × (setup.moves ≤ MAX_MOVES) }
     requires capacity { (0 < setup.capacity) × (setup.capacity ≤ MAX_CAPACITY) }
     requires workers { (0 < setup.workers) × (setup.workers ≤ MAX_WORKERS) }
-    ensures served { Serves S.state K.held K.faults setup.moves (command_of (map string_bytes words.now)) result source.old source.new sink.old sink.new }
+    ensures served { Serves S.state K.held K.faults K.pace setup.moves (command_of (map string_bytes words.now)) result source.old source.new sink.old sink.new }
     ensures setup { result.setup ≡ setup }
 {
     let command = match Command::from_words(alloc, words) {

@@ -52,4 +52,4 @@ pub returns-clause-ends : goal.returns-clause-ends
 returns-clause-ends g c = ends_say
 
 pub returns-clause-serves : goal.returns-clause-serves
-returns-clause-serves g c = serves_say g.S.Source.state g.K.Sink.held g.K.Sink.faults
+returns-clause-serves g c = serves_say g.S.Source.state g.K.Sink.held g.K.Sink.faults g.K.Sink.pace

@@ -23,5 +23,5 @@ pub returns : goal.returns
 returns g c =
     live_run c.law_promised.ensures c.law_ordered.ensures.finish c.law_can_move.ensures.rest c.args.script.now c.in_ok-stations-2.ending
     (map runner_of c.in_ok-stations.stations.items) c.in_ok-stations-2.stations.items _ c.in_ok-run.polled.items
-    c.in_ok-run.run'.entries c.requires.kept c.in_ok-stations-2.ensures.moved c.in_ok-stations-2.ensures.serving c.in_ok-run.ensures.polled
+    c.in_ok-run.run'.entries c.requires.kept c.requires.short c.in_ok-stations-2.ensures.moved c.in_ok-stations-2.ensures.serving c.in_ok-run.ensures.polled
     c.in_ok-run.ensures.run
