@@ -4,10 +4,12 @@ ghost use Rattle.lt_runner.specs.Kept.{AreBeside};
 
 use crate::gates::Passes;
 use crate::telling::{holds, same};
+use crate::threads::THREE_READERS;
 use crate::together::{Counter, read_text};
 use lt_mail::open;
 use lt_runner::{Gate, Runner, Turned, Worked, all_at_once};
 use lt_script::Script;
+use lt_threads::start_crew;
 use std::alloc::{AllocError, Global};
 use std::process::Abort;
 use std::sync::atomic::{AtomicU64, Ordering};
@@ -134,9 +136,7 @@ fn all_work_at_once(rt: HostRuntime) {
 // So the runners end that have this patience, and make no move.
 fn rest_at_once<R: Abort + Threads + Sync>(rt: &R, alloc: Global, text: &str, patience: u32) {
     let script = read_text(rt, alloc, text);
-    holds(rt, script.nodes() == 2);
-    let (first, second) = two_runners(alloc, &script, 10).expect(rt, "memory");
-    let mut runners = vec![in alloc; first, second].expect(rt, "memory");
+    let mut runners = start_crew(alloc, &script, 4, 10).expect(rt, "memory");
     let gate = Counter::new();
     same(
         rt,
@@ -150,7 +150,7 @@ fn rest_at_once<R: Abort + Threads + Sync>(rt: &R, alloc: Global, text: &str, pa
 
 #[test]
 fn none_works_without_patience(rt: HostRuntime) {
-    rest_at_once(&rt, rt.alloc(), TWO_NODES, 0);
+    rest_at_once(&rt, rt.alloc(), THREE_READERS, 0);
 }
 
 #[test]

@@ -3,7 +3,7 @@ use crate::telling::{holds, same};
 use lt_runner::Open;
 use lt_serve::{Setup, Status, USUAL};
 
-const THREE_READERS: &str = "nodes 3\n\
+pub(crate) const THREE_READERS: &str = "nodes 3\n\
 set s\n\
 client a at 0\n\
 client b at 1\n\
