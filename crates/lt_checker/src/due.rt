@@ -127,15 +127,16 @@ fn push(due: &mut VecDeque<Line>, line: Line) -> Result<(), AllocError>
     Ok(())
 }
 
-/// Adds the line before all moves, where the script has version 2.
+/// Adds the line before all moves, where the script has version 2 or 3.
 pub(crate) fn push_first(due: &mut VecDeque<Line>, script: &Script) -> Result<(), AllocError>
     ensures lines { OnOk result (due.new.items ≡ due.old.items ++ first_lines script.now.version) }
     ensures is_script { IsScript script.now }
 {
-    if script.version() != 1 {
-        push(due, Line::Version)?;
+    match script.version() {
+        1 => Ok(()),
+        2 => push(due, Line::Version2),
+        _ => push(due, Line::Version3),
     }
-    Ok(())
 }
 
 // Adds these lines.

@@ -6,20 +6,20 @@ use Rattle.std.proofs.lemmas.List.{drop_more}
 use Rattle.lt_modes.specs.State.{Parked, ParkedAsk, ParkedTell, SetState, then_do, Letter, Body, AskBody, TellBody, CopyBody, TokenBody, FreezeBody, Desk, place, after_holders_from, entry_of, silent, Made, no_ask}
 use Rattle.lt_modes.specs.Fits.{ask_if, has_client}
 use Rattle.lt_modes.specs.declared.stamp.Stamp.{Stamp}
-use Rattle.lt_modes.specs.SetMove.{finish, dealt, Way, Parks, Goes, way, sent_on, route_by, learn, make_tell, tell_of, finish_by, attend, granted, asked, ask_of, answers, given, change_held, take_body, arrive}
+use Rattle.lt_modes.specs.SetMove.{finish, dealt, Way, Parks, Goes, way, sent_on, route_by, learn, make_tell, tell_of, finish_by, attend, granted, asked, asked_or_not, ask_of, answers, given, given_up, locked, tried, unlocked, changed, change_held, dropped, retaken, same_wish, take_body, arrive}
 use Rattle.lt_modes.specs.declared.mode.Mode.{Mode}
 use Rattle.lt_modes.specs.declared.parts.Hoped.{Hoped}
 use Rattle.lt_modes.specs.Modes.{bars, same_modes, excludes_itself, Modes, held_modes, count_of, take_lock}
-use Rattle.lt_modes.specs.Serving.{told, queue_of_desk, queue_of, next_draw, ask_at, serve, hand_over, hand_over_to, hand_over_for}
+use Rattle.lt_modes.specs.Serving.{told, queue_of_desk, queue_of, waits, is_gone, without_gone, next_draw, ask_at, serve, hand_over, hand_over_to, hand_over_for}
 use Rattle.lt_modes.specs.Freezing.{can_grant, freeze}
 use Rattle.lt_modes.specs.declared.event.Event.TheVariants as event
 use Rattle.lt_modes.specs.declared.parts.Link.{Link}
 use Rattle.lt_modes.specs.declared.ask.Ask.{Ask}
-use Rattle.lt_modes.specs.Waiting.{is_before, has_older}
+use Rattle.lt_modes.specs.Waiting.{pending_ask, is_before, has_older}
 use Rattle.lt_desk.specs.DeskData.{OutData, FitsOut}
 use Rattle.lt_core.specs.Steps.{ask_count, is_ask_of}
 use Rattle.lt_core.specs.declared.set_command.SetCommand.{SetCommand}
-use Rattle.lt_core.specs.declared.set_command.SetCommand.TheVariants.{Lock, Try, Unlock, Change, DropAll}
+use Rattle.lt_core.specs.declared.set_command.SetCommand.TheVariants.{Lock, Try, Unlock, Change, DropAll, Withdraw}
 use Rattle.lt_core.specs.CoreData.{commanded, move_of}
 use Rattle.lt_core.proofs.BoundServices.{AtMost, most_then, most_served, length_set, nodes_served, most_frozen}
 use Rattle.lt_core.specs.Bound.{RoomToSend, brought, EndsFit, CommandsFit, TakesFit, most, nodes_of}
@@ -51,6 +51,7 @@ move_is stamp client (Try mode) set s = refl
 move_is stamp client (Unlock mode) set s = refl
 move_is stamp client (Change gives_up mode) set s = refl
 move_is stamp client DropAll set s = refl
+move_is stamp client (Withdraw other) set s = refl
 
 -- No move sends out more than its bound.
 
@@ -152,10 +153,22 @@ most_routed_ask set stamp ask s =
     let m = most_routed set stamp false (ParkedAsk ask) t t.desk in
     ((omega (arith, m.0), omega (arith, m.1)), waits_routed set stamp false (ParkedAsk ask) t t.desk refl)
 
+most_retaken : (set : ℕ) (ask : Ask) (s : SetState) (b : Bool)
+    → Starts 1 s (if b
+    then answers (event.Wait ask.client set ask.mode) (record s { gone = without_gone s.gone ask.client })
+    else answers (event.Withheld ask.client set ask.mode) s)
+most_retaken set ask s true = ((omega arith, omega arith), omega arith)
+most_retaken set ask s false = ((omega arith, omega arith), omega arith)
+
+most_asked : (set : ℕ) (stamp : Stamp) (ask : Ask) (s : SetState) (b : Bool)
+    → Starts 1 s (if b then retaken set ask s else asked set stamp ask s)
+most_asked set stamp ask s true = most_retaken set ask s (same_wish ask (pending_ask s ask.client))
+most_asked set stamp ask s false = most_routed_ask set stamp ask s
+
 most_locked : (set : ℕ) (stamp : Stamp) (client : ℕ) (mode : Mode) (s : SetState) (b : Bool)
-    → Starts 1 s (if b then granted set client mode s else asked set stamp (ask_of stamp client mode None s) s)
+    → Starts 1 s (if b then granted set client mode s else asked_or_not set stamp (ask_of stamp client mode None s) s)
 most_locked set stamp client mode s true = ((omega arith, omega arith), omega arith)
-most_locked set stamp client mode s false = most_routed_ask set stamp (ask_of stamp client mode None s) s
+most_locked set stamp client mode s false = most_asked set stamp (ask_of stamp client mode None s) s (is_gone s client)
 
 most_tried : (set client : ℕ) (mode : Mode) (s : SetState) (b : Bool)
     → Starts 1 s (if b then answers (event.Try client set mode true) (given client mode None s) else answers (event.Try client set mode false) s)
@@ -168,21 +181,44 @@ most_unlocked set client mode s true = ((omega arith, omega arith), omega arith)
 most_unlocked set client mode s false = ((omega arith, omega arith), omega arith)
 
 most_change_held : (set : ℕ) (stamp : Stamp) (client : ℕ) (gives_up mode : Mode) (s : SetState) (b : Bool)
-    → Starts 1 s (if b then answers (event.Change client set gives_up mode) (given client mode (Some gives_up) s) else asked set stamp (ask_of stamp client mode (Some gives_up) s) s)
+    → Starts 1 s (if b then answers (event.Change client set gives_up mode) (given client mode (Some gives_up) s) else asked_or_not set stamp (ask_of stamp client mode (Some gives_up) s) s)
 most_change_held set stamp client gives_up mode s true = ((omega arith, omega arith), omega arith)
-most_change_held set stamp client gives_up mode s false = most_routed_ask set stamp (ask_of stamp client mode (Some gives_up) s) s
+most_change_held set stamp client gives_up mode s false = most_asked set stamp (ask_of stamp client mode (Some gives_up) s) s (is_gone s client)
 
 most_changed : (set : ℕ) (stamp : Stamp) (client : ℕ) (gives_up mode : Mode) (s : SetState) (b : Bool)
     → Starts 1 s (if b then answers (event.NotHeld client set gives_up) s else change_held set stamp client gives_up mode s)
 most_changed set stamp client gives_up mode s true = ((omega arith, omega arith), omega arith)
 most_changed set stamp client gives_up mode s false = most_change_held set stamp client gives_up mode s (can_grant stamp.node s client mode)
 
-most_commanded : (stamp : Stamp) (client : ℕ) (command : SetCommand) (set : ℕ) (s : SetState) → Starts 1 s (commanded stamp client command set s)
-most_commanded stamp client (Lock mode) set s = most_locked set stamp client mode s (can_grant stamp.node s client mode)
-most_commanded stamp client (Try mode) set s = most_tried set client mode s (can_grant stamp.node s client mode)
-most_commanded stamp client (Unlock mode) set s = most_unlocked set client mode s (count_of s.held client mode == 0)
-most_commanded stamp client (Change gives_up mode) set s = most_changed set stamp client gives_up mode s (count_of s.held client gives_up == 0)
-most_commanded stamp client DropAll set s = ((omega arith, omega arith), omega arith)
+-- so much comes of the whole move of a command that tells one line first
+one_line : (set : ℕ) (stamp : Stamp) (s : SetState) (first : Made) → Starts 1 s first → AtMost (most s + 2) (then_do first (finish set stamp))
+one_line set stamp s first h =
+    let m = most_move 1 set stamp s first h in
+    (omega (arith, m.0), omega (arith, m.1))
+
+-- a `withdraw` tells two lines first, and no ask more waits
+most_withdrawn : (set : ℕ) (stamp : Stamp) (client other : ℕ) (s : SetState) (b : Bool)
+    → AtMost (most s + 2) (then_do (if b then given_up set client other s else answers (event.Withdraw client other set false) s) (finish set stamp))
+most_withdrawn set stamp client other s true =
+    let first = given_up set client other s in
+    let m = most_then 2 (most s) first (finish set stamp) (omega arith, omega arith) (most_finished set stamp first.state) in
+    (omega (arith, m.0), omega (arith, m.1))
+most_withdrawn set stamp client other s false =
+    one_line set stamp s (answers (event.Withdraw client other set false) s) ((omega arith, omega arith), omega arith)
+
+most_commanded : (stamp : Stamp) (client : ℕ) (command : SetCommand) (set : ℕ) (s : SetState)
+    → AtMost (most s + 2) (then_do (commanded stamp client command set s) (finish set stamp))
+most_commanded stamp client (Lock mode) set s =
+    one_line set stamp s (locked set stamp client mode s) (most_locked set stamp client mode s (can_grant stamp.node s client mode))
+most_commanded stamp client (Try mode) set s =
+    one_line set stamp s (tried set stamp client mode s) (most_tried set client mode s (can_grant stamp.node s client mode))
+most_commanded stamp client (Unlock mode) set s =
+    one_line set stamp s (unlocked set client mode s) (most_unlocked set client mode s (count_of s.held client mode == 0))
+most_commanded stamp client (Change gives_up mode) set s =
+    one_line set stamp s (changed set stamp client gives_up mode s)
+    (most_changed set stamp client gives_up mode s (count_of s.held client gives_up == 0))
+most_commanded stamp client DropAll set s = one_line set stamp s (silent (dropped client s)) ((omega arith, omega arith), omega arith)
+most_commanded stamp client (Withdraw other) set s = most_withdrawn set stamp client other s (waits s other)
 
 -- what a letter does before the end of its move
 waits_fold : (items : List Parked) (desk : Desk)
@@ -231,10 +267,9 @@ ends_fit set stamp s out room = fits_most (most s) (finish set stamp s) out (mos
 
 pub commands_fit : CommandsFit
 commands_fit stamp client command set s out room =
-    let first = commanded stamp client command set s in
+    let whole = then_do (commanded stamp client command set s) (finish set stamp) in
     subst (λ (made : Made). FitsOut made out) (sym (move_is stamp client command set s))
-    (fits_most (most s + 1 + 1) (then_do first (finish set stamp)) out (most_move 1 set stamp s first (most_commanded stamp client command set s))
-    (record { posts = omega (arith, room.posts); events = omega (arith, room.events) }))
+    (fits_most (most s + 2) whole out (most_commanded stamp client command set s) room)
 
 pub takes_fit : TakesFit
 takes_fit stamp letter s out room =

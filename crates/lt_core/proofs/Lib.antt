@@ -1,4 +1,5 @@
 pub mod BoundLemmas
+pub mod MarkLemmas
 pub mod NoticeLemmas
 pub mod FitsLemmas
 pub mod BoundServices

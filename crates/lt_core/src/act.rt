@@ -1,11 +1,11 @@
-ghost use Rattle.std.specs.Prelude.{◌≡◌, ◌+◌, ◌≤◌, ◌<◌, ◌==◌, ℕ, if◌then◌else◌, None};
+ghost use Rattle.std.specs.Prelude.{◌≡◌, ◌+◌, ◌≤◌, ◌<◌, ◌==◌, ℕ, if◌then◌else◌, length, None, Some};
 ghost use Rattle.lt_modes.specs.Modes.{locks_in, locks_of, count_of};
 ghost use Rattle.lt_modes.specs.Freezing.{can_grant};
-ghost use Rattle.lt_modes.specs.SetMove.{given, ask_of, asked, locked, tried, unlocked, changed, change_held, dropped};
+ghost use Rattle.lt_modes.specs.SetMove.{given, ask_of, asked, asked_or_not, locked, tried, unlocked, changed, change_held, dropped};
 ghost use Rattle.lt_held.specs.HeldData.{most_locks};
 ghost use Rattle.lt_desk.specs.DeskData.{FitsOut};
-ghost use Rattle.lt_core.specs.declared.set_command.Answer.TheVariants.{Granted, Waits, True, False, Unlocked, NotHeld, Changed};
-ghost use Rattle.lt_core.specs.CoreData.{Does, HasRoom, RoomToAsk, answer_of, commanded, move_of, RoomForCommand};
+ghost use Rattle.lt_core.specs.declared.set_command.Answer.TheVariants.{Granted, True, False, Unlocked, NotHeld, Changed};
+ghost use Rattle.lt_core.specs.CoreData.{Does, HasRoom, RoomToAsk, answer_of, commanded, move_of, told_to_wait, RoomForCommand};
 
 use crate::one_set::Core;
 use crate::serving::give;
@@ -18,7 +18,7 @@ impl Core {
     #[inline(always)]
     pub fn act(&mut self, client: u16, command: SetCommand, stamp: Stamp, out: &mut Out) -> Answer
         requires node { stamp.node ≡ self.old.node }
-        requires room { RoomForCommand stamp.clock self.old command }
+        requires room { RoomForCommand client stamp.clock self.old command }
         requires fits { FitsOut (move_of stamp client command self.old.set self.old.state) out.old }
         ensures answer { result ≡ answer_of stamp.node client command self.old.state }
         ensures does { Does (move_of stamp client command self.old.set self.old.state) self.old out.old self.new out.new }
@@ -31,7 +31,7 @@ impl Core {
     // What the command does, before the end of the move.
     fn obey(&mut self, client: u16, command: SetCommand, stamp: Stamp, out: &mut Out) -> Answer
         requires node { stamp.node ≡ self.old.node }
-        requires room { RoomForCommand stamp.clock self.old command }
+        requires room { RoomForCommand client stamp.clock self.old command }
         requires fits { FitsOut (commanded stamp client command self.old.set self.old.state) out.old }
         ensures answer { result ≡ answer_of stamp.node client command self.old.state }
         ensures does { Does (commanded stamp client command self.old.set self.old.state) self.old out.old self.new out.new }
@@ -43,21 +43,21 @@ impl Core {
             SetCommand::Unlock(mode) => self.unlock(client, mode, stamp, out),
             SetCommand::Change(gives_up, mode) => self.change(client, gives_up, mode, stamp, out),
             SetCommand::DropAll => Answer::Dropped(self.drop_all(client, stamp)),
+            SetCommand::Withdraw(other) => self.withdraw(client, other, stamp, out),
         }
     }
 
     // The client gets the lock, or its ask goes to the desk.
     fn lock(&mut self, client: u16, mode: Mode, stamp: Stamp, out: &mut Out) -> Answer
         requires node { stamp.node ≡ self.old.node }
-        requires room { RoomToAsk stamp.clock self.old }
+        requires room { RoomToAsk client stamp.clock self.old }
         requires fits { FitsOut (locked self.old.set stamp client mode self.old.state) out.old }
-        ensures answer { result ≡ (if can_grant stamp.node self.old.state client mode then Granted else Waits) }
+        ensures answer { result ≡ (if can_grant stamp.node self.old.state client mode then Granted else told_to_wait client mode None self.old.state) }
         ensures does { Does (locked self.old.set stamp client mode self.old.state) self.old out.old self.new out.new }
         ensures room { HasRoom 1 stamp.clock self.new }
     {
         if !self.can_grant(client, mode) {
-            self.wait(client, mode, None, stamp, out);
-            return Answer::Waits;
+            return self.ask_or_not(client, mode, None, stamp, out);
         }
         self.gain(client, mode, None, stamp);
         out.push_event(Event::Grant {
@@ -118,9 +118,9 @@ impl Core {
         out: &mut Out,
     ) -> Answer
         requires node { stamp.node ≡ self.old.node }
-        requires room { RoomToAsk stamp.clock self.old }
+        requires room { RoomToAsk client stamp.clock self.old }
         requires fits { FitsOut (changed self.old.set stamp client gives_up mode self.old.state) out.old }
-        ensures answer { result ≡ (if count_of self.old.state.held client gives_up == 0 then NotHeld else (if can_grant stamp.node self.old.state client mode then Changed else Waits)) }
+        ensures answer { result ≡ (if count_of self.old.state.held client gives_up == 0 then NotHeld else (if can_grant stamp.node self.old.state client mode then Changed else told_to_wait client mode (Some gives_up) self.old.state)) }
         ensures does { Does (changed self.old.set stamp client gives_up mode self.old.state) self.old out.old self.new out.new }
         ensures room { HasRoom 1 stamp.clock self.new }
     {
@@ -145,15 +145,14 @@ impl Core {
         out: &mut Out,
     ) -> Answer
         requires node { stamp.node ≡ self.old.node }
-        requires room { RoomToAsk stamp.clock self.old }
+        requires room { RoomToAsk client stamp.clock self.old }
         requires fits { FitsOut (change_held self.old.set stamp client gives_up mode self.old.state) out.old }
-        ensures answer { result ≡ (if can_grant stamp.node self.old.state client mode then Changed else Waits) }
+        ensures answer { result ≡ (if can_grant stamp.node self.old.state client mode then Changed else told_to_wait client mode (Some gives_up) self.old.state) }
         ensures does { Does (change_held self.old.set stamp client gives_up mode self.old.state) self.old out.old self.new out.new }
         ensures room { HasRoom 1 stamp.clock self.new }
     {
         if !self.can_grant(client, mode) {
-            self.wait(client, mode, Some(gives_up), stamp, out);
-            return Answer::Waits;
+            return self.ask_or_not(client, mode, Some(gives_up), stamp, out);
         }
         self.gain(client, mode, Some(gives_up), stamp);
         out.push_event(Event::Change {
@@ -176,11 +175,36 @@ impl Core {
         self.held.drop_all(client)
     }
 
+    // The client asks, unless an ask of it that was given up is still here.
+    #[inline(always)]
+    fn ask_or_not(
+        &mut self,
+        client: u16,
+        mode: Mode,
+        gives_up: Option<Mode>,
+        stamp: Stamp,
+        out: &mut Out,
+    ) -> Answer
+        requires node { stamp.node ≡ self.old.node }
+        requires room { RoomToAsk client stamp.clock self.old }
+        requires fits { FitsOut (asked_or_not self.old.set stamp (ask_of stamp client mode gives_up self.old.state) self.old.state) out.old }
+        ensures answer { result ≡ told_to_wait client mode gives_up self.old.state }
+        ensures does { Does (asked_or_not self.old.set stamp (ask_of stamp client mode gives_up self.old.state) self.old.state) self.old out.old self.new out.new }
+        ensures room { HasRoom 1 stamp.clock self.new }
+    {
+        if self.marks.has(client) {
+            return self.retake(client, mode, gives_up, stamp, out);
+        }
+        self.wait(client, mode, gives_up, stamp, out);
+        Answer::Waits
+    }
+
     // The client waits, and its ask goes to the desk.
     #[inline(always)]
     fn wait(&mut self, client: u16, mode: Mode, gives_up: Option<Mode>, stamp: Stamp, out: &mut Out)
         requires node { stamp.node ≡ self.old.node }
-        requires room { RoomToAsk stamp.clock self.old }
+        requires room { HasRoom 2 stamp.clock self.old }
+        requires pending { length self.old.state.pending < 16 }
         requires fits { FitsOut (asked self.old.set stamp (ask_of stamp client mode gives_up self.old.state) self.old.state) out.old }
         ensures does { Does (asked self.old.set stamp (ask_of stamp client mode gives_up self.old.state) self.old.state) self.old out.old self.new out.new }
         ensures room { HasRoom 1 stamp.clock self.new }

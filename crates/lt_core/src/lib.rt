@@ -7,6 +7,7 @@ mod granting;
 mod handing;
 mod keeping;
 mod laws;
+mod marks;
 mod numbers;
 mod one_set;
 mod routing;
@@ -15,6 +16,7 @@ mod set_command;
 mod taking;
 mod telling;
 mod waiting;
+mod withdrawing;
 
 pub use fits::LAST_CLOCK;
 pub use laws::{law_room_to_move, law_room_to_send};

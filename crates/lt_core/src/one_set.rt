@@ -9,6 +9,7 @@ ghost use Rattle.lt_core.specs.Steps.{ask_count, is_ask_of};
 
 use crate::fits::{has_later, parks_later};
 use crate::keeping::count_parked;
+use crate::marks::Marks;
 use lt_desk::{Body, Desk, Letter, Parked, Post};
 use lt_held::Held;
 use lt_link::Links;
@@ -35,6 +36,8 @@ pub struct Core {
     pub(crate) desk: Option<Desk>,
     // What the next tell of this node takes its stamps in.
     pub(crate) spare: Option<Box<Pending>>,
+    // The clients whose unanswered ask here was given up.
+    pub(crate) marks: Marks,
 }
 
 impl Model for Core {
@@ -58,11 +61,13 @@ impl Model for Core {
         pending = c.pending;
         parked = map parked_seen c.parked.items;
         desk = desk_seen c.desk;
+        gone = c.marks.clients;
       };
       room = room_by c.desk c.held.spare;
       row_room = c.held.spare;
       parked_room = deque_capacity c.parked - deque_len c.parked;
       tell_room = tells_by c.spare;
+      mark_room = c.marks.room;
     } };
 }
 
@@ -80,12 +85,14 @@ impl Drop for Core {
             parked,
             desk,
             spare,
+            marks,
         } = self;
         drop(held);
         drop(pending);
         drop(parked);
         drop(desk);
         drop(spare);
+        drop(marks);
     }
 }
 
@@ -118,6 +125,7 @@ impl Core {
             parked: VecDeque::new(alloc),
             desk,
             spare: None,
+            marks: Marks::new(alloc),
         })
     }
 
@@ -196,9 +204,16 @@ impl Core {
         self.held.locks_of(client)
     }
 
-    /// Whether an ask of the client is unanswered.
+    /// Whether an ask of the client is unanswered, and wasn't given up.
     pub fn waits(&self, client: u16) -> bool
         ensures { result ≡ waits self.now.state client }
+    {
+        self.pending.has_client(client) && !self.marks.has(client)
+    }
+
+    /// Whether an ask of the client is unanswered, given up or not.
+    pub fn has_ask(&self, client: u16) -> bool
+        ensures { result ≡ has_client client self.now.state.pending }
     {
         self.pending.has_client(client)
     }

@@ -5,7 +5,7 @@ ghost use Rattle.lt_held.specs.HeldData.{most_locks};
 ghost use Rattle.lt_desk.specs.Picks.{picked, IsInQueue};
 ghost use Rattle.lt_desk.specs.DeskData.{FitsOut};
 ghost use Rattle.lt_core.specs.CoreData.{Does, HasRoom};
-ghost use Rattle.lt_core.specs.Steps.{answer_ask};
+ghost use Rattle.lt_core.specs.Steps.{answer_ask, grant_ask, void_ask};
 
 use crate::one_set::Core;
 use lt_desk::{Body, Out, Pick};
@@ -37,7 +37,12 @@ impl Core {
         ensures within { IsInQueue (length (queue_of self.now.state)) result }
     {
         match &self.desk {
-            Some(desk) => desk.pick(self.links.me(), &self.held, self.pending.stamps()),
+            Some(desk) => desk.pick(
+                self.links.me(),
+                &self.held,
+                self.pending.stamps(),
+                self.marks.clients(),
+            ),
             None => Pick::Nothing,
         }
     }
@@ -71,13 +76,48 @@ impl Core {
         }
     }
 
-    /// The ask's client gets the lock and waits no more.
+    /// The ask's client gets the lock and waits no more, unless the ask was given up.
     #[inline(always)]
     pub(crate) fn answer(&mut self, ask: &Ask, out: &mut Out)
         requires room { 0 < self.old.room }
         requires locks { locks_in self.old.state.held + 1 ≤ most_locks }
         requires fits { FitsOut (answer_ask self.old.set ask.now self.old.state) out.old }
         ensures does { Does (answer_ask self.old.set ask.now self.old.state) self.old out.old self.new out.new }
+        ensures room { (self.old.room ≤ self.new.room + 1) × (self.new.parked_room ≡ self.old.parked_room) }
+        ensures tells { self.new.tell_room ≡ self.old.tell_room }
+        ensures locks { locks_in self.new.state.held ≤ locks_in self.old.state.held + 1 }
+    {
+        if self.marks.has(ask.client) {
+            self.answer_void(ask, out);
+        } else {
+            self.grant(ask, out);
+        }
+    }
+
+    // The ask was given up: its client gets nothing, and can ask again.
+    #[inline(never)]
+    fn answer_void(&mut self, ask: &Ask, out: &mut Out)
+        requires fits { FitsOut (void_ask self.old.set ask.now self.old.state) out.old }
+        ensures does { Does (void_ask self.old.set ask.now self.old.state) self.old out.old self.new out.new }
+        ensures room { (self.new.room ≡ self.old.room) × (self.new.parked_room ≡ self.old.parked_room) }
+        ensures tells { self.new.tell_room ≡ self.old.tell_room }
+    {
+        self.pending.forget(ask.stamp);
+        self.marks.remove(ask.client);
+        out.push_event(Event::Void {
+            client: ask.client,
+            set: self.set,
+            mode: ask.mode,
+        });
+    }
+
+    // The ask's client gets the lock and waits no more.
+    #[inline(always)]
+    fn grant(&mut self, ask: &Ask, out: &mut Out)
+        requires room { 0 < self.old.room }
+        requires locks { locks_in self.old.state.held + 1 ≤ most_locks }
+        requires fits { FitsOut (grant_ask self.old.set ask.now self.old.state) out.old }
+        ensures does { Does (grant_ask self.old.set ask.now self.old.state) self.old out.old self.new out.new }
         ensures room { (self.old.room ≤ self.new.room + 1) × (self.new.parked_room ≡ self.old.parked_room) }
         ensures tells { self.new.tell_room ≡ self.old.tell_room }
         ensures locks { locks_in self.new.state.held ≤ locks_in self.old.state.held + 1 }

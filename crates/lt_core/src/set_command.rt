@@ -9,6 +9,8 @@ pub enum SetCommand {
     /// From the first mode to the second.
     Change(Mode, Mode),
     DropAll,
+    /// Gives up what this client waits for.
+    Withdraw(u16),
 }
 
 /// What the client of a move is told at once.
@@ -26,4 +28,6 @@ pub enum Answer {
     Dropped(u64),
     /// The client whose locks were to be dropped waits.
     Busy,
+    /// The client can't ask: an ask of it that was given up is still here, and wants something else.
+    Withheld,
 }

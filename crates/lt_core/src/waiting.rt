@@ -4,6 +4,7 @@ ghost use Rattle.lt_modes.specs.State.{no_ask, ParkedAsk};
 ghost use Rattle.lt_modes.specs.Serving.{waits, queue_of, ask_at, is_newer};
 ghost use Rattle.lt_modes.specs.Waiting.{pending_ask, is_before, stands_before, has_older, parked_behind};
 ghost use Rattle.lt_core.specs.Behind.{is_behind_older};
+ghost use Rattle.lt_core.specs.Steps.{live_ask};
 
 use crate::fits::has_later;
 use crate::one_set::Core;
@@ -19,16 +20,20 @@ impl Core {
         self.held.count(client, mode)
     }
 
-    /// The client's unanswered ask, if it has one here.
-    pub fn ask_of(&self, client: u16) -> Option<Ask>
-        ensures ask { result ≡ pending_ask self.now.state client }
+    /// The ask for which the client waits here, if it does.
+    pub fn live_ask(&self, client: u16) -> Option<Ask>
+        ensures ask { result ≡ live_ask self.now.state client }
         ensures some { is_some result ≡ waits self.now.state client }
     {
-        self.first_ask(client)
+        if self.marks.has(client) {
+            None
+        } else {
+            self.ask_of(client)
+        }
     }
 
-    // The first of the client's unanswered asks here.
-    fn first_ask(&self, client: u16) -> Option<Ask>
+    /// The first of the client's unanswered asks here, if it has one, given up or not.
+    pub fn ask_of(&self, client: u16) -> Option<Ask>
         ensures { result ≡ pending_ask self.now.state client }
     {
         let asks = self.pending.asks();

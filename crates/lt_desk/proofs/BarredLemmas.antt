@@ -1,4 +1,5 @@
 -- What is barred stays barred along the queue: where all that is asked for is barred, no later ask is served, and none draws the desk.
+use Rattle.std.specs.List.{list_any}
 use Rattle.std.proofs.Common.{◌≡◌, ◌∙◌, ℕ, zero, suc, ◌+◌, ◌<◌, Bool, true, false, List, [], ◌∷◌, length, drop, take, Some, None, refl, sym, ap, fold, ◌==◌, ◌&&◌, ◌||◌, not, if◌then◌else◌, slice_index_or}
 use Rattle.std.proofs.lemmas.Bool.{or_left, or_right}
 use Rattle.std.proofs.lemmas.List.Sums.{fold_more}
@@ -6,7 +7,7 @@ use Rattle.lt_modes.specs.declared.mode.Mode.{Mode}
 use Rattle.lt_modes.specs.declared.ask.Ask.{Ask}
 use Rattle.lt_modes.specs.Modes.{Modes, has, bars, union, one, no_modes, with_mode, is_within, same_mode}
 use Rattle.lt_modes.specs.State.{SetState, Desk, others, modes_of_asks, no_ask}
-use Rattle.lt_modes.specs.Serving.{is_local, is_copy, is_clear_at_home, is_free, next_from, draw_from}
+use Rattle.lt_modes.specs.Serving.{is_local, is_copy, is_clear_at_home, is_free, next_from, draw_from, is_void}
 use Rattle.lt_modes.proofs.ModeAlgebra.{has-union, has-modes_by, has-itself, every_mode-at, same_members}
 use Rattle.lt_desk.proofs.BarsLemmas.{bars_union}
 
@@ -30,18 +31,27 @@ not_free : (me : ℕ) (s : SetState) (d : Desk) (before : Modes) (ask : Ask) →
 not_free me s d before ask h =
     ap not (bars_union ask.mode (others me s d ask.node) before ∙ or_right (has ask.mode (bars (others me s d ask.node))) (has ask.mode (bars before)) h)
 
+not_void : (me : ℕ) (s : SetState) (ask : Ask) → s.gone ≡ [] → is_void me s ask ≡ false
+not_void me s ask none = ap (λ (g : List ℕ). (ask.node == me) && list_any (λ other. other == ask.client) g) none ∙ neither (ask.node == me)
+  where
+    neither : (own : Bool) → (own && false) ≡ false
+    neither true = refl
+    neither false = refl
+
 not_drawn : (own free clear : Bool) → free ≡ false → (not own && (free && clear)) ≡ false
 not_drawn true free clear e = refl
 not_drawn false true clear e = cc
 not_drawn false false clear e = refl
 
-pub none_next : (me : ℕ) (s : SetState) (d : Desk) (before : Modes) (k : ℕ) (asks : List Ask) → AreBarred (bars before) asks
+pub none_next : (me : ℕ) (s : SetState) (d : Desk) (before : Modes) (k : ℕ) (asks : List Ask) → s.gone ≡ [] → AreBarred (bars before) asks
     → next_from me s d before k asks ≡ None
-none_next me s d before k [] h = refl
-none_next me s d before k (ask ∷ rest) h =
+none_next me s d before k [] none h = refl
+none_next me s d before k (ask ∷ rest) none h =
+    ap (λ (b : Bool). if b || (is_free me s d before ask && (is_local me s d ask || is_copy me s d ask)) then Some k else next_from me s d (with_mode before ask.mode) (k + 1) rest)
+    (not_void me s ask none) ∙
     ap (λ (b : Bool). if b && (is_local me s d ask || is_copy me s d ask) then Some k else next_from me s d (with_mode before ask.mode) (k + 1) rest)
     (not_free me s d before ask h.0)
-    ∙ none_next me s d (with_mode before ask.mode) (k + 1) rest (barred_more before (one ask.mode) rest h.1)
+    ∙ none_next me s d (with_mode before ask.mode) (k + 1) rest none (barred_more before (one ask.mode) rest h.1)
 
 pub none_drawn : (me : ℕ) (s : SetState) (d : Desk) (before : Modes) (k : ℕ) (asks : List Ask) → AreBarred (bars before) asks
     → draw_from me s d before k asks ≡ None

@@ -4,11 +4,11 @@ use Rattle.std.proofs.lemmas.Bool.{or_left, or_right}
 use Rattle.lt_modes.specs.declared.ask.Ask.{Ask}
 use Rattle.lt_modes.specs.Modes.{Modes, has, bars, union, covers, other_modes}
 use Rattle.lt_modes.specs.State.{SetState, Desk, own_owed, others, no_ask}
-use Rattle.lt_modes.specs.Serving.{is_served, may_draw, is_clear_at_home, next_service, next_draw, queue_of}
+use Rattle.lt_modes.specs.Serving.{is_served, may_draw, is_clear_at_home, next_service, next_draw, queue_of, is_void, is_ready}
 use Rattle.lt_desk.specs.Picks.{picked, picked_by, hand_over_or_none, first_of, turn_by, is_service, is_draw}
 use Rattle.lt_desk.specs.declared.pick.Pick.TheVariants.{Local, Copy}
 use Rattle.lt_desk.specs.declared.pick.Turn.{Turn}
-use Rattle.lt_desk.specs.declared.pick.Turn.TheVariants.{Later}
+use Rattle.lt_desk.specs.declared.pick.Turn.TheVariants.{Later, Served}
 use Rattle.lt_desk.specs.Sights.{is_clear}
 use Rattle.lt_desk.proofs.BarsLemmas.{bars_union}
 
@@ -48,45 +48,54 @@ is_barred me s d before ask = has ask.mode (bars (others me s d ask.node)) || ha
 abbrev is_clear_here : ℕ → SetState → Desk → Ask → Bool
 is_clear_here me s d ask = is_clear ask.mode (union (other_modes s.held ask.client) (own_owed me s d))
 
-turns_is : (me : ℕ) (s : SetState) (d : Desk) (before : Modes) (k : ℕ) (ask : Ask)
+by_void : (me : ℕ) (s : SetState) (d : Desk) (before : Modes) (k : ℕ) (ask : Ask) → is_void me s ask ≡ false
+    → turn_by (is_ready me s d before ask) (may_draw me s d before k ask) ≡ turn_of me s d before k ask
+by_void me s d before k ask live = ap (λ (v : Bool). turn_by (v || is_ready me s d before ask) (may_draw me s d before k ask)) (sym live)
+
+-- an ask of the desk's node that was given up is served, whatever stands against it
+pub void_is : (me : ℕ) (s : SetState) (d : Desk) (before : Modes) (k : ℕ) (ask : Ask) → is_void me s ask ≡ true → Served ≡ turn_of me s d before k ask
+void_is me s d before k ask void = ap (λ (v : Bool). turn_by (v || is_ready me s d before ask) (may_draw me s d before k ask)) (sym void)
+
+turns_is : (me : ℕ) (s : SetState) (d : Desk) (before : Modes) (k : ℕ) (ask : Ask) → is_void me s ask ≡ false
     → turns (is_barred me s d before ask) (ask.node == me) (is_clear_here me s d ask) (covers (others me s d ask.node) ask.mode) (is_clear_at_home me s d ask) (k == 0)
     ≡ turn_of me s d before k ask
-turns_is me s d before k ask =
+turns_is me s d before k ask live =
     ap (λ (b : Bool). turns b (ask.node == me) (is_clear_here me s d ask) (covers (others me s d ask.node) ask.mode) (is_clear_at_home me s d ask) (k == 0))
     (sym (bars_union ask.mode (others me s d ask.node) before))
+    ∙ by_void me s d before k ask live
 
 pub later_barred : (me : ℕ) (s : SetState) (d : Desk) (before : Modes) (k : ℕ) (ask : Ask) (barred : Modes) → barred ≡ bars before
-    → has ask.mode barred ≡ true → Later ≡ turn_of me s d before k ask
-later_barred me s d before k ask barred is hit =
+    → has ask.mode barred ≡ true → is_void me s ask ≡ false → Later ≡ turn_of me s d before k ask
+later_barred me s d before k ask barred is hit live =
     shut (is_barred me s d before ask) (ask.node == me) (is_clear_here me s d ask) (covers (others me s d ask.node) ask.mode) (is_clear_at_home me s d ask) (k == 0)
     (or_right (has ask.mode (bars (others me s d ask.node))) (has ask.mode (bars before)) (ap (λ (b : Modes). has ask.mode b) (sym is) ∙ hit))
-    ∙ turns_is me s d before k ask
+    ∙ turns_is me s d before k ask live
 
 pub later_others : (me : ℕ) (s : SetState) (d : Desk) (before : Modes) (k : ℕ) (ask : Ask)
-    → has ask.mode (bars (others me s d ask.node)) ≡ true → Later ≡ turn_of me s d before k ask
-later_others me s d before k ask hit =
+    → has ask.mode (bars (others me s d ask.node)) ≡ true → is_void me s ask ≡ false → Later ≡ turn_of me s d before k ask
+later_others me s d before k ask hit live =
     shut (is_barred me s d before ask) (ask.node == me) (is_clear_here me s d ask) (covers (others me s d ask.node) ask.mode) (is_clear_at_home me s d ask) (k == 0)
     (or_left (has ask.mode (bars (others me s d ask.node))) (has ask.mode (bars before)) hit)
-    ∙ turns_is me s d before k ask
+    ∙ turns_is me s d before k ask live
 
 pub local_is : (me : ℕ) (s : SetState) (d : Desk) (before : Modes) (k : ℕ) (ask : Ask) (barred : Modes) (clear : Bool) → barred ≡ bars before
     → has ask.mode barred ≡ false → has ask.mode (bars (others me s d ask.node)) ≡ false → (ask.node == me) ≡ true
-    → clear ≡ is_clear_here me s d ask → turn_by clear false ≡ turn_of me s d before k ask
-local_is me s d before k ask barred clear is miss free own is_clear =
+    → clear ≡ is_clear_here me s d ask → is_void me s ask ≡ false → turn_by clear false ≡ turn_of me s d before k ask
+local_is me s d before k ask barred clear is miss free own is_clear live =
     ap (λ (b : Bool). turn_by b false) is_clear
     ∙ open_local (is_barred me s d before ask) (ask.node == me) (is_clear_here me s d ask) (covers (others me s d ask.node) ask.mode) (is_clear_at_home me s d ask) (k == 0)
     (neither (has ask.mode (bars (others me s d ask.node))) (has ask.mode (bars before)) free (ap (λ (b : Modes). has ask.mode b) (sym is) ∙ miss)) own
-    ∙ turns_is me s d before k ask
+    ∙ turns_is me s d before k ask live
 
 pub remote_is : (me : ℕ) (s : SetState) (d : Desk) (before : Modes) (k : ℕ) (ask : Ask) (barred : Modes) (covered home : Bool) → barred ≡ bars before
     → has ask.mode barred ≡ false → has ask.mode (bars (others me s d ask.node)) ≡ false → (ask.node == me) ≡ false
-    → covered ≡ covers (others me s d ask.node) ask.mode → home ≡ is_clear_at_home me s d ask
+    → covered ≡ covers (others me s d ask.node) ask.mode → home ≡ is_clear_at_home me s d ask → is_void me s ask ≡ false
     → turn_by (covered && home) (k == 0 || home) ≡ turn_of me s d before k ask
-remote_is me s d before k ask barred covered home is miss free other is_covered is_home =
+remote_is me s d before k ask barred covered home is miss free other is_covered is_home live =
     (λ i. turn_by (is_covered i && is_home i) (k == 0 || is_home i))
     ∙ open_remote (is_barred me s d before ask) (ask.node == me) (is_clear_here me s d ask) (covers (others me s d ask.node) ask.mode) (is_clear_at_home me s d ask) (k == 0)
     (neither (has ask.mode (bars (others me s d ask.node))) (has ask.mode (bars before)) free (ap (λ (b : Modes). has ask.mode b) (sym is) ∙ miss)) other
-    ∙ turns_is me s d before k ask
+    ∙ turns_is me s d before k ask live
 
 -- ---- what a turn says
 

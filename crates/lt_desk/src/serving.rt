@@ -1,7 +1,7 @@
-ghost use Rattle.std.specs.Prelude.{◌≡◌, ◌≢◌, ◌==◌, ◌&&◌, ◌||◌, length, Some, None, false, if◌then◌else◌};
-ghost use Rattle.lt_modes.specs.Modes.{Modes, bars};
+ghost use Rattle.std.specs.Prelude.{◌≡◌, ◌≢◌, ◌==◌, ◌&&◌, ◌||◌, length, Some, None, true, false, [], if◌then◌else◌};
+ghost use Rattle.lt_modes.specs.Modes.{Modes, bars, is_within};
 ghost use Rattle.lt_modes.specs.State.{own_part};
-ghost use Rattle.lt_modes.specs.Serving.{is_served, may_draw, is_clear_at_home};
+ghost use Rattle.lt_modes.specs.Serving.{is_served, is_void, is_gone, may_draw, is_clear_at_home};
 ghost use Rattle.lt_desk.specs.Picks.{picked, first_of, hand_over_or_none, IsInQueue, turn_by, is_draw};
 ghost use Rattle.lt_desk.specs.declared.pick.Pick.TheVariants.{Local, Copy};
 ghost use Rattle.lt_desk.specs.Sights.{sight_state, desk_of};
@@ -11,7 +11,7 @@ use crate::sight::Sight;
 use lt_modes::{Ask, ModeSet};
 
 impl Sight<'_> {
-    /// Looks once at each ask, up to the first that is served, or to where no later one can be free.
+    /// Looks once at each ask, up to the first that is served, or to where no later one can be.
     pub(crate) fn pick(&self) -> Pick
         ensures next { result ≡ picked self.now.me (sight_state self.now) }
         ensures within { IsInQueue (length self.now.queue.now.asks) result }
@@ -32,11 +32,33 @@ impl Sight<'_> {
             }
             draw = first_draw(draw, turn, k);
             barred = barred.union(ModeSet::barred_by(ask.mode));
-            if wanted.is_within(barred) {
+            if self.none_later(wanted, barred) {
                 return draw_at(draw);
             }
         }
         draw_at(draw)
+    }
+
+    // Whether no later ask can be served: all that is asked for is barred, and no ask was given up.
+    fn none_later(&self, wanted: ModeSet, barred: ModeSet) -> bool
+        ensures alone { result ≡ true → self.now.gone.now ≡ [] }
+        ensures within { result ≡ true → is_within wanted barred ≡ true }
+    {
+        self.gone.is_empty() && wanted.is_within(barred)
+    }
+
+    // Whether the ask is of this node and was given up.
+    fn is_void(&self, ask: &Ask) -> bool
+        ensures { result ≡ is_void self.now.me (sight_state self.now) ask.now }
+    {
+        ask.node == self.me && self.is_gone(ask.client)
+    }
+
+    // Whether the client's unanswered ask was given up.
+    fn is_gone(&self, client: u16) -> bool
+        ensures { result ≡ is_gone (sight_state self.now) client }
+    {
+        self.gone.iter().any(|other| *other == client)
     }
 
     // What becomes of the ask at place k: `barred` is what the asks before it bar, `own` the own part of the desk's node.
@@ -47,6 +69,9 @@ impl Sight<'_> {
             → result ≡ turn_by (is_served self.now.me (sight_state self.now) (desk_of self.now) before ask.now)
             (may_draw self.now.me (sight_state self.now) (desk_of self.now) before k ask.now) }
     {
+        if self.is_void(ask) {
+            return Turn::Served;
+        }
         if barred.has(ask.mode) {
             return Turn::Later;
         }

@@ -14,7 +14,7 @@ use Rattle.rand_pcg.specs.Lcg.{Lcg}
 use Rattle.lt_modes.specs.Script.{ScriptData, ClientData, SetData}
 use Rattle.lt_modes.specs.declared.command.Command.{Command}
 use Rattle.lt_lists.proofs.AllLemmas.{all_append, all_map}
-use Rattle.lt_spec.specs.Script.{is_name, is_name_byte, is_declared, load_of, IsScript, IsShort, IsRequest, HasModesOf}
+use Rattle.lt_spec.specs.Script.{is_name, is_name_byte, is_declared, load_of, IsScript, IsShort, IsRequest, IsOfVersion}
 use Rattle.lt_text.specs.Number.{are_digits}
 use Rattle.lt_text.proofs.NumberLemmas.{decimal_are_digits}
 use Rattle.lt_script.proofs.NameLemmas.{found_never}
@@ -161,7 +161,7 @@ all_made clients turn g made whole m = by m.turns m.parts
 
 -- the request names modes of version 1
 abbrev NamesFirstModes : ℕ × Command → Type 0
-NamesFirstModes request = HasModesOf 1 request.1
+NamesFirstModes request = IsOfVersion 1 request.1
 
 -- the nodes, these sets and these clients, and no commands
 without_commands : ℕ → List SetData → List ClientData → ScriptData

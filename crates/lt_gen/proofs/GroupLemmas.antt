@@ -11,7 +11,7 @@ use Rattle.lt_modes.specs.declared.mode.Mode.{Mode}
 use Rattle.lt_modes.specs.declared.mode.Mode.TheVariants as modes
 use Rattle.lt_modes.specs.declared.mode.TheConstants.{MODES}
 use Rattle.lt_modes.specs.FiveModes.{is_of_five, is_of_version}
-use Rattle.lt_spec.specs.Script.{IsRequest, HasModesOf}
+use Rattle.lt_spec.specs.Script.{IsRequest, IsOfVersion}
 use Rattle.lt_gen.specs.declared.group.Group.{Group}
 use Rattle.lt_gen.specs.declared.group.Group.TheVariants.{Last, Lock, Try, Upgrade, Change}
 use Rattle.lt_gen.specs.Generator.{draw_of, nth_mode, group_of, group_by, set_of, group_commands, HasFiveModes}
@@ -108,7 +108,7 @@ of_version : (version : ℕ) (mode : Mode) → IsTrue (is_of_five mode) → IsTr
 of_version version mode five = elim (cases_Bool (not (version == 1))) [ inl later ↦ rw later refl | inr first ↦ rw first five ]
 
 -- a group that takes one of the five modes names modes of each version
-pub group_modes : (version : ℕ) (group : Group) → HasFiveModes group → AllByRecursion (HasModesOf version) (group_commands group)
+pub group_modes : (version : ℕ) (group : Group) → HasFiveModes group → AllByRecursion (IsOfVersion version) (group_commands group)
 group_modes version Last five = (of_version version modes.Read refl, tt)
 group_modes version (Lock set mode) five = let ok = of_version version mode five in (ok, (ok, tt))
 group_modes version (Try set mode) five = let ok = of_version version mode five in (ok, (ok, tt))

@@ -1,5 +1,5 @@
 ghost use Rattle.std.specs.Prelude.{◌≡◌, ◌<◌, ◌≤◌, ◌*◌, ◌+◌, ◌++◌, ◌∷◌, [], map, length, All, IfOk, OnOk, IsTrue};
-ghost use Rattle.lt_spec.specs.Script.{IsScript, IsShort, IsRequest, HasModesOf};
+ghost use Rattle.lt_spec.specs.Script.{IsScript, IsShort, IsRequest, IsOfVersion};
 ghost use Rattle.lt_spec.specs.declared.limits.TheConstants.{MAX_CLIENTS_OF_FIRST, MAX_CLIENTS_OF_NODE, MAX_COMMANDS};
 ghost use Rattle.lt_gen.specs.Sizes.{can_make};
 ghost use Rattle.lt_gen.specs.Generator.{four_sets, drawn_client, clients_of, requests_in, script_of, HasSizes};
@@ -110,7 +110,7 @@ fn add_commands(
 // Adds the commands that this client makes in its turn.
 fn add_turn(script: &mut Script, client: u16, commands: &[Command]) -> Result<(), AllocError>
     requires requests { All (λ command. IsRequest script.old.sets script.old.clients (client, command)) commands.now }
-    requires modes { All (HasModesOf script.old.version) commands.now }
+    requires modes { All (IsOfVersion script.old.version) commands.now }
     requires room { length script.old.commands + length commands.now ≤ MAX_COMMANDS }
     ensures { OnOk result (script.new ≡ record script.old {
       commands = script.old.commands ++ map (λ command. (client, command)) commands.now;

@@ -1,5 +1,5 @@
 -- What a script must be like, and the moves of a run, so that their lines can be written and read back.
-use Rattle.std.proofs.Common.{◌≡◌, ◌<◌, ◌^◌, ◌==◌, ◌||◌, not, true, List, ℕ, Bool, Option, Some, length, if◌then◌else◌, flat_map, zero, suc, cond, false, [], ◌∷◌, ◌++◌, fold, None, arith, ◌+◌, take, get_or, refl, sym, ap, ◌∙◌, append_assoc}
+use Rattle.std.proofs.Common.{◌≡◌, ◌⊎◌, inl, inr, subst, ◌<◌, ◌^◌, ◌==◌, ◌||◌, not, true, List, ℕ, Bool, Option, Some, length, if◌then◌else◌, flat_map, zero, suc, cond, false, [], ◌∷◌, ◌++◌, fold, None, arith, ◌+◌, take, get_or, refl, sym, ap, ◌∙◌, append_assoc}
 use Rattle.std.specs.List.{AllByRecursion, list_all}
 use Rattle.std.proofs.lemmas.List.Sums.{count_by-le-length}
 use Rattle.std.proofs.lemmas.List.{take_more, map-append}
@@ -8,7 +8,7 @@ use Rattle.lt_modes.specs.declared.moves.Move.{Move}
 use Rattle.lt_modes.specs.Script.{ScriptData, set_name, client_name}
 use Rattle.lt_modes.specs.declared.mode.Mode.{Mode}
 use Rattle.lt_modes.specs.declared.event.Event.{Event}
-use Rattle.lt_modes.specs.declared.event.Event.TheVariants.{Grant, Wait, Try, Unlock, NotHeld, Change, DropAll, Busy, Copy, Freeze, Token}
+use Rattle.lt_modes.specs.declared.event.Event.TheVariants.{Grant, Wait, Try, Unlock, NotHeld, Change, DropAll, Busy, Withdraw, Withdrawn, Void, Withheld, Copy, Freeze, Token}
 use Rattle.lt_modes.specs.declared.parts.Link.{Link}
 use Rattle.lt_modes.specs.Modes.{modes_in_order}
 use Rattle.lt_spec.specs.World.{Logged}
@@ -17,7 +17,7 @@ use Rattle.lt_spec.specs.Script.{set_number, client_number}
 use Rattle.lt_merge.specs.Merging.{made_at, events_at}
 use Rattle.lt_journal.specs.LineFits.{IsNumber, HasNode, FitsStep, FitsEvent, FitsCut, HasSet, HasClient, FitsLine}
 use Rattle.lt_journal.specs.declared.line.Line.{Line}
-use Rattle.lt_journal.specs.declared.line.Line.TheVariants.{Version, Held, Move as MoveLine}
+use Rattle.lt_journal.specs.declared.line.Line.TheVariants.{Held, Move as MoveLine}
 use Rattle.lt_journal.specs.RunLines.{shown_event, line_of_event, event_lines, first_lines, entry_lines, moves_lines, lines_below, held_line, held_in_mode, held_in_set, held_by, held_lines, waiting_line, waiting_lines, owner_line, owner_lines, closing_lines, run_lines, line_text, lines_text}
 
 -- no space, line feed or carriage return
@@ -49,6 +49,7 @@ FitsEntry script entry = FitsMove script entry.made × AllByRecursion (FitsEvent
 
 -- all that the run's text names is of the script, and its numbers are those of a line
 pub record FitsRun (script : ScriptData) (entries : List Logged) (cut : Option ℕ) : Type 0 where
+  pub version : (script.version ≡ 1) ⊎ ((script.version ≡ 2) ⊎ (script.version ≡ 3))
   pub some_node : 0 < script.nodes
   pub few_nodes : FewNodes script
   pub moves : AllByRecursion (FitsEntry script) entries
@@ -85,6 +86,7 @@ wanted_fits script client lock (event ∷ events) fits now =
     by_event (Grant c s mode) h = either (FitsWaiting script) (c == client) None lock tt fits
     by_event (Wait c s mode) h = either (FitsWaiting script) (c == client) (Some (holding c s mode)) lock h fits
     by_event (Change c s gives_up mode) h = either (FitsWaiting script) (c == client) None lock tt fits
+    by_event (Withdrawn c s mode) h = either (FitsWaiting script) (c == client) None lock tt fits
     by_event other h = fits
 
 owner_fits : (script : ScriptData) (lock_set : ℕ) (owner : Link) (events : List Event) → FitsOwner script owner → AllByRecursion (FitsEvent script) events
@@ -112,6 +114,10 @@ shown_fits script v (NotHeld client set mode) fits = fits
 shown_fits script v (Change client set gives_up mode) fits = fits
 shown_fits script v (DropAll client other set count) fits = fits
 shown_fits script v (Busy client other set) fits = fits
+shown_fits script v (Withdraw client other set got) fits = fits
+shown_fits script v (Withdrawn client set mode) fits = fits
+shown_fits script v (Void client set mode) fits = fits
+shown_fits script v (Withheld client set mode) fits = fits
 shown_fits script v (Copy set to client mode) fits = fits
 shown_fits script v (Freeze set to number modes) fits = fits
 shown_fits script v (Token set to epoch) fits = fits
@@ -125,10 +131,14 @@ entries_fit script v [] fits = tt
 entries_fit script v (entry ∷ entries) fits =
     append_fits (FitsLine script) (entry_lines v entry) (flat_map (entry_lines v) entries) (fits.0.0, event_lines_fit script v entry.events fits.0.1) (entries_fit script v entries fits.1)
 
-first_fits : (script : ScriptData) (v : ℕ) → AllByRecursion (FitsLine script) (first_lines v)
-first_fits script v = elim (v == 1) as (λ first. AllByRecursion (FitsLine script) (cond first [] (Version ∷ []))) [
-  | true ↦ tt
-  | false ↦ (tt, tt)
+-- the line `version 3` stands in a journal of version 3 alone
+first_fits : (script : ScriptData) → (script.version ≡ 1) ⊎ ((script.version ≡ 2) ⊎ (script.version ≡ 3)) → AllByRecursion (FitsLine script) (first_lines script.version)
+first_fits script known = elim known [
+  | inl one ↦ subst (λ (v : ℕ). AllByRecursion (FitsLine script) (first_lines v)) (sym one) tt
+  | inr later ↦ elim later [
+    | inl two ↦ subst (λ (v : ℕ). AllByRecursion (FitsLine script) (first_lines v)) (sym two) (tt, tt)
+    | inr three ↦ subst (λ (v : ℕ). AllByRecursion (FitsLine script) (first_lines v)) (sym three) (three, tt)
+  ]
 ]
 
 below_fits : (script : ScriptData) (n : ℕ) (f : ℕ → List Line) → ((k : ℕ) → k < n → AllByRecursion (FitsLine script) (f k)) → AllByRecursion (FitsLine script) (lines_below n f)
@@ -190,7 +200,7 @@ closing_fits script entries (Some node) run = (run.cut_node, tt)
 
 pub lines_fit : (script : ScriptData) (entries : List Logged) (cut : Option ℕ) → FitsRun script entries cut → AllByRecursion (FitsLine script) (run_lines script entries cut)
 lines_fit script entries cut run =
-    append_fits (FitsLine script) (first_lines script.version) (moves_lines script.version entries ++ closing_lines script entries cut) (first_fits script script.version)
+    append_fits (FitsLine script) (first_lines script.version) (moves_lines script.version entries ++ closing_lines script entries cut) (first_fits script run.version)
     (append_fits (FitsLine script) (moves_lines script.version entries) (closing_lines script entries cut) (entries_fit script script.version entries run.moves) (closing_fits script entries cut run))
 
 -- What one turn of a loop adds to a text, and to the moves and events done so far.

@@ -1,19 +1,20 @@
 -- A line that is not bad is spelled as what it says.
 use Rattle.lt_journal.proofs.Written.{same_word, IsSpelled, by_word, number_found, client_found, set_found, node_found, mode_found, bool_found}
-use Rattle.std.proofs.Common.{◌≡◌, ℕ, cond, Bool, true, false, List, [], ◌∷◌, map, fold, codes, Option, Some, None, refl, sym, ap, ◌∙◌, inl, inr, rules, if◌then◌else◌, option_map, bytes_eq}
+use Rattle.std.proofs.Common.{◌≡◌, ℕ, ◌==◌, cond, Bool, true, false, List, [], ◌∷◌, map, fold, codes, Option, Some, None, refl, sym, ap, ◌∙◌, inl, inr, rules, if◌then◌else◌, option_map, bytes_eq}
 use Rattle.std.proofs.lemmas.Bool.{cases_Bool}
 use Rattle.lt_modes.specs.declared.mode.Mode.{Mode}
 use Rattle.lt_modes.specs.declared.moves.Step.{Step}
 use Rattle.lt_modes.specs.declared.moves.Step.TheVariants.{Act, Take}
+use Rattle.lt_modes.specs.declared.event.Event.TheVariants.{Withdrawn, Void, Withheld}
 use Rattle.lt_modes.specs.Modes.{Modes, no_modes, with_mode, word_of, mode_of, modes_in_order}
 use Rattle.lt_modes.specs.Script.{ScriptData, set_name, client_name}
 use Rattle.lt_journal.specs.RunLines.{step_words, words_of_modes, IsAsWritten}
 use Rattle.lt_text.specs.Number.{exact_number}
 use Rattle.lt_spec.specs.Script.{set_number, client_number}
 use Rattle.lt_journal.specs.declared.line.Line.{Line}
-use Rattle.lt_journal.specs.declared.line.Line.TheVariants.{Version, Waiting, Bad}
+use Rattle.lt_journal.specs.declared.line.Line.TheVariants.{Version2, Version3, Event as EventLine, Waiting, Bad}
 use Rattle.lt_spec.specs.Holdings.{Holding}
-use Rattle.lt_journal.specs.Grammar.{line_of, read_line, line_of_two, line_of_four, line_of_five, line_of_many, line_of_freeze, lock_line, lock_and_line, node_of, step_said, lock_of, lock_by, bool_of, modes_of, with_words, says_none, end_line, version_line, cut_line, busy_line, token_line, owner_line, move_line, drop_line, copy_line, try_line, change_line, held_line, freeze_line}
+use Rattle.lt_journal.specs.Grammar.{line_of, read_line, of_third, line_of_two, line_of_four, line_of_five, line_of_many, line_of_freeze, void_line, lock_line, lock_and_line, node_of, step_said, lock_of, lock_by, bool_of, modes_of, with_words, says_none, end_line, version_line, cut_line, busy_line, token_line, owner_line, move_line, drop_line, withdraw_line, copy_line, try_line, change_line, held_line, freeze_line}
 use Rattle.lt_journal.proofs.Spelled.{has_words, Both, both}
 use Rattle.lt_text.specs.Text.{fields, spaced}
 use Rattle.lt_text.proofs.TextLemmas.{spaced_fields}
@@ -93,14 +94,20 @@ modes_found words modes some e = elim (cases_Bool (says_none words)) [
     is_none (word ∷ []) h = ap (λ (w : List ℕ). w ∷ []) (sym (same_word word (codes "none") h))
     is_none (word ∷ next ∷ later) h = absurd (cc)
 
+-- a line of version 3 alone is spelled so, or it is bad
+third_found : (script : ScriptData) (words : List (List ℕ)) (x : Line) → IsSpelled script words x → IsSpelled script words (of_third script.version x)
+third_found script words x spelled = elim (script.version == 3) as (λ t. IsSpelled script words (cond t x Bad)) [ true ↦ spelled | false ↦ inl refl ]
+
 two_found : (script : ScriptData) (word a : List ℕ) → IsSpelled script (word ∷ a ∷ []) (line_of_two script word a)
 two_found script word a =
-    by_word (IsSpelled script (word ∷ a ∷ [])) word (codes "end") (end_line (exact_number a)) (cond (bytes_eq word (codes "cut")) (cut_line (node_of script a)) (cond (bytes_eq word (codes "version")) (version_line a) Bad)) (λ e. end (exact_number a) e refl)
-    (by_word (IsSpelled script (word ∷ a ∷ [])) word (codes "cut") (cut_line (node_of script a)) (cond (bytes_eq word (codes "version")) (version_line a) Bad) (λ e. cut (node_of script a) e refl)
-    (by_word (IsSpelled script (word ∷ a ∷ [])) word (codes "version") (version_line a) Bad version (inl refl)))
+    by_word (IsSpelled script (word ∷ a ∷ [])) word (codes "end") (end_line (exact_number a)) (cond (bytes_eq word (codes "cut")) (cut_line (node_of script a)) (cond (bytes_eq word (codes "version")) (version_line script.version a) Bad)) (λ e. end (exact_number a) e refl)
+    (by_word (IsSpelled script (word ∷ a ∷ [])) word (codes "cut") (cut_line (node_of script a)) (cond (bytes_eq word (codes "version")) (version_line script.version a) Bad) (λ e. cut (node_of script a) e refl)
+    (by_word (IsSpelled script (word ∷ a ∷ [])) word (codes "version") (version_line script.version a) Bad version (inl refl)))
   where
-    version : word ≡ codes "version" → IsSpelled script (word ∷ a ∷ []) (version_line a)
-    version e = by_word (IsSpelled script (word ∷ a ∷ [])) a (codes "2") Version Bad (λ f. inr (rw (e, f) refl)) (inl refl)
+    version : word ≡ codes "version" → IsSpelled script (word ∷ a ∷ []) (version_line script.version a)
+    version e =
+        by_word (IsSpelled script (word ∷ a ∷ [])) a (codes "2") Version2 (cond (bytes_eq a (codes "3")) (of_third script.version Version3) Bad) (λ f. inr (rw (e, f) refl))
+        (by_word (IsSpelled script (word ∷ a ∷ [])) a (codes "3") (of_third script.version Version3) Bad (λ f. third_found script (word ∷ a ∷ []) Version3 (inr (rw (e, f) refl))) (inl refl))
 
     end : (o : Option ℕ) → word ≡ codes "end" → exact_number a ≡ o → IsSpelled script (word ∷ a ∷ []) (end_line o)
     end None e f = inl refl
@@ -124,7 +131,21 @@ lock_found script a b c lock e = from (client_number script a) (set_number scrip
         )
     from x y z f g h k = absurd (cc)
 
-lock_line_found : (script : ScriptData) (word a b c : List ℕ) (o : Option Holding) → lock_of script a b c ≡ o → IsSpelled script (word ∷ a ∷ b ∷ c ∷ []) (lock_line word o)
+void_line_found : (script : ScriptData) (word a b c : List ℕ) (lock : Holding) → (client_name script lock.client ≡ a) × (set_name script lock.set ≡ b) × (word_of lock.mode ≡ c)
+    → IsSpelled script (word ∷ a ∷ b ∷ c ∷ []) (void_line script.version word lock)
+void_line_found script word a b c lock found =
+    by_word P word (codes "withdrawn") _ _ (λ f. third_found script ws (EventLine (Withdrawn lock.client lock.set lock.mode)) (inr (rw (f, found.0, found.1, found.2))))
+    (by_word P word (codes "void") _ _ (λ f. third_found script ws (EventLine (Void lock.client lock.set lock.mode)) (inr (rw (f, found.0, found.1, found.2))))
+    (by_word P word (codes "withheld") (of_third script.version (EventLine (Withheld lock.client lock.set lock.mode))) Bad
+    (λ f. third_found script ws (EventLine (Withheld lock.client lock.set lock.mode)) (inr (rw (f, found.0, found.1, found.2)))) (inl refl)))
+  where
+    ws : List (List ℕ)
+    ws = word ∷ a ∷ b ∷ c ∷ []
+
+    P : Line → Type 0
+    P x = IsSpelled script (word ∷ a ∷ b ∷ c ∷ []) x
+
+lock_line_found : (script : ScriptData) (word a b c : List ℕ) (o : Option Holding) → lock_of script a b c ≡ o → IsSpelled script (word ∷ a ∷ b ∷ c ∷ []) (lock_line script.version word o)
 lock_line_found script word a b c None e = inl refl
 lock_line_found script word a b c (Some lock) e =
     let found = lock_found script a b c lock e in
@@ -132,7 +153,7 @@ lock_line_found script word a b c (Some lock) e =
     (by_word P word (codes "wait") _ _ (λ f. inr (rw (f, found.0, found.1, found.2)))
     (by_word P word (codes "unlock") _ _ (λ f. inr (rw (f, found.0, found.1, found.2)))
     (by_word P word (codes "not_held") _ _ (λ f. inr (rw (f, found.0, found.1, found.2)))
-    (by_word P word (codes "waiting") (Waiting lock.client lock.set lock.mode) Bad (λ f. inr (rw (f, found.0, found.1, found.2))) (inl refl)))))
+    (by_word P word (codes "waiting") (Waiting lock.client lock.set lock.mode) _ (λ f. inr (rw (f, found.0, found.1, found.2))) (void_line_found script word a b c lock found)))))
   where
     P : Line → Type 0
     P x = IsSpelled script (word ∷ a ∷ b ∷ c ∷ []) x
@@ -209,8 +230,11 @@ five_found : (script : ScriptData) (word a b c d : List ℕ) → IsSpelled scrip
 five_found script word a b c d =
     by_word P word (codes "move") _ _ (λ e. move (exact_number a) (node_of script b) (step_said script c d) e refl refl refl)
     (by_word P word (codes "drop") _ _ (λ e. drops (client_number script a) (client_number script b) (set_number script c) (exact_number d) e refl refl refl refl)
+    (by_word P word (codes "withdraw") _ _
+    (λ e. third_found script (word ∷ a ∷ b ∷ c ∷ d ∷ []) (withdraw_line (client_number script a) (client_number script b) (set_number script c) (bool_of d))
+    (withdraw (client_number script a) (client_number script b) (set_number script c) (bool_of d) e refl refl refl refl))
     (by_word P word (codes "copy") _ _ (λ e. copy (set_number script a) (node_of script b) (client_number script c) (mode_of d) e refl refl refl refl)
-    (lock_and_found script word a b c d (lock_of script a b c) refl)))
+    (lock_and_found script word a b c d (lock_of script a b c) refl))))
   where
     P : Line → Type 0
     P x = IsSpelled script (word ∷ a ∷ b ∷ c ∷ d ∷ []) x
@@ -222,6 +246,10 @@ five_found script word a b c d =
     drops : (x y z w : Option ℕ) → word ≡ codes "drop" → client_number script a ≡ x → client_number script b ≡ y → set_number script c ≡ z → exact_number d ≡ w → P (drop_line x y z w)
     drops (Some x) (Some y) (Some z) (Some w) e f g h k = inr (rw (e, client_found script a x f, client_found script b y g, set_found script c z h, number_found d w k))
     drops x y z w e f g h k = inl refl
+
+    withdraw : (x y z : Option ℕ) (w : Option Bool) → word ≡ codes "withdraw" → client_number script a ≡ x → client_number script b ≡ y → set_number script c ≡ z → bool_of d ≡ w → P (withdraw_line x y z w)
+    withdraw (Some x) (Some y) (Some z) (Some w) e f g h k = inr (rw (e, client_found script a x f, client_found script b y g, set_found script c z h, bool_found d w k))
+    withdraw x y z w e f g h k = inl refl
 
     copy : (x y z : Option ℕ) (w : Option Mode) → word ≡ codes "copy" → set_number script a ≡ x → node_of script b ≡ y → client_number script c ≡ z → mode_of d ≡ w → P (copy_line x y z w)
     copy (Some x) (Some y) (Some z) (Some w) e f g h k = inr (rw (e, set_found script a x f, node_found script b y g, client_found script c z h, mode_found d w k))

@@ -158,7 +158,7 @@ says_move script (a ∷ []) = refl
 says_move script (a ∷ b ∷ []) = refl
 says_move script (a ∷ b ∷ c ∷ []) = by_lock (lock_of script a b c)
   where
-    by_lock : (lock : Option Holding) → lock_line (codes "move") lock ≡ Bad
+    by_lock : (lock : Option Holding) → lock_line script.version (codes "move") lock ≡ Bad
     by_lock None = refl
     by_lock (Some lock) = refl
 says_move script (a ∷ b ∷ c ∷ d ∷ []) = refl

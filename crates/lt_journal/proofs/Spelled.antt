@@ -4,14 +4,14 @@ use Rattle.lt_modes.specs.declared.mode.Mode.{Mode}
 use Rattle.lt_modes.specs.declared.moves.Step.{Step}
 use Rattle.lt_modes.specs.declared.moves.Step.TheVariants.{Act, Take}
 use Rattle.lt_modes.specs.declared.event.Event.{Event}
-use Rattle.lt_modes.specs.declared.event.Event.TheVariants.{Grant, Wait, Try, Unlock, NotHeld, Change, DropAll, Busy, Copy, Freeze, Token}
+use Rattle.lt_modes.specs.declared.event.Event.TheVariants.{Grant, Wait, Try, Unlock, NotHeld, Change, DropAll, Busy, Withdraw, Withdrawn, Void, Withheld, Copy, Freeze, Token}
 use Rattle.lt_modes.specs.Modes.{Modes, word_of, has}
 use Rattle.lt_modes.specs.Script.{ScriptData, set_name, client_name}
 use Rattle.lt_modes.proofs.ModeAlgebra.{mode_of_word}
 use Rattle.lt_journal.specs.RunLines.{event_words, words_of_modes, word_of_bool, line_words}
 use Rattle.lt_text.proofs.NumberLemmas.{exact_number_decimal}
 use Rattle.lt_journal.specs.declared.line.Line.{Line}
-use Rattle.lt_journal.specs.declared.line.Line.TheVariants.{Version, Move as MoveLine, Event as EventLine, Held, Waiting, Owner, End, Cut, Bad}
+use Rattle.lt_journal.specs.declared.line.Line.TheVariants.{Version2, Version3, Move as MoveLine, Event as EventLine, Held, Waiting, Owner, End, Cut, Bad}
 use Rattle.lt_journal.specs.Grammar.{line_of, node_of, lock_of, modes_of, bool_of, line_of_freeze}
 use Rattle.lt_journal.specs.LineFits.{IsNumber, HasSet, HasClient, HasNode, FitsStep, FitsEvent, FitsLine}
 use Rattle.lt_journal.proofs.Fitting.{IsNamed, FewNodes}
@@ -87,6 +87,11 @@ event_read script (DropAll client other set count) named few fits =
     rw (named.clients_apart client fits.0, named.clients_apart other fits.1, named.sets_apart set fits.2, exact_number_decimal count fits.3)
 event_read script (Busy client other set) named few fits =
     rw (named.clients_apart client fits.0, named.clients_apart other fits.1, named.sets_apart set fits.2)
+event_read script (Withdraw client other set got) named few fits =
+    rw (fits.3, named.clients_apart client fits.0, named.clients_apart other fits.1, named.sets_apart set fits.2, bool_of_word got)
+event_read script (Withdrawn client set mode) named few fits = rw (fits.2, lock_of_words script client set mode named fits.0 fits.1)
+event_read script (Void client set mode) named few fits = rw (fits.2, lock_of_words script client set mode named fits.0 fits.1)
+event_read script (Withheld client set mode) named few fits = rw (fits.2, lock_of_words script client set mode named fits.0 fits.1)
 event_read script (Copy set to client mode) named few fits =
     rw (named.sets_apart set fits.0, node_of_decimal script to few fits.1, named.clients_apart client fits.2, mode_of_word mode)
 event_read script (Freeze set to number modes) named few fits =
@@ -97,7 +102,8 @@ event_read script (Token set to epoch) named few fits =
     rw (named.sets_apart set fits.0, node_of_decimal script to few fits.1, exact_number_decimal epoch fits.2)
 
 pub line_read : (script : ScriptData) (x : Line) → IsNamed script → FewNodes script → FitsLine script x → line_of script (line_words script x) ≡ x
-line_read script Version named few fits = refl
+line_read script Version2 named few fits = refl
+line_read script Version3 named few fits = rw fits
 line_read script (MoveLine clock node step) named few fits = step_of_words script clock node step named few fits.0 fits.1 fits.2
 line_read script (EventLine event) named few fits = event_read script event named few fits
 line_read script (Held client set mode count) named few fits =

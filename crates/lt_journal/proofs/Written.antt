@@ -13,7 +13,7 @@ use Rattle.lt_modes.specs.Script.{ScriptData, SetData, ClientData, set_name, cli
 use Rattle.lt_modes.specs.declared.moves.Step.{Step}
 use Rattle.lt_modes.specs.declared.moves.Step.TheVariants.{Act, Take}
 use Rattle.lt_modes.specs.declared.event.Event.{Event}
-use Rattle.lt_modes.specs.declared.event.Event.TheVariants.{Grant, Wait, Try, Unlock, NotHeld, Change, DropAll, Busy, Copy, Freeze, Token}
+use Rattle.lt_modes.specs.declared.event.Event.TheVariants.{Grant, Wait, Try, Unlock, NotHeld, Change, DropAll, Busy, Withdraw, Withdrawn, Void, Withheld, Copy, Freeze, Token}
 use Rattle.lt_modes.proofs.ModeAlgebra.{each_mode}
 use Rattle.lt_spec.specs.Script.{set_number, client_number, is_name, is_name_byte, IsScript}
 use Rattle.lt_text.specs.Number.{exact_number, is_numeral, has_leading_zero, are_digits}
@@ -21,7 +21,7 @@ use Rattle.lt_text.proofs.NumberLemmas.{decimal_value}
 use Rattle.lt_text.specs.Text.{after_space, lines, cut_at, fields, spaced}
 use Rattle.lt_journal.specs.RunLines.{word_of_bool, line_words, words_of_modes, member_words, step_words, event_words, lines_text}
 use Rattle.lt_journal.specs.declared.line.Line.{Line}
-use Rattle.lt_journal.specs.declared.line.Line.TheVariants.{Bad, Version, Move as MoveLine, Event as EventLine, Held, Waiting, Owner, End, Cut}
+use Rattle.lt_journal.specs.declared.line.Line.TheVariants.{Bad, Version2, Version3, Move as MoveLine, Event as EventLine, Held, Waiting, Owner, End, Cut}
 use Rattle.lt_journal.specs.Grammar.{node_of, below, bool_of, line_of, read_line, journal_of}
 use Rattle.lt_journal.proofs.Fitting.{is_plain_byte, is_plain, IsNamed, FewNodes}
 use Rattle.lt_journal.specs.LineFits.{IsNumber, FitsStep, FitsEvent, FitsLine}
@@ -203,6 +203,14 @@ plain_event script (DropAll client other set count) named few fits =
     (plain (codes "drop") refl, (plain_client script client named fits.0, (plain_client script other named fits.1, (plain_set script set named fits.2, (plain_number count fits.3, tt)))))
 plain_event script (Busy client other set) named few fits =
     (plain (codes "busy") refl, (plain_client script client named fits.0, (plain_client script other named fits.1, (plain_set script set named fits.2, tt))))
+plain_event script (Withdraw client other set got) named few fits =
+    (plain (codes "withdraw") refl, (plain_client script client named fits.0, (plain_client script other named fits.1, (plain_set script set named fits.2, (plain_bool got, tt)))))
+plain_event script (Withdrawn client set mode) named few fits =
+    (plain (codes "withdrawn") refl, (plain_client script client named fits.0, (plain_set script set named fits.1, (plain_mode mode, tt))))
+plain_event script (Void client set mode) named few fits =
+    (plain (codes "void") refl, (plain_client script client named fits.0, (plain_set script set named fits.1, (plain_mode mode, tt))))
+plain_event script (Withheld client set mode) named few fits =
+    (plain (codes "withheld") refl, (plain_client script client named fits.0, (plain_set script set named fits.1, (plain_mode mode, tt))))
 plain_event script (Copy set to client mode) named few fits =
     (plain (codes "copy") refl, (plain_set script set named fits.0, (plain_node script to few fits.1, (plain_client script client named fits.2, (plain_mode mode, tt)))))
 plain_event script (Freeze set to number modes) named few fits =
@@ -211,7 +219,8 @@ plain_event script (Token set to epoch) named few fits =
     (plain (codes "token") refl, (plain_set script set named fits.0, (plain_node script to few fits.1, (plain_number epoch fits.2, tt))))
 
 pub plain_line : (script : ScriptData) (x : Line) → IsNamed script → FewNodes script → FitsLine script x → ArePlain (line_words script x)
-plain_line script Version named few fits = (plain (codes "version") refl, (plain (codes "2") refl, tt))
+plain_line script Version2 named few fits = (plain (codes "version") refl, (plain (codes "2") refl, tt))
+plain_line script Version3 named few fits = (plain (codes "version") refl, (plain (codes "3") refl, tt))
 plain_line script (MoveLine clock node step) named few fits =
     (plain (codes "move") refl, (plain_number clock fits.0, (plain_node script node few fits.1, plain_step script step named few fits.2)))
 plain_line script (EventLine event) named few fits = plain_event script event named few fits

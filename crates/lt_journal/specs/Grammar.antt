@@ -1,9 +1,9 @@
 -- What a line of a journal says, by its words: a line that has none of the forms is bad.
-use Rattle.std.specs.Prelude.{List, [], ◌∷◌, ℕ, map, Bool, true, false, Option, Some, None, ◌≡◌, ◌≤◌, take, length, if◌then◌else◌, codes, nat_lt, option_map, bytes_eq}
+use Rattle.std.specs.Prelude.{List, [], ◌∷◌, ℕ, map, Bool, true, false, Option, Some, None, ◌≡◌, ◌≤◌, take, length, if◌then◌else◌, codes, nat_lt, option_map, bytes_eq, ◌==◌}
 use Rattle.lt_modes.specs.declared.mode.Mode.{Mode}
 use Rattle.lt_modes.specs.declared.moves.Step.{Step}
 use Rattle.lt_modes.specs.declared.moves.Step.TheVariants.{Act, Take}
-use Rattle.lt_modes.specs.declared.event.Event.TheVariants.{Grant, Wait, Try, Unlock, NotHeld, Change, DropAll, Busy, Copy, Freeze, Token}
+use Rattle.lt_modes.specs.declared.event.Event.TheVariants.{Grant, Wait, Try, Unlock, NotHeld, Change, DropAll, Busy, Withdraw, Withdrawn, Void, Withheld, Copy, Freeze, Token}
 use Rattle.lt_modes.specs.Modes.{Modes, no_modes, with_mode, word_of, mode_of, modes_in_order}
 use Rattle.lt_modes.specs.Script.{ScriptData}
 use Rattle.lt_spec.specs.Script.{set_number, client_number}
@@ -12,7 +12,7 @@ use Rattle.lt_text.specs.Number.{are_digits, exact_number}
 use Rattle.std.specs.Str.Parse.{digits_value}
 use denote.Ref.{Bor}
 use Rattle.lt_journal.specs.declared.line.Line.{Line}
-use Rattle.lt_journal.specs.declared.line.Line.TheVariants.{Version, Move as MoveLine, Event as EventLine, Held, Waiting, Owner, End, Cut, Bad}
+use Rattle.lt_journal.specs.declared.line.Line.TheVariants.{Version2, Version3, Move as MoveLine, Event as EventLine, Held, Waiting, Owner, End, Cut, Bad}
 use Rattle.lt_spec.specs.Holdings.{Holding}
 
 -- the number, if it is below the bound
@@ -40,7 +40,7 @@ lock_by _ _ _ = None
 abbrev pub lock_of : ScriptData → List ℕ → List ℕ → List ℕ → Option Holding
 lock_of script client set mode = lock_by (client_number script client) (set_number script set) (mode_of mode)
 
--- whether a `try` got its lock
+-- whether a `try` got its lock, or a `withdraw` gave something up
 abbrev pub bool_of : List ℕ → Option Bool
 bool_of word =
     if bytes_eq word (codes "true") then Some true
@@ -78,16 +78,23 @@ abbrev pub cut_line : Option ℕ → Line
 cut_line (Some node) = Cut node
 cut_line None = Bad
 
--- `version 2`
-abbrev pub version_line : List ℕ → Line
-version_line word = if bytes_eq word (codes "2") then Version else Bad
+-- the line in a journal of version 3, and no line of one of another version
+abbrev pub of_third : ℕ → Line → Line
+of_third version line = if version == 3 then line else Bad
 
--- a line of two words: `end COUNT`, `cut NODE` or `version 2`
+-- `version 2`, and in a journal of version 3 also `version 3`
+abbrev pub version_line : ℕ → List ℕ → Line
+version_line version word =
+    if bytes_eq word (codes "2") then Version2
+    else if bytes_eq word (codes "3") then of_third version Version3
+    else Bad
+
+-- a line of two words: `end COUNT`, `cut NODE` or a line `version`
 abbrev pub line_of_two : ScriptData → List ℕ → List ℕ → Line
 line_of_two script word a =
     if bytes_eq word (codes "end") then end_line (exact_number a)
     else if bytes_eq word (codes "cut") then cut_line (node_of script a)
-    else if bytes_eq word (codes "version") then version_line a
+    else if bytes_eq word (codes "version") then version_line script.version a
     else Bad
 
 -- `busy CLIENT CLIENT SET`
@@ -105,16 +112,24 @@ abbrev pub owner_line : Option ℕ → Option ℕ → Option ℕ → Line
 owner_line (Some set) (Some node) (Some epoch) = Owner set node epoch
 owner_line _ _ _ = Bad
 
--- `grant`, `wait`, `unlock`, `not_held` or `waiting`, and then `CLIENT SET MODE`
-abbrev pub lock_line : List ℕ → Option Holding → Line
-lock_line word None = Bad
-lock_line word (Some lock) =
+-- `withdrawn`, `void` or `withheld`, and then `CLIENT SET MODE`, in a journal of version 3
+abbrev pub void_line : ℕ → List ℕ → Holding → Line
+void_line version word lock =
+    if bytes_eq word (codes "withdrawn") then of_third version (EventLine (Withdrawn lock.client lock.set lock.mode))
+    else if bytes_eq word (codes "void") then of_third version (EventLine (Void lock.client lock.set lock.mode))
+    else if bytes_eq word (codes "withheld") then of_third version (EventLine (Withheld lock.client lock.set lock.mode))
+    else Bad
+
+-- `grant`, `wait`, `unlock`, `not_held` or `waiting`, and then `CLIENT SET MODE`, or one of those lines
+abbrev pub lock_line : ℕ → List ℕ → Option Holding → Line
+lock_line version word None = Bad
+lock_line version word (Some lock) =
     if bytes_eq word (codes "grant") then EventLine (Grant lock.client lock.set lock.mode)
     else if bytes_eq word (codes "wait") then EventLine (Wait lock.client lock.set lock.mode)
     else if bytes_eq word (codes "unlock") then EventLine (Unlock lock.client lock.set lock.mode)
     else if bytes_eq word (codes "not_held") then EventLine (NotHeld lock.client lock.set lock.mode)
     else if bytes_eq word (codes "waiting") then Waiting lock.client lock.set lock.mode
-    else Bad
+    else void_line version word lock
 
 -- a line of four words: `busy`, `token`, `owner`, or a word and a lock
 abbrev pub line_of_four : ScriptData → List ℕ → List ℕ → List ℕ → List ℕ → Line
@@ -122,7 +137,7 @@ line_of_four script word a b c =
     if bytes_eq word (codes "busy") then busy_line (client_number script a) (client_number script b) (set_number script c)
     else if bytes_eq word (codes "token") then token_line (set_number script a) (node_of script b) (exact_number c)
     else if bytes_eq word (codes "owner") then owner_line (set_number script a) (node_of script b) (exact_number c)
-    else lock_line word (lock_of script a b c)
+    else lock_line script.version word (lock_of script a b c)
 
 -- `move CLOCK NODE`, and what the move does
 abbrev pub move_line : Option ℕ → Option ℕ → Option Step → Line
@@ -176,6 +191,16 @@ abbrev pub drop_line : Option ℕ → Option ℕ → Option ℕ → Option ℕ �
 drop_line (Some client) (Some other) (Some set) (Some count) = EventLine (DropAll client other set count)
 drop_line _ _ _ _ = Bad
 
+-- `withdraw CLIENT CLIENT SET true` or `false`
+abbrev pub withdraw_line : Option ℕ → Option ℕ → Option ℕ → Option Bool → Line
+withdraw_line (Some client) (Some other) (Some set) (Some got) = EventLine (Withdraw client other set got)
+withdraw_line _ _ _ _ = Bad
+
+-- a line `withdraw` with these words for the clients, the set and what came of it, in a journal of version 3
+abbrev pub line_of_withdraw : ScriptData → List ℕ → List ℕ → List ℕ → List ℕ → Line
+line_of_withdraw script a b c d =
+    of_third script.version (withdraw_line (client_number script a) (client_number script b) (set_number script c) (bool_of d))
+
 -- `copy SET TO CLIENT MODE`
 abbrev pub copy_line : Option ℕ → Option ℕ → Option ℕ → Option Mode → Line
 copy_line (Some set) (Some to) (Some client) (Some mode) = EventLine (Copy set to client mode)
@@ -209,11 +234,12 @@ lock_and_line word (Some lock) d =
     else if bytes_eq word (codes "held") then held_line lock (exact_number d)
     else Bad
 
--- a line of five words, but for a `freeze`: `move`, `drop`, `copy`, or a word, a lock and a last word
+-- a line of five words, but for a `freeze`: `move`, `drop`, `withdraw`, `copy`, or a word, a lock and a last word
 abbrev pub line_of_five : ScriptData → List ℕ → List ℕ → List ℕ → List ℕ → List ℕ → Line
 line_of_five script word a b c d =
     if bytes_eq word (codes "move") then move_line (exact_number a) (node_of script b) (step_said script c d)
     else if bytes_eq word (codes "drop") then drop_line (client_number script a) (client_number script b) (set_number script c) (exact_number d)
+    else if bytes_eq word (codes "withdraw") then line_of_withdraw script a b c d
     else if bytes_eq word (codes "copy") then line_of_copy script a b c d
     else lock_and_line word (lock_of script a b c) d
 

@@ -1,8 +1,8 @@
--- The lines of a run: for version 2 the line `version 2`, those of each move and its events, and then the closing lines.
+-- The lines of a run: for version 2 or 3 the line `version`, those of each move and its events, and then the closing lines.
 use Rattle.std.specs.Prelude.{◌==◌, List, [], ◌∷◌, ◌++◌, ℕ, zero, suc, Option, Some, None, if◌then◌else◌, length, map, Bool, true, false, codes, filter, ◌≡◌, ◌⊎◌, flat_map, decimal}
 use Rattle.lt_modes.specs.declared.mode.Mode.{Mode}
 use Rattle.lt_modes.specs.declared.event.Event.{Event}
-use Rattle.lt_modes.specs.declared.event.Event.TheVariants.{Freeze, Grant, Wait, Try, Unlock, NotHeld, Change, DropAll, Busy, Copy, Token}
+use Rattle.lt_modes.specs.declared.event.Event.TheVariants.{Freeze, Grant, Wait, Try, Unlock, NotHeld, Change, DropAll, Busy, Withdraw, Withdrawn, Void, Withheld, Copy, Token}
 use Rattle.lt_modes.specs.FiveModes.{shown_in}
 use Rattle.lt_modes.specs.declared.parts.Link.{Link}
 use Rattle.lt_modes.specs.Script.{ScriptData, set_name, client_name}
@@ -13,7 +13,7 @@ use Rattle.lt_spec.specs.World.{Logged}
 use Rattle.lt_spec.specs.Holdings.{Holding, holding, holdings, times_held, wanted, owner_of, lines_of}
 use Rattle.lt_text.specs.Text.{after_space, spaced}
 use Rattle.lt_journal.specs.declared.line.Line.{Line}
-use Rattle.lt_journal.specs.declared.line.Line.TheVariants.{Version, Move as MoveLine, Event as EventLine, Held, Waiting, Owner, End, Cut, Bad}
+use Rattle.lt_journal.specs.declared.line.Line.TheVariants.{Version2, Version3, Move as MoveLine, Event as EventLine, Held, Waiting, Owner, End, Cut, Bad}
 
 -- the event as a journal of this version shows it: a freeze in version 1 without the sixth mode
 abbrev pub shown_event : ℕ → Event → Event
@@ -36,9 +36,9 @@ entry_lines version entry = MoveLine entry.made.stamp.clock entry.made.stamp.nod
 abbrev pub moves_lines : ℕ → List Logged → List Line
 moves_lines version entries = flat_map (entry_lines version) entries
 
--- the line before all moves, where the script has version 2
+-- the line before all moves, where the script has version 2 or 3
 abbrev pub first_lines : ℕ → List Line
-first_lines version = if version == 1 then [] else Version ∷ []
+first_lines version = if version == 1 then [] else if version == 2 then Version2 ∷ [] else Version3 ∷ []
 
 -- the lines of the numbers below n, in order
 abbrev pub lines_below : ℕ → (ℕ → List Line) → List Line
@@ -128,7 +128,7 @@ drop_words script first client other set = first ∷ client_name script client �
 abbrev pub letter_words : ScriptData → List ℕ → ℕ → ℕ → List (List ℕ)
 letter_words script first set to = first ∷ set_name script set ∷ decimal to ∷ []
 
--- the last word of a `try`
+-- the last word of a `try` or a `withdraw`
 abbrev pub word_of_bool : Bool → List ℕ
 word_of_bool true = codes "true"
 word_of_bool false = codes "false"
@@ -144,6 +144,11 @@ event_words script (Change client set gives_up mode) = lock_words script (codes 
 event_words script (DropAll client other set count) =
     drop_words script (codes "drop") client other set ++ decimal count ∷ []
 event_words script (Busy client other set) = drop_words script (codes "busy") client other set
+event_words script (Withdraw client other set got) =
+    drop_words script (codes "withdraw") client other set ++ word_of_bool got ∷ []
+event_words script (Withdrawn client set mode) = lock_words script (codes "withdrawn") client set mode
+event_words script (Void client set mode) = lock_words script (codes "void") client set mode
+event_words script (Withheld client set mode) = lock_words script (codes "withheld") client set mode
 event_words script (Copy set to client mode) =
     letter_words script (codes "copy") set to ++ client_name script client ∷ word_of mode ∷ []
 event_words script (Freeze set to number modes) =
@@ -160,13 +165,18 @@ further_words script (NotHeld client set mode) = []
 further_words script (Change client set gives_up mode) = word_of mode ∷ []
 further_words script (DropAll client other set count) = decimal count ∷ []
 further_words script (Busy client other set) = []
+further_words script (Withdraw client other set got) = word_of_bool got ∷ []
+further_words script (Withdrawn client set mode) = []
+further_words script (Void client set mode) = []
+further_words script (Withheld client set mode) = []
 further_words script (Copy set to client mode) = client_name script client ∷ word_of mode ∷ []
 further_words script (Freeze set to number modes) = decimal number ∷ words_of_modes modes
 further_words script (Token set to epoch) = decimal epoch ∷ []
 
 -- the words of a line
 abbrev pub line_words : ScriptData → Line → List (List ℕ)
-line_words script Version = codes "version" ∷ codes "2" ∷ []
+line_words script Version2 = codes "version" ∷ codes "2" ∷ []
+line_words script Version3 = codes "version" ∷ codes "3" ∷ []
 line_words script (MoveLine clock node step) = codes "move" ∷ decimal clock ∷ decimal node ∷ step_words script step
 line_words script (EventLine event) = event_words script event
 line_words script (Held client set mode count) = lock_words script (codes "held") client set mode ++ decimal count ∷ []

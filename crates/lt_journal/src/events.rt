@@ -80,6 +80,17 @@ fn first_words(text: &mut Text, script: &Script, event: &Event) -> Result<(), Al
             ..
         } => drop_words(text, script, "drop", client, other, set),
         Event::Busy { client, other, set } => drop_words(text, script, "busy", client, other, set),
+        Event::Withdraw {
+            client,
+            other,
+            set,
+            ..
+        } => drop_words(text, script, "withdraw", client, other, set),
+        Event::Withdrawn { client, set, mode } => {
+            lock(text, script, b"withdrawn", client, set, mode)
+        }
+        Event::Void { client, set, mode } => lock(text, script, b"void", client, set, mode),
+        Event::Withheld { client, set, mode } => lock(text, script, b"withheld", client, set, mode),
         Event::Copy { set, to, .. } => set_and_node(text, script, "copy", set, to),
         Event::Freeze { set, to, .. } => set_and_node(text, script, "freeze", set, to),
         Event::Token { set, to, .. } => set_and_node(text, script, "token", set, to),
@@ -91,7 +102,9 @@ fn further_words(text: &mut Text, script: &Script, event: Event) -> Result<(), A
     ensures { OnOk result (text.new ≡ text.old ++ flat_map after_space (further_words script.now event)) }
 {
     match event {
-        Event::Try { got, .. } => text.word(if got { b"true" } else { b"false" }),
+        Event::Try { got, .. } | Event::Withdraw { got, .. } => {
+            text.word(if got { b"true" } else { b"false" })
+        }
         Event::Change { mode, .. } => text.word(mode.word().as_bytes()),
         Event::DropAll { count, .. } => text.number(count),
         Event::Copy { client, mode, .. } => {
@@ -107,7 +120,10 @@ fn further_words(text: &mut Text, script: &Script, event: Event) -> Result<(), A
         | Event::Wait { .. }
         | Event::Unlock { .. }
         | Event::NotHeld { .. }
-        | Event::Busy { .. } => Ok(()),
+        | Event::Busy { .. }
+        | Event::Withdrawn { .. }
+        | Event::Void { .. }
+        | Event::Withheld { .. } => Ok(()),
     }
 }
 

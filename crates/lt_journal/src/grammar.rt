@@ -1,7 +1,7 @@
 ghost use Rattle.std.specs.Prelude.{◌≡◌, ◌∷◌, Some, unwrap_or};
 ghost use Rattle.lt_text.specs.Text.{fields};
 ghost use Rattle.lt_journal.specs.declared.line.Line.TheVariants.{Bad};
-ghost use Rattle.lt_journal.specs.Grammar.{read_line, line_of, line_of_two, line_of_four, line_of_five, line_of_copy, line_of_freeze, lock_line, lock_and_line};
+ghost use Rattle.lt_journal.specs.Grammar.{read_line, line_of, of_third, version_line, line_of_two, line_of_four, line_of_five, line_of_copy, line_of_withdraw, line_of_freeze, void_line, lock_line, lock_and_line};
 
 use crate::line::Line;
 use crate::meaning::{bool_of, lock, modes, node, step};
@@ -56,7 +56,7 @@ fn line_of_more(script: &Script, word: &[u8], a: &[u8], rest: &[u8]) -> Option<L
     line_of_five(script, word, a, b, c, d)
 }
 
-// A line of two words: `end COUNT`, `cut NODE` or `version 2`.
+// A line of two words: `end COUNT`, `cut NODE` or a line `version`.
 fn line_of_two(script: &Script, word: &[u8], a: &[u8]) -> Option<Line>
     ensures { unwrap_or result Bad ≡ line_of_two script.now word.now a.now }
 {
@@ -66,11 +66,31 @@ fn line_of_two(script: &Script, word: &[u8], a: &[u8]) -> Option<Line>
     } else if is(word, "cut") {
         let node = node(script, a)?;
         Some(Line::Cut { node })
-    } else if is(word, "version") && is(a, "2") {
-        Some(Line::Version)
+    } else if is(word, "version") {
+        version_line(script.version(), a)
     } else {
         None
     }
+}
+
+// A line `version 2`, and in a journal of version 3 also `version 3`.
+fn version_line(version: u8, word: &[u8]) -> Option<Line>
+    ensures { unwrap_or result Bad ≡ version_line version word.now }
+{
+    if is(word, "2") {
+        Some(Line::Version2)
+    } else if is(word, "3") {
+        of_third(version, Line::Version3)
+    } else {
+        None
+    }
+}
+
+// The line in a journal of version 3; none in one of another version.
+fn of_third(version: u8, line: Line) -> Option<Line>
+    ensures { unwrap_or result Bad ≡ of_third version line }
+{
+    if version == 3 { Some(line) } else { None }
 }
 
 // A line of four words.
@@ -93,13 +113,13 @@ fn line_of_four(script: &Script, word: &[u8], a: &[u8], b: &[u8], c: &[u8]) -> O
         let epoch = exact_number(c)?;
         Some(Line::Owner { set, node, epoch })
     } else {
-        lock_line(word, lock(script, a, b, c)?)
+        lock_line(script.version(), word, lock(script, a, b, c)?)
     }
 }
 
 // A line of a word and a lock.
-fn lock_line(word: &[u8], lock: Holding) -> Option<Line>
-    ensures { unwrap_or result Bad ≡ lock_line word.now (Some lock) }
+fn lock_line(version: u8, word: &[u8], lock: Holding) -> Option<Line>
+    ensures { unwrap_or result Bad ≡ lock_line version word.now (Some lock) }
 {
     let Holding { client, set, mode } = lock;
     if is(word, "grant") {
@@ -112,6 +132,22 @@ fn lock_line(word: &[u8], lock: Holding) -> Option<Line>
         Some(Line::Event(Event::NotHeld { client, set, mode }))
     } else if is(word, "waiting") {
         Some(Line::Waiting { client, set, mode })
+    } else {
+        void_line(version, word, lock)
+    }
+}
+
+// A line of such a word and a lock that is of journals of version 3 alone.
+fn void_line(version: u8, word: &[u8], lock: Holding) -> Option<Line>
+    ensures { unwrap_or result Bad ≡ void_line version word.now lock }
+{
+    let Holding { client, set, mode } = lock;
+    if is(word, "withdrawn") {
+        of_third(version, Line::Event(Event::Withdrawn { client, set, mode }))
+    } else if is(word, "void") {
+        of_third(version, Line::Event(Event::Void { client, set, mode }))
+    } else if is(word, "withheld") {
+        of_third(version, Line::Event(Event::Withheld { client, set, mode }))
     } else {
         None
     }
@@ -144,11 +180,32 @@ fn line_of_five(
             set,
             count,
         }))
+    } else if is(word, "withdraw") {
+        withdraw(script, a, b, c, d)
     } else if is(word, "copy") {
         copy(script, a, b, c, d)
     } else {
         lock_and_line(word, lock(script, a, b, c)?, d)
     }
+}
+
+// A line `withdraw CLIENT CLIENT SET true` or `false`, which is of journals of version 3 alone.
+fn withdraw(script: &Script, a: &[u8], b: &[u8], c: &[u8], d: &[u8]) -> Option<Line>
+    ensures { unwrap_or result Bad ≡ line_of_withdraw script.now a.now b.now c.now d.now }
+{
+    if script.version() != 3 {
+        return None;
+    }
+    let client = script.client_number(a)?;
+    let other = script.client_number(b)?;
+    let set = script.set_number(c)?;
+    let got = bool_of(d)?;
+    Some(Line::Event(Event::Withdraw {
+        client,
+        other,
+        set,
+        got,
+    }))
 }
 
 // A line `copy SET TO CLIENT MODE`.

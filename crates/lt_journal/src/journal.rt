@@ -51,14 +51,15 @@ pub fn write_closing(
     Ok(text.into_bytes())
 }
 
-// Writes the line before all moves, where there is one: `version 2`.
+// Writes the line before all moves, where there is one: `version 2` or `version 3`.
 fn first_lines(text: &mut Text, script: &Script) -> Result<(), AllocError>
     ensures { OnOk result (text.new ≡ text.old ++ lines_text script.now (first_lines script.now.version)) }
 {
-    if script.version() == 1 {
-        return Ok(());
+    match script.version() {
+        1 => Ok(()),
+        2 => write_lines(text, script, &[Line::Version2]),
+        _ => write_lines(text, script, &[Line::Version3]),
     }
-    write_lines(text, script, &[Line::Version])
 }
 
 // Writes the lines of all moves, and those after them.

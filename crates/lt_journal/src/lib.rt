@@ -15,6 +15,10 @@
 //! | `change CLIENT SET MODE MODE` | a lock of the first mode becomes one of the second |
 //! | `drop CLIENT CLIENT SET COUNT` | the first client drops the locks of the second in the set's family |
 //! | `busy CLIENT CLIENT SET` | the second client waits, so none are dropped |
+//! | `withdraw CLIENT CLIENT SET true` or `false` | what the second client waited for is given up, or it didn't wait |
+//! | `withdrawn CLIENT SET MODE` | the client waited for this, and waits no more |
+//! | `void CLIENT SET MODE` | an ask that was given up is answered, and nothing is granted |
+//! | `withheld CLIENT SET MODE` | the client can't ask while one that it gave up is unanswered |
 //! | `copy SET TO CLIENT MODE` | a copy of the token goes to a node, for this client |
 //! | `freeze SET TO NUMBER MODES` | a node is told which modes are frozen: their words, or `none` |
 //! | `token SET TO EPOCH` | the token goes to a node |
@@ -29,11 +33,13 @@
 //! | `end COUNT` | last, with the number of moves |
 //! | `cut NODE` | in place of the others, for a run that was cut |
 //!
-//! The journal of a script of version 2 has the line `version 2` before all others.
+//! The journal of a script of version 2 has the line `version 2` before all others, and that of one of version 3 the
+//! line `version 3`.
 //!
 //! Names are those of the script, numbers are below 2^64, and node numbers are below the script's number of
-//! nodes. A line that has none of these forms is bad. An input may hold a script and its journal, with the
-//! line `journal` between them.
+//! nodes. A line that has none of these forms is bad, and so is `version 3`, `withdraw`, `withdrawn`, `void` or
+//! `withheld` in the journal of a script of another version than 3. An input may hold a script and its
+//! journal, with the line `journal` between them.
 #![tactic(auto)]
 
 mod closing;

@@ -7,7 +7,9 @@ use std::alloc::AllocError;
 #[derive(Clone, Copy, Debug, PartialEq, Eq)]
 pub enum Line {
     /// The first line of a journal of version 2.
-    Version,
+    Version2,
+    /// The first line of a journal of version 3.
+    Version3,
     /// The start of a move.
     Move {
         clock: u64,

@@ -23,9 +23,13 @@ pub fn write_words(text: &mut Text, script: &Script, line: Line) -> Result<(), A
     ensures { OnOk result (text.new ≡ text.old ++ spaced (line_words script.now line)) }
 {
     match line {
-        Line::Version => {
+        Line::Version2 => {
             text.first_word("version")?;
             text.word(b"2")
+        }
+        Line::Version3 => {
+            text.first_word("version")?;
+            text.word(b"3")
         }
         Line::Move { clock, node, step } => words_of_move(text, script, clock, node, step),
         Line::Event(event) => words_of_event(text, script, event),

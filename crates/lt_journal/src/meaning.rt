@@ -51,7 +51,7 @@ pub(crate) fn lock(script: &Script, client: &[u8], set: &[u8], mode: &[u8]) -> O
     Some(Holding { client, set, mode })
 }
 
-/// Whether a `try` got its lock.
+/// Whether a `try` got its lock, or a `withdraw` gave something up.
 pub(crate) fn bool_of(word: &[u8]) -> Option<bool>
     ensures { result ≡ bool_of word.now }
 {

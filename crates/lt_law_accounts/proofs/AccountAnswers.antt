@@ -1,5 +1,5 @@
 -- Asks that the desk here or a copy answers keep the account of their node.
-use Rattle.std.proofs.Common.{◌≡◌, ◌≢◌, inl, inr, List, Bool, false, sym, ap, subst, ◌∙◌, ◌⊎◌, if◌then◌else◌, Contains, IsTrue, IsFalse}
+use Rattle.std.proofs.Common.{◌≡◌, ◌≢◌, inl, inr, List, Bool, false, sym, ap, subst, ◌∙◌, ◌⊎◌, if◌then◌else◌, Contains, IsTrue, IsFalse, refl}
 use Rattle.std.proofs.lemmas.Bool.{both_ways, false_from_ne_true}
 use Rattle.lt_modes.specs.declared.mode.Mode.{Mode}
 use Rattle.lt_modes.specs.declared.ask.Ask.{Ask}
@@ -10,10 +10,10 @@ use Rattle.lt_modes.specs.Serving.{answered}
 use Rattle.lt_modes.specs.Sound.{ChargeKept}
 use Rattle.lt_modes.proofs.ModeAlgebra.{conflicts-sym, union_bars_both}
 use Rattle.lt_law_accounts.specs.Account.{Account, AccountKept, ClocksKept, AsksKnown, CopiesOwed, Covers, IsBelow, own_of, owed_and_waiting, now_modes, left_after, IsFreshTell}
-use Rattle.lt_law_accounts.specs.AccountSteps.{IsLoss, MayAnswer, answering, MayDeliver, delivering}
-use Rattle.lt_law_accounts.specs.AccountPlay.{AnswersKeep, Delivers}
+use Rattle.lt_law_accounts.specs.AccountSteps.{IsLoss, MayAnswer, answering, MayDeliver, delivering, MayVoid, voiding, voiding_copy}
+use Rattle.lt_law_accounts.specs.AccountPlay.{AnswersKeep, Delivers, Voids, VoidsCopies}
 use Rattle.lt_law_accounts.proofs.AccountFacts.{same_by_stamp, still_owed-which, still_owed-at, bars_not, below_by_members, copy_is_waiting, held_below_charge, has-union, has-left, has-right, has-kept, has-added, has-with_mode, mode_which, mode_at}
-use Rattle.lt_law_accounts.proofs.AccountGrants.{charge_in_move, below_one_more, clear_one_more, counts_less, counts_one_more}
+use Rattle.lt_law_accounts.proofs.AccountGrants.{charge_in_move, below_one_more, clear_one_more, counts_less, counts_one_more, clear_fewer}
 use Rattle.lt_law_accounts.proofs.Rows.{AreOneMore, held-at, held_one_more, others-at, rows_granted}
 use Rattle.lt_law_accounts.proofs.Asks.{without_only, without_kept, without_gone, without_apart}
 
@@ -226,3 +226,48 @@ delivers_kept a ask copies h may = (
       | inr same ↦ subst (λ (x : Mode). IsTrue (has x (own_of a))) same
           (has-right ask.mode (held_modes a.held) (owed_and_waiting a) (copy_is_waiting a h.owed ask may.came))
     ]
+
+-- the own part has no mode more where no lock is gained
+own_no_more : (a : Account) (ask : Ask) (charge : Modes) (copies : List Ask) (mode : Mode)
+    → IsTrue (has mode (own_of (record a { pending = without a.pending ask.stamp; charge = charge; copies = copies }))) → IsTrue (has mode (own_of a))
+own_no_more a ask charge copies mode h =
+    elim (has-union mode (held_modes a.held) (modes_of_owed (still_owed (without a.pending ask.stamp) a.entry.owed)) h) [
+      | inl lock ↦ has-left mode (held_modes a.held) (owed_and_waiting a) lock
+      | inr owed ↦ has-right mode (held_modes a.held) (owed_and_waiting a) (waiting_before a ask mode owed)
+    ]
+
+-- an ask that was given up leaves, with nothing in its place
+pub voids_kept : Voids
+voids_kept a ask h may = (
+  record {
+    clocks = clocks_answered a ask h;
+    known = known_answered a ask h;
+    owed = owed_answered a ask a.copies h may.waits (record { only = λ x c. c; kept = λ x c. inl c }) may.alone;
+    charge = h.charge;
+    cover = h.cover;
+    clear = h.clear;
+  },
+  counts_less a.here (own_of a) (record_of a.entry) (own_of (voiding ask a)) (record_of a.entry)
+      (λ here. below_by_members (own_of (voiding ask a)) (own_of a) (own_no_more a ask a.charge a.copies)) (λ away m bar. bar),
+)
+
+-- so it does by a copy, which is charged all the same
+pub voids_copies_kept : VoidsCopies
+voids_copies_kept a ask copies h may = (
+  record {
+    clocks = clocks_answered a ask h;
+    known = known_answered a ask h;
+    owed = owed_answered a ask copies h (h.owed.waits ask may.came) may.left may.once;
+    charge = λ away. subst (λ (t : Bool). ChargeKept a.moving (held_modes a.held) (charge_of a ask t)) (sym away)
+        (charge_in_move a.moving (held_modes a.held) (with_mode a.charge ask.mode) may.moves (below_charge away));
+    cover = λ away. subst (λ (t : Bool). Covers (charge_of a ask t) a.entry a.tells copies) (sym away)
+        (cover_delivered a ask copies (h.cover away) may.came may.left);
+    clear = clear_fewer a (voiding_copy ask copies a) h.clear (λ row c. record { old = row; found = c; client = refl; mode = refl }) may.left.only;
+  },
+  counts_less a.here (own_of a) (record_of a.entry) (own_of (voiding_copy ask copies a)) (record_of a.entry)
+      (λ here. below_by_members (own_of (voiding_copy ask copies a)) (own_of a) (own_no_more a ask (charge_of a ask a.here) copies)) (λ away m bar. bar),
+)
+  where
+    below_charge : a.here ≡ false → IsBelow (held_modes a.held) (with_mode a.charge ask.mode)
+    below_charge away m bar =
+        (union_bars_both conflicts a.charge (one ask.mode) m).1 (inl (held_below_charge a.moving (held_modes a.held) a.charge (h.charge away) m bar))

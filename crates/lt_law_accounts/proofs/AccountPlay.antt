@@ -12,13 +12,13 @@ use Rattle.lt_modes.specs.declared.ask.Ask.{Ask}
 use Rattle.lt_lists.specs.Below.{put}
 use Rattle.lt_lists.proofs.Puts.{put-same, put-other}
 use Rattle.lt_law_accounts.specs.Account.{Account, AccountKept, Bars, AreClear, counted, owed_and_waiting, OwedAreOnWay, OnWayAreOwed, TellKeepsWaiting, TwiceIsOnce, RecordBoundsHeld}
-use Rattle.lt_law_accounts.specs.AccountPlay.{CountsSame, CountsLess, CountsOneMore, AccountStep, Tick, Wait, Grant, Unlock, Drop, Answer, Owe, Deliver, Apply, Say, Settle, Arrive, Rest, Freeze, Reorder, after_step, MayStep, others_counted, after_one, AllClear, AllKept, CountsOn, ClearStays, first_account, FirstAccounts, LocksAgree, AnyOrder, FromTheStart}
+use Rattle.lt_law_accounts.specs.AccountPlay.{CountsSame, CountsLess, CountsOneMore, AccountStep, Tick, Wait, Grant, Unlock, Drop, Answer, Owe, Deliver, Apply, Say, Settle, Arrive, Rest, Freeze, Reorder, after_step, MayStep, others_counted, after_one, AllClear, AllKept, CountsOn, ClearStays, first_account, FirstAccounts, LocksAgree, AnyOrder, FromTheStart, Void, VoidCopy}
 use Rattle.lt_law_accounts.proofs.AccountFacts.{has-with_mode, waiting_is_copy, copy_is_waiting, asks_which, asks_at, left_owed-at, held_below_now, open-cases, open_later}
 use Rattle.lt_law_accounts.proofs.AccountTells.{empty_is_kept, stale_kept, tells_kept}
 use Rattle.lt_law_accounts.proofs.AccountAsks.{ticks_kept, asks_kept, rests_kept, freezes_kept, reorders_kept}
 use Rattle.lt_law_accounts.proofs.Rows.{held-at}
 use Rattle.lt_law_accounts.proofs.AccountGrants.{grants_kept, unlocks_kept, drops_kept}
-use Rattle.lt_law_accounts.proofs.AccountAnswers.{answers_kept, delivers_kept}
+use Rattle.lt_law_accounts.proofs.AccountAnswers.{answers_kept, delivers_kept, voids_kept, voids_copies_kept}
 use Rattle.lt_law_accounts.proofs.AccountApplies.{applies_kept, settles_kept, arrives_kept, hold_clear}
 use Rattle.lt_law_accounts.proofs.AccountDesk.{owes_kept}
 use Rattle.lt_law_accounts.specs.AccountSteps.{HaveSame, reordering, freezing}
@@ -112,6 +112,8 @@ one_step n accounts x here h (Drop client) may = steps_less n accounts x _ (drop
 one_step n accounts x here h (Answer ask) may = steps_more n accounts x ask.mode _ (answers_kept (accounts x) (others_counted n accounts x) ask (h.kept x here) may)
 one_step n accounts x here h (Owe ask copies) may = steps_more n accounts x ask.mode _ (owes_kept (accounts x) (others_counted n accounts x) ask copies (h.kept x here) may)
 one_step n accounts x here h (Deliver ask copies) may = steps_less n accounts x _ (delivers_kept (accounts x) ask copies (h.kept x here) may)
+one_step n accounts x here h (Void ask) may = steps_less n accounts x _ (voids_kept (accounts x) ask (h.kept x here) may)
+one_step n accounts x here h (VoidCopy ask copies) may = steps_less n accounts x _ (voids_copies_kept (accounts x) ask copies (h.kept x here) may)
 one_step n accounts x here h (Apply tell tells) may = by_order (is_newer tell.stamp (accounts x).entry.told_at) refl
   where
     by_order : (newer : Bool) → is_newer tell.stamp (accounts x).entry.told_at ≡ newer → Steps n accounts x (after_step (Apply tell tells) (accounts x))

@@ -9,7 +9,7 @@ use Rattle.lt_modes.specs.Serving.{is_newer}
 use Rattle.lt_modes.specs.declared.parts.Row.{Row}
 use Rattle.lt_lists.specs.Below.{put}
 use Rattle.lt_law_accounts.specs.Account.{Account, AccountKept, Bars, IsBelow, AreClear, counted}
-use Rattle.lt_law_accounts.specs.AccountSteps.{MayTick, ticked, MayAsk, asking, MayGrant, granting, unlocking, dropping, MayAnswer, answering, MayOwe, owing_copy, MayDeliver, delivering, MayApply, applying, MayTell, telling, MaySettle, settling, arriving, MayRest, resting, freezing, MayReorder, reordering}
+use Rattle.lt_law_accounts.specs.AccountSteps.{MayTick, ticked, MayAsk, asking, MayGrant, granting, unlocking, dropping, MayAnswer, answering, MayOwe, owing_copy, MayDeliver, delivering, MayApply, applying, MayTell, telling, MaySettle, settling, arriving, MayRest, resting, freezing, MayReorder, reordering, MayVoid, voiding, voiding_copy}
 
 -- what counts bars the same as before
 abbrev pub CountsSame : Account → Account → Type 0
@@ -61,6 +61,13 @@ abbrev pub Delivers : Type 0
 Delivers = (a : Account) (ask : Ask) (copies : List Ask) → AccountKept a → MayDeliver ask copies a
     → AccountKept (delivering ask copies a) × CountsLess a (delivering ask copies a)
 
+abbrev pub Voids : Type 0
+Voids = (a : Account) (ask : Ask) → AccountKept a → MayVoid ask a → AccountKept (voiding ask a) × CountsLess a (voiding ask a)
+
+abbrev pub VoidsCopies : Type 0
+VoidsCopies = (a : Account) (ask : Ask) (copies : List Ask) → AccountKept a → MayDeliver ask copies a
+    → AccountKept (voiding_copy ask copies a) × CountsLess a (voiding_copy ask copies a)
+
 abbrev pub Applies : Type 0
 Applies = (a : Account) (tell : Tell) (tells : List Tell) → AccountKept a → MayApply tell tells a
     → IsTrue (is_newer tell.stamp a.entry.told_at)
@@ -110,6 +117,8 @@ pub data AccountStep : Type 0 where
   Answer : Ask → AccountStep
   Owe : Ask → List Ask → AccountStep
   Deliver : Ask → List Ask → AccountStep
+  Void : Ask → AccountStep
+  VoidCopy : Ask → List Ask → AccountStep
   Apply : Tell → List Tell → AccountStep
   Say : Stamp → List Tell → AccountStep
   Settle : Stamp → AccountStep
@@ -127,6 +136,8 @@ after_step (Drop client) a = dropping client a
 after_step (Answer ask) a = answering ask a
 after_step (Owe ask copies) a = owing_copy ask copies a
 after_step (Deliver ask copies) a = delivering ask copies a
+after_step (Void ask) a = voiding ask a
+after_step (VoidCopy ask copies) a = voiding_copy ask copies a
 after_step (Apply tell tells) a = applying tell tells a
 after_step (Say stamp tells) a = telling tells a
 after_step (Settle stamp) a = settling stamp a
@@ -145,6 +156,8 @@ MayStep others (Drop client) a = a.moving ≡ true
 MayStep others (Answer ask) a = MayAnswer others ask a
 MayStep others (Owe ask copies) a = MayOwe others ask copies a
 MayStep others (Deliver ask copies) a = MayDeliver ask copies a
+MayStep others (Void ask) a = MayVoid ask a
+MayStep others (VoidCopy ask copies) a = MayDeliver ask copies a
 MayStep others (Apply tell tells) a = MayApply tell tells a
 MayStep others (Say stamp tells) a = MayTell stamp tells a
 MayStep others (Settle stamp) a = MaySettle stamp a

@@ -104,6 +104,22 @@ pub record MayDeliver (ask : Ask) (copies : List Ask) (a : Account) : Type 0 whe
   pub left : IsLoss ask a.copies copies
   pub once : Contains copies ask → ⊥
 
+-- void: an ask that was given up is answered at its node, and no lock is gained
+abbrev pub voiding : Ask → Account → Account
+voiding ask a = record a { pending = without a.pending ask.stamp }
+
+pub record MayVoid (ask : Ask) (a : Account) : Type 0 where
+  pub waits : Contains a.pending ask
+  pub alone : Contains a.copies ask → ⊥
+
+-- void a copy: a copy answers an ask that was given up; the charge grows all the same
+abbrev pub voiding_copy : Ask → List Ask → Account → Account
+voiding_copy ask copies a = record a {
+  pending = without a.pending ask.stamp;
+  charge = if a.here then a.charge else with_mode a.charge ask.mode;
+  copies = copies;
+}
+
 -- apply: the desk takes a tell of the node, newer than its entry or stale; these tells are left
 abbrev pub applying : Tell → List Tell → Account → Account
 applying tell tells a = record a { entry = told tell a.entry; tells = tells }

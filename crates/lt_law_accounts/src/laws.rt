@@ -1,4 +1,4 @@
-ghost use Rattle.lt_law_accounts.specs.AccountPlay.{Ticks, Ages, Asks, Grants, Unlocks, Drops, AnswersKeep, Owes, Delivers, Applies, AppliesStale, TellsKeep, Settles, Arrives, Rests, Freezes, Reorders, HoldClear, ClearStays, FirstAccounts, AnyOrder, FromTheStart};
+ghost use Rattle.lt_law_accounts.specs.AccountPlay.{Ticks, Ages, Asks, Grants, Unlocks, Drops, AnswersKeep, Owes, Delivers, Voids, VoidsCopies, Applies, AppliesStale, TellsKeep, Settles, Arrives, Rests, Freezes, Reorders, HoldClear, ClearStays, FirstAccounts, AnyOrder, FromTheStart};
 ghost use Rattle.lt_law_accounts.specs.Account.{OwedAreOnWay, OnWayAreOwed, TellKeepsWaiting, TwiceIsOnce, RecordBoundsHeld, DrawnByFirst, HolderEntersAfterHolders, OthersEnterLast, ParksBehindTakingAsk, KeepsFreezeOfSameNumber, TakesLaterFreeze};
 ghost use Rattle.lt_law_accounts.specs.News.{BeginsKeep, Changes, Sends, Spares, Keeps, TakesKeep, Leaves, Arrives as NewsArrive, Reorders as NewsReorder, FrozenAtRest};
 
@@ -14,6 +14,8 @@ pub fn law_account()
     ensures answers { AnswersKeep }
     ensures owes { Owes }
     ensures delivers { Delivers }
+    ensures voids { Voids }
+    ensures voids_copies { VoidsCopies }
     ensures applies { Applies }
     ensures stale { AppliesStale }
     ensures tells { TellsKeep }

@@ -14,7 +14,7 @@ use Rattle.lt_lists.proofs.AllLemmas.{all_append}
 use Rattle.lt_lists.proofs.Members.{some_equal}
 use Rattle.lt_spec.specs.NodeMove.{with_commands, SameAt, AreAt, share_of, home}
 use Rattle.lt_spec.specs.Holdings.{lines_of}
-use Rattle.lt_spec.specs.Script.{IsScript, IsRequest, HasModesOf}
+use Rattle.lt_spec.specs.Script.{IsScript, IsRequest, IsOfVersion}
 use Rattle.lt_spec.specs.World.{start, replies_of}
 use Rattle.lt_spec.specs.FixedOrder.{Plays}
 use Rattle.lt_spec.specs.declared.limits.TheConstants.{MAX_COMMANDS_OF_SERVICE}
@@ -160,9 +160,9 @@ module _ (first : ScriptData) (nodes : List NodeNow) (h : AreAllApart first node
         few_commands = few;
         requests = All-from_recursion (IsRequest first.sets first.clients) (commands_apart nodes)
             (all_in (IsRequest first.sets first.clients) nodes (λ k m here. recursion_from_All (IsRequest first.sets first.clients) m.commands (h.each k m here).is_script.requests));
-        modes = All-from_recursion (λ (request : ℕ × Command). HasModesOf first.version request.1) (commands_apart nodes)
-            (all_in (λ (request : ℕ × Command). HasModesOf first.version request.1) nodes
-            (λ k m here. recursion_from_All (λ (request : ℕ × Command). HasModesOf first.version request.1) m.commands (h.each k m here).is_script.modes));
+        modes = All-from_recursion (λ (request : ℕ × Command). IsOfVersion first.version request.1) (commands_apart nodes)
+            (all_in (λ (request : ℕ × Command). IsOfVersion first.version request.1) nodes
+            (λ k m here. recursion_from_All (λ (request : ℕ × Command). IsOfVersion first.version request.1) m.commands (h.each k m here).is_script.modes));
       }
 
   replies : length (commands_apart nodes) ≤ MAX_COMMANDS_OF_SERVICE → (client : ℕ) (n : NodeNow) → slice_get nodes (home first client) ≡ Some n

@@ -1,19 +1,20 @@
 -- Where a world rests, which moves are enabled, and which of them is first.
-use Rattle.std.proofs.Common.{◌≡◌, ◌≢◌, Bool, true, false, ℕ, zero, suc, ◌<◌, ◌≤◌, ◌-◌, List, [], ◌∷◌, length, Option, Some, None, inl, inr, refl, sym, ap, subst, ◌∙◌, arith, ◌&&◌, ◌==◌, ◌↔◌, not, nat_lt, if◌then◌else◌, IsTrue, IsFalse, IsNone, Contains, is_some, slice_get, option_map, eqb-true, eq-eqb, ne_eqb, ltb-true, ltb-false, lt-ltb}
-use Rattle.std.proofs.lemmas.Bool.{and_parts, and_from, or_cases, not-true, false_from_ne_true, false≢true, cases_eq}
+use Rattle.std.specs.List.{list_any}
+use Rattle.std.proofs.Common.{◌≡◌, ◌≢◌, Bool, true, false, ℕ, zero, suc, ◌<◌, ◌≤◌, ◌-◌, List, [], ◌∷◌, length, Option, Some, None, inl, inr, refl, sym, ap, subst, ◌∙◌, arith, ◌&&◌, ◌==◌, ◌↔◌, not, nat_lt, if◌then◌else◌, IsTrue, IsFalse, IsNone, Contains, is_some, slice_get, option_map, eqb-true, eq-eqb, ne_eqb, ltb-true, ltb-false, lt-ltb, ◌⊎◌, ◌||◌}
+use Rattle.std.proofs.lemmas.Bool.{and_parts, and_from, or_cases, not-true, false_from_ne_true, false≢true, cases_eq, or_left, or_right}
 use Rattle.lt_modes.specs.declared.ask.Ask.{Ask}
 use Rattle.lt_modes.specs.declared.moves.Step.{Step}
 use Rattle.lt_modes.specs.declared.moves.Step.TheVariants.{Act, Take}
 use Rattle.lt_modes.specs.Script.{ScriptData}
 use Rattle.lt_modes.specs.State.{Letter}
-use Rattle.lt_modes.specs.Serving.{waits}
-use Rattle.lt_spec.specs.NodeMove.{home, commands_of, node_waits, has_command}
-use Rattle.lt_spec.specs.World.{World, made_by, is_waiting, is_runnable, is_some_letter, has_mail, is_enabled, is_at_rest}
+use Rattle.lt_modes.specs.Serving.{waits, is_gone}
+use Rattle.lt_spec.specs.NodeMove.{home, commands_of, node_waits, has_command, next_command, withdraws_itself, is_free_at}
+use Rattle.lt_spec.specs.World.{World, made_by, is_waiting, is_runnable, is_some_letter, has_mail, is_enabled, is_at_rest, is_free_to_act}
 use Rattle.lt_spec.specs.FixedOrder.{Turn, act_turn, takes, next_act, act_after, acts_before, count_turns}
 use Rattle.lt_lists.specs.Below.{any_below}
 use Rattle.lt_lists.proofs.Searches.{any_below_at, Found, IsFirst, found}
 use Rattle.lt_lists.proofs.Members.{list_any-at, list_any-which, some_equal}
-use Rattle.lt_law_enabled.specs.OrderLaws.{RestsWithoutMove, MayAct, ActsWhereItMay, HasLetter, TakesWhereMailIs, StepBefore, IsFirstTurn, PicksFirst, PicksWithinCount}
+use Rattle.lt_law_enabled.specs.OrderLaws.{RestsWithoutMove, MayAct, ActsWhereItMay, HasLetter, TakesWhereMailIs, StepBefore, IsFirstTurn, PicksFirst, PicksWithinCount, WaitsForNothing}
 use Rattle.lt_law_enabled.proofs.Acts.{by_two, acts_order, after_this, no_place}
 use Rattle.lt_law_enabled.proofs.Takes.{IsFirstTake, first_take, none_taken, receiver_inside}
 
@@ -46,22 +47,39 @@ act_from script w client inside runs =
     (and_from (home script client == home script client) (is_runnable script w client) (eq-eqb (home script client) (home script client) refl) runs)
 
 runs_where : (script : ScriptData) (w : World) (client : ℕ) → is_runnable script w client ≡ true
-    → (is_waiting script w client ≡ false) × (made_by script w client < length (commands_of script client))
+    → (is_free_to_act script w client ≡ true) × (made_by script w client < length (commands_of script client))
 runs_where script w client e =
-    let parts = and_parts (not (is_waiting script w client)) (has_command script (w.node (home script client)) client) e in
-    (not-true (is_waiting script w client) parts.0, ltb-true (made_by script w client) (length (commands_of script client)) parts.1)
+    let parts = and_parts (is_free_to_act script w client) (has_command script (w.node (home script client)) client) e in
+    (parts.0, ltb-true (made_by script w client) (length (commands_of script client)) parts.1)
 
 waits_not : (script : ScriptData) (w : World) (client q : ℕ) → node_waits script (w.node q) client ≡ false
-    → (s : ℕ) → s < length script.sets → (ask : Ask) → Contains ((w.node q).set s).pending ask → ask.client ≢ client
-waits_not script w client q fails s inside ask known same =
+    → WaitsForNothing script (w.node q) client
+waits_not script w client q fails s inside ask known live same =
+    let t = (w.node q).set s in
     false≢true (sym fails ∙ any_below_at (length script.sets) s (λ s. waits ((w.node q).set s) client) inside
-    (list_any-at (λ (ask : Ask). ask.client == client) ((w.node q).set s).pending ask known (eq-eqb ask.client client same)))
+    (and_from (list_any (λ (ask : Ask). ask.client == client) t.pending) (not (is_gone t client))
+    (list_any-at (λ (ask : Ask). ask.client == client) t.pending ask known (eq-eqb ask.client client same)) (ap not live)))
 
-no_wait : (script : ScriptData) (w : World) (client q : ℕ) → ((s : ℕ) → s < length script.sets → (ask : Ask) → Contains ((w.node q).set s).pending ask → ask.client ≢ client)
+no_wait : (script : ScriptData) (w : World) (client q : ℕ) → WaitsForNothing script (w.node q) client
     → node_waits script (w.node q) client ≡ false
 no_wait script w client q none = any_below_not (length script.sets) (λ s. waits ((w.node q).set s) client) (λ s inside e.
-    let found = list_any-which (λ (ask : Ask). ask.client == client) ((w.node q).set s).pending e in
-    none s inside found.0 found.1 (eqb-true found.0.client client found.2))
+    let t = (w.node q).set s in
+    let parts = and_parts (list_any (λ (ask : Ask). ask.client == client) t.pending) (not (is_gone t client)) e in
+    let found = list_any-which (λ (ask : Ask). ask.client == client) t.pending parts.0 in
+    none s inside found.0 found.1 (not-true (is_gone t client) parts.1) (eqb-true found.0.client client found.2))
+
+-- the client is free to act exactly where it waits for nothing, or gives up what it waits for
+free_where : (script : ScriptData) (w : World) (client q : ℕ) → is_free_at script (w.node q) client ≡ true
+    → WaitsForNothing script (w.node q) client ⊎ (withdraws_itself (w.node q) client (next_command script (w.node q) client) ≡ true)
+free_where script w client q e = elim (or_cases (not (node_waits script (w.node q) client)) (withdraws_itself (w.node q) client (next_command script (w.node q) client)) e) [
+  | inl idle ↦ inl (waits_not script w client q (not-true (node_waits script (w.node q) client) idle))
+  | inr itself ↦ inr itself
+]
+
+free_from : (script : ScriptData) (w : World) (client q : ℕ)
+    → WaitsForNothing script (w.node q) client ⊎ (withdraws_itself (w.node q) client (next_command script (w.node q) client) ≡ true) → is_free_at script (w.node q) client ≡ true
+free_from script w client q (inl none) = or_left (not (node_waits script (w.node q) client)) _ (ap not (no_wait script w client q none))
+free_from script w client q (inr itself) = or_right (not (node_waits script (w.node q) client)) _ itself
 
 pub acts_where : ActsWhereItMay
 acts_where script w q client = (only, all)
@@ -73,7 +91,7 @@ acts_where script w q client = (only, all)
         record {
           declared = parts.0;
           at_home = parts.1;
-          answered = waits_not script w client q (subst (λ (x : ℕ). node_waits script (w.node x) client ≡ false) parts.1 runs.0);
+          answered = free_where script w client q (subst (λ (x : ℕ). is_free_at script (w.node x) client ≡ true) parts.1 runs.0);
           command_left = subst (λ (x : ℕ). (w.node x).made client < length (commands_of script client)) parts.1 runs.1;
         }
 
@@ -81,8 +99,8 @@ acts_where script w q client = (only, all)
     all may =
         subst (λ (x : ℕ). is_enabled script w x (Act client) ≡ true) may.at_home
         (act_from script w client may.declared
-        (and_from (not (is_waiting script w client)) (has_command script (w.node (home script client)) client)
-        (ap not (no_wait script w client (home script client) (subst (λ (x : ℕ). (s : ℕ) → s < length script.sets → (ask : Ask) → Contains ((w.node x).set s).pending ask → ask.client ≢ client) (sym may.at_home) may.answered)))
+        (and_from (is_free_to_act script w client) (has_command script (w.node (home script client)) client)
+        (subst (λ (x : ℕ). is_free_at script (w.node x) client ≡ true) (sym may.at_home) (free_from script w client q may.answered))
         (lt-ltb (made_by script w client) (length (commands_of script client)) (subst (λ (x : ℕ). (w.node x).made client < length (commands_of script client)) (sym may.at_home) may.command_left))))
 
 -- takes

@@ -1,10 +1,11 @@
 -- Where a world rests, which moves are enabled, and how they stand in the fixed order.
-use Rattle.std.specs.Prelude.{◌≡◌, ◌≢◌, ◌<◌, ◌≤◌, ◌⊎◌, ◌↔◌, ℕ, [], length, Some, IsTrue, IsFalse, IsNone, Contains}
+use Rattle.lt_modes.specs.Serving.{is_gone}
+use Rattle.std.specs.Prelude.{◌≡◌, ◌≢◌, ◌<◌, ◌≤◌, ◌⊎◌, ◌↔◌, ℕ, [], length, Some, IsTrue, IsFalse, IsNone, Contains, true, false}
 use Rattle.lt_modes.specs.declared.ask.Ask.{Ask}
 use Rattle.lt_modes.specs.declared.moves.Step.{Step}
 use Rattle.lt_modes.specs.declared.moves.Step.TheVariants.{Act, Take}
 use Rattle.lt_modes.specs.Script.{ScriptData}
-use Rattle.lt_spec.specs.NodeMove.{home, commands_of}
+use Rattle.lt_spec.specs.NodeMove.{home, commands_of, NodeState, next_command, withdraws_itself}
 use Rattle.lt_spec.specs.World.{World, made_by, is_enabled, is_at_rest}
 use Rattle.lt_spec.specs.FixedOrder.{Turn, count_turns, pick}
 
@@ -13,11 +14,17 @@ abbrev pub RestsWithoutMove : Type 0
 RestsWithoutMove = (script : ScriptData) (w : World)
     → IsTrue (is_at_rest script w) ↔ ((q : ℕ) (step : Step) → IsFalse (is_enabled script w q step))
 
--- the client is of the script and of node q, no ask of it is unanswered there, and it has a command left
+-- no ask of the client is unanswered at the node that it didn't give up
+abbrev pub WaitsForNothing : ScriptData → NodeState → ℕ → Type 0
+WaitsForNothing script n client = (s : ℕ) → s < length script.sets → (ask : Ask) → Contains (n.set s).pending ask
+    → is_gone (n.set s) client ≡ false → ask.client ≢ client
+
+-- the client is of the script and of node q, it waits for nothing, or its next command gives up what it waits for, and it has
+-- a command left
 pub record MayAct (script : ScriptData) (w : World) (q client : ℕ) : Type 0 where
   pub declared : client < length script.clients
   pub at_home : home script client ≡ q
-  pub answered : (s : ℕ) → s < length script.sets → (ask : Ask) → Contains ((w.node q).set s).pending ask → ask.client ≢ client
+  pub answered : WaitsForNothing script (w.node q) client ⊎ (withdraws_itself (w.node q) client (next_command script (w.node q) client) ≡ true)
   pub command_left : (w.node q).made client < length (commands_of script client)
 
 -- an act is enabled exactly where its client may act

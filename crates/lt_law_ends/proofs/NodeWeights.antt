@@ -5,7 +5,7 @@ use Rattle.std.proofs.lemmas.Bool.{cases_eq, and_parts}
 use Rattle.std.proofs.lemmas.List.Sums.{sum_by-append, sum_by-cons}
 use Rattle.lt_modes.specs.declared.stamp.Stamp.{Stamp}
 use Rattle.lt_modes.specs.declared.command.Command.{Command}
-use Rattle.lt_modes.specs.declared.command.Command.TheVariants.{Lock, Unlock, Try, Change, DropAll}
+use Rattle.lt_modes.specs.declared.command.Command.TheVariants.{Lock, Unlock, Try, Change, DropAll, Withdraw}
 use Rattle.lt_modes.specs.declared.moves.Step.TheVariants.{Act}
 use Rattle.lt_modes.specs.Script.{ScriptData, SetData}
 use Rattle.lt_modes.specs.State.{SetState, Letter, Made, Post}
@@ -15,7 +15,7 @@ use Rattle.lt_lists.specs.Below.{put}
 use Rattle.lt_lists.proofs.Puts.{put-same, put-other}
 use Rattle.lt_lists.proofs.Sums.{sum_below-change}
 use Rattle.lt_spec.specs.NodeMove.{commands_of, home, family, related, NodeState, NodeMade, node_waits, has_command, next_command, touched, each_touched, drop_all, obey, act_stamp, at_clock, one_made, node_act, HasTargetsAt}
-use Rattle.lt_spec.specs.World.{World, made_by, is_waiting, is_runnable, is_enabled, after_made, after}
+use Rattle.lt_spec.specs.World.{World, made_by, is_waiting, is_runnable, is_enabled, after_made, after, is_free_to_act}
 use Rattle.lt_model.specs.PathEffects.{posts_weight}
 use Rattle.lt_model.proofs.HomesMove.{related_below}
 use Rattle.lt_law_ends.specs.Weights.{tell_weight, ask_weight, letter_weight, state_weight, command_cost, node_weight}
@@ -123,6 +123,11 @@ obey_weighs script most stamp client (Change s gives_up mode) n targets fits =
     touched_weighs script most more s n _ targets fits
     (weighs_within script.nodes most more (n.set s) _
     ((weighs_moves script.nodes most (state_weight script.nodes most (n.set s) + more) s stamp).changes client gives_up mode (n.set s) [] (fits s targets, omega arith)))
+obey_weighs script most stamp client (Withdraw other s) n targets fits =
+    let more = ask_weight script.nodes most in
+    touched_weighs script most more s n _ targets.0 fits
+    (weighs_within script.nodes most more (n.set s) _
+    ((weighs_moves script.nodes most (state_weight script.nodes most (n.set s) + more) s stamp).withdraws client other (n.set s) [] (fits s targets.0, omega arith)))
 obey_weighs script most stamp client (DropAll other s) n targets fits =
     drop_all_weighs script most stamp client other s n (node_waits script n other) fits
 
@@ -152,6 +157,7 @@ obey-made script stamp client (Some (Lock s mode)) n c = refl
 obey-made script stamp client (Some (Try s mode)) n c = refl
 obey-made script stamp client (Some (Unlock s mode)) n c = refl
 obey-made script stamp client (Some (Change s gives_up mode)) n c = refl
+obey-made script stamp client (Some (Withdraw other s)) n c = refl
 obey-made script stamp client (Some (DropAll other s)) n c = drop-made (node_waits script n other) stamp client other s (related script s) n c
 
 -- a client that can act has a command left
@@ -159,7 +165,7 @@ pub commands_inside : (script : ScriptData) (w : World) (q client : ℕ) → IsT
     → made_by script w client < length (commands_of script client)
 commands_inside script w q client enabled =
     let parts = and_parts (home script client == q) (is_runnable script w client) (and_parts (nat_lt client (length script.clients)) (home script client == q && is_runnable script w client) enabled).1 in
-    ltb-true _ _ (and_parts (not (is_waiting script w client)) (has_command script (w.node (home script client)) client) parts.1).1
+    ltb-true _ _ (and_parts (is_free_to_act script w client) (has_command script (w.node (home script client)) client) parts.1).1
 
 -- it makes one more, and the others none
 pub act_made : (script : ScriptData) (w : World) (q client c : ℕ) → home script client ≡ q

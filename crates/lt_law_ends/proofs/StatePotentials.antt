@@ -68,10 +68,12 @@ potential_acts s budget stamp = record {
   changes = λ client gives_up mode t posts holds e h. gives_potential stamp.node s budget t (given client mode (Some gives_up) t).held posts h;
   releases = λ client mode t posts e h. gives_potential stamp.node s budget t (take_lock t.held client mode) posts h;
   drops = λ client t posts h. gives_potential stamp.node s budget t (dropped client t).held posts h;
-  asks = λ client mode t posts e h.
+  withdraws = λ other t posts waiting h. inl (omega (arith, h));
+  retakes = λ ask t posts gone same h. inl (omega (arith, h));
+  asks = λ client mode t posts e free h.
       let ask = ask_of stamp client mode None t in
       inl (keeps_then stamp.node s 6 budget t posts (asked s stamp ask t) (asks_potential stamp.node s stamp ask t) h);
-  change_asks = λ client gives_up mode t posts holds e h.
+  change_asks = λ client gives_up mode t posts holds e free h.
       let ask = ask_of stamp client mode (Some gives_up) t in
       inl (keeps_then stamp.node s 6 budget t posts (asked s stamp ask t) (asks_potential stamp.node s stamp ask t) h);
 }

@@ -6,7 +6,7 @@ use Rattle.lt_modes.specs.declared.stamp.Stamp.{Stamp}
 use Rattle.lt_modes.specs.declared.ask.Ask.{Ask}
 use Rattle.lt_modes.specs.Modes.{Modes, no_modes, has, union, with_mode, bars, held_modes, other_modes}
 use Rattle.lt_modes.specs.State.{SetState, Desk, first_entry, no_ask, record_of, entry_of, own_owed, own_part, modes_at, others_below, others}
-use Rattle.lt_modes.specs.Serving.{is_free, is_local, is_copy, is_clear_at_home, is_served, next_from, may_draw, draw_from, leaving, settled}
+use Rattle.lt_modes.specs.Serving.{is_free, is_local, is_copy, is_clear_at_home, is_served, next_from, may_draw, draw_from, leaving, settled, is_void, is_ready}
 use Rattle.lt_law_accounts.specs.Account.{IsBelow}
 use Rattle.lt_law_accounts.proofs.AccountFacts.{bars_not, not_bars, below_by_members, has-union, has-left, has-right}
 use Rattle.lt_law_accounts.proofs.Rows.{other-which, held-at}
@@ -160,7 +160,8 @@ serves_sure v s desk bound before k (ask ∷ rest) sure =
         let clear : has ask.mode (bars own) ≡ false =
         not_bars own ask.mode (λ bar. bars_not (record_of (entry_of desk v)) ask.mode (not-true _ tests.1) (bound ask.mode (within ask.mode bar))) in
         let local : is_local v s desk ask ≡ true = and_from (ask.node == v) (not (has ask.mode (bars own))) parts.0 (ap not clear) in
-        and_from (is_free v s desk before ask) (is_local v s desk ask || is_copy v s desk ask) free (or_left (is_local v s desk ask) (is_copy v s desk ask) local)
+        or_right (is_void v s ask) (is_ready v s desk before ask)
+        (and_from (is_free v s desk before ask) (is_local v s desk ask || is_copy v s desk ask) free (or_left (is_local v s desk ask) (is_copy v s desk ask) local))
 
     by_test : (serves : Bool) → is_served v s desk before ask ≡ serves
         → (is_sure_from v (records_without desk v) (record_of (entry_of desk v)) (with_mode before ask.mode) rest ≡ true

@@ -65,6 +65,7 @@ untouched_set = record {
   firm = record { node = 0; epoch = 0 };
   hoped = None;
   pending = [];
+  gone = [];
   parked = [];
   desk = None;
 }

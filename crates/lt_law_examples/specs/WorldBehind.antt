@@ -117,6 +117,7 @@ asks_behind_token_after_17 = record {
               firm = owner 2 1;
               hoped = hoped 1 (stamp 1 1);
               pending = new_ask 1 Read (stamp 5 0) ∷ [];
+              gone = [];
               parked = [];
               desk = None;
             } ∷
@@ -138,6 +139,7 @@ asks_behind_token_after_17 = record {
                   new_ask 0 IntentionRead (stamp 2 1) ∷
                   new_ask 2 Write (stamp 3 1) ∷
                   [];
+              gone = [];
               parked = [];
               desk = None;
             } ∷
@@ -159,6 +161,7 @@ asks_behind_token_after_17 = record {
                   new_ask 5 Upgrade (stamp 9 2) ∷
                   new_ask 4 Read (stamp 10 2) ∷
                   [];
+              gone = [];
               parked = [];
               desk = None;
             } ∷

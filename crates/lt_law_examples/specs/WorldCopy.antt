@@ -79,6 +79,7 @@ copy_before_token_after_10 = record {
               firm = owner 1 1;
               hoped = None;
               pending = [];
+              gone = [];
               parked = [];
               desk = None;
             } ∷
@@ -96,6 +97,7 @@ copy_before_token_after_10 = record {
               firm = owner 1 1;
               hoped = None;
               pending = [];
+              gone = [];
               parked = [];
               desk = Some (record {
                 epoch = 1;
@@ -122,6 +124,7 @@ copy_before_token_after_10 = record {
               firm = owner 0 0;
               hoped = None;
               pending = new_ask 2 Read (stamp 1 2) ∷ new_ask 3 IntentionRead (stamp 2 2) ∷ [];
+              gone = [];
               parked = [];
               desk = None;
             } ∷

@@ -143,6 +143,7 @@ drop_counts_locks_after_24 = record {
                   new_ask 4 Read (stamp 16 0) ∷
                   new_ask 3 Read (stamp 17 0) ∷
                   [];
+              gone = [];
               parked = [];
               desk = None;
             } ∷
@@ -154,6 +155,7 @@ drop_counts_locks_after_24 = record {
               firm = owner 0 0;
               hoped = None;
               pending = [];
+              gone = [];
               parked = [];
               desk = Some (record {
                 epoch = 0;
@@ -184,6 +186,7 @@ drop_counts_locks_after_24 = record {
               firm = owner 1 1;
               hoped = None;
               pending = new_ask 6 Upgrade (stamp 19 1) ∷ [];
+              gone = [];
               parked = [];
               desk = Some (record {
                 epoch = 1;

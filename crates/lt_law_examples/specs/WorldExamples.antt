@@ -27,6 +27,7 @@ copies_and_freezes_after_19 = record {
               firm = owner 2 2;
               hoped = None;
               pending = [];
+              gone = [];
               parked = [];
               desk = None;
             } ∷
@@ -51,6 +52,7 @@ copies_and_freezes_after_19 = record {
               firm = owner 2 2;
               hoped = None;
               pending = [];
+              gone = [];
               parked = [];
               desk = Some (record {
                 epoch = 2;
@@ -78,6 +80,7 @@ copies_and_freezes_after_19 = record {
               firm = owner 2 2;
               hoped = None;
               pending = [];
+              gone = [];
               parked = [];
               desk = None;
             } ∷
@@ -122,6 +125,7 @@ token_comes_back_after_13 = record {
               firm = owner 1 1;
               hoped = None;
               pending = new_ask 0 IntentionWrite (stamp 5 0) ∷ [];
+              gone = [];
               parked = [];
               desk = None;
             } ∷
@@ -139,6 +143,7 @@ token_comes_back_after_13 = record {
               firm = owner 0 2;
               hoped = None;
               pending = [];
+              gone = [];
               parked = [];
               desk = None;
             } ∷
@@ -203,6 +208,7 @@ old_freeze_after_16 = record {
               firm = owner 1 1;
               hoped = None;
               pending = [];
+              gone = [];
               parked = [];
               desk = None;
             } ∷
@@ -220,6 +226,7 @@ old_freeze_after_16 = record {
               firm = owner 2 2;
               hoped = None;
               pending = [];
+              gone = [];
               parked = [];
               desk = None;
             } ∷
@@ -237,6 +244,7 @@ old_freeze_after_16 = record {
               firm = owner 2 2;
               hoped = None;
               pending = new_ask 0 Write (stamp 6 2) ∷ [];
+              gone = [];
               parked = [];
               desk = Some (record {
                 epoch = 2;

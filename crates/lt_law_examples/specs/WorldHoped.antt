@@ -99,6 +99,7 @@ asks_by_hoped_links_after_21 = record {
               firm = owner 2 1;
               hoped = hoped 1 (stamp 1 1);
               pending = new_ask 0 Upgrade (stamp 8 0) ∷ [];
+              gone = [];
               parked = [];
               desk = None;
             } ∷
@@ -124,6 +125,7 @@ asks_by_hoped_links_after_21 = record {
               firm = owner 2 3;
               hoped = hoped 2 (stamp 8 2);
               pending = new_ask 5 IntentionRead (stamp 2 1) ∷ [];
+              gone = [];
               parked = [];
               desk = None;
             } ∷
@@ -135,6 +137,7 @@ asks_by_hoped_links_after_21 = record {
               firm = owner 0 0;
               hoped = None;
               pending = new_ask 1 Read (stamp 8 1) ∷ [];
+              gone = [];
               parked = [];
               desk = None;
             } ∷
@@ -152,6 +155,7 @@ asks_by_hoped_links_after_21 = record {
               firm = owner 1 2;
               hoped = None;
               pending = new_ask 3 Read (stamp 7 2) ∷ new_ask 2 Write (stamp 8 2) ∷ [];
+              gone = [];
               parked = [];
               desk = None;
             } ∷

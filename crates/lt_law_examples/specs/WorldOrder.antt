@@ -131,6 +131,7 @@ drop_in_order_after_24 = record {
               firm = owner 1 1;
               hoped = None;
               pending = [];
+              gone = [];
               parked = [];
               desk = None;
             } ∷
@@ -160,6 +161,7 @@ drop_in_order_after_24 = record {
               firm = owner 1 1;
               hoped = None;
               pending = [];
+              gone = [];
               parked = [];
               desk = Some (record {
                 epoch = 1;
@@ -180,6 +182,7 @@ drop_in_order_after_24 = record {
               firm = owner 0 0;
               hoped = None;
               pending = new_ask 3 IntentionRead (stamp 14 1) ∷ [];
+              gone = [];
               parked = [];
               desk = None;
             } ∷
@@ -197,6 +200,7 @@ drop_in_order_after_24 = record {
               firm = owner 0 0;
               hoped = None;
               pending = new_ask 1 Write (stamp 1 2) ∷ [];
+              gone = [];
               parked = [];
               desk = None;
             } ∷

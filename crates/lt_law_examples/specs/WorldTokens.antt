@@ -107,6 +107,7 @@ tokens_on_way_after_11 = record {
               firm = owner 1 1;
               hoped = None;
               pending = [];
+              gone = [];
               parked = [];
               desk = None;
             } ∷
@@ -118,6 +119,7 @@ tokens_on_way_after_11 = record {
               firm = owner 1 1;
               hoped = None;
               pending = [];
+              gone = [];
               parked = [];
               desk = None;
             } ∷
@@ -136,6 +138,7 @@ tokens_on_way_after_11 = record {
               firm = owner 0 0;
               hoped = None;
               pending = new_ask 4 Upgrade (stamp 2 1) ∷ [];
+              gone = [];
               parked = [];
               desk = None;
             } ∷
@@ -147,6 +150,7 @@ tokens_on_way_after_11 = record {
               firm = owner 0 0;
               hoped = None;
               pending = new_ask 0 Upgrade (stamp 3 1) ∷ [];
+              gone = [];
               parked = [];
               desk = None;
             } ∷
@@ -165,6 +169,7 @@ tokens_on_way_after_11 = record {
               firm = owner 0 0;
               hoped = None;
               pending = new_ask 1 Upgrade (stamp 2 2) ∷ [];
+              gone = [];
               parked = [];
               desk = None;
             } ∷
@@ -176,6 +181,7 @@ tokens_on_way_after_11 = record {
               firm = owner 0 0;
               hoped = None;
               pending = new_ask 3 IntentionWrite (stamp 3 2) ∷ [];
+              gone = [];
               parked = [];
               desk = None;
             } ∷

@@ -6,14 +6,14 @@ use Rattle.std.proofs.lemmas.List.Elements.{Contains-get_or}
 use Rattle.lt_modes.specs.declared.stamp.Stamp.{Stamp}
 use Rattle.lt_modes.specs.declared.ask.Ask.{Ask}
 use Rattle.lt_modes.specs.declared.command.Command.{Command}
-use Rattle.lt_modes.specs.declared.command.Command.TheVariants.{Lock, Unlock, Try, Change, DropAll}
+use Rattle.lt_modes.specs.declared.command.Command.TheVariants.{Lock, Unlock, Try, Change, DropAll, Withdraw}
 use Rattle.lt_modes.specs.Script.{ScriptData}
 use Rattle.lt_modes.specs.State.{SetState, Made}
 use Rattle.lt_modes.specs.Modes.{locks_of}
-use Rattle.lt_modes.specs.Serving.{waits}
-use Rattle.lt_modes.specs.SetMove.{finish, locked, tried, unlocked, changed, dropped, lock, try, unlock, change, drop}
+use Rattle.lt_modes.specs.Serving.{waits, is_gone}
+use Rattle.lt_modes.specs.SetMove.{finish, locked, tried, unlocked, changed, dropped, lock, try, unlock, change, drop, withdraw, withdrawn}
 use Rattle.lt_lists.specs.Below.{put}
-use Rattle.lt_spec.specs.NodeMove.{related, IsWhole, HasTargetsAt, NodeState, node_waits, act_stamp, at_clock, one_made, touched, drop_all, obey}
+use Rattle.lt_spec.specs.NodeMove.{related, IsWhole, HasTargetsAt, NodeState, node_waits, act_stamp, at_clock, one_made, touched, drop_all, obey, withdraws_itself}
 use Rattle.lt_model.specs.Invariant.{unanswered_asks, new_asks_of, locks_in_all, ClientsKept, AsksStand}
 use Rattle.lt_spec.specs.World.{World}
 use Rattle.lt_lists.proofs.Members.{list_any-at}
@@ -26,14 +26,25 @@ use Rattle.lt_model.proofs.StandingBegins.{elsewhere, unanswered, only_here, sta
 use Rattle.lt_lists.proofs.Searches.{any_below_none}
 use Rattle.lt_lists.proofs.Sums.{sum_below-add, sum_below-at, sum_below-most, sum_below-one, sum_by-zero}
 use Rattle.lt_law_invariant.proofs.ClientCounts.{SomeEach}
-use Rattle.lt_law_invariant.proofs.ClientEffects.{is_asks, is_new, GivenBy, Clients, clients, clients_ends}
-use Rattle.lt_law_invariant.proofs.ClientCommands.{one_for, IsIdle, idle, clients_acts, drops_kept, locked_of, tried_of, unlocked_of, changed_of}
+use Rattle.lt_law_invariant.proofs.ClientEffects.{is_asks, GivenBy, Clients, clients, clients_ends, live_by, new_by}
+use Rattle.lt_law_invariant.proofs.ClientCommands.{one_for, IsIdle, idle, clients_acts, drops_kept, locked_of, tried_of, unlocked_of, changed_of, idle_live, withdrawn_of}
 
 -- what clients of a node hold and wait for is sound
 pub record SoundClients (script : ScriptData) (n : NodeState) : Type 0 where
   pub kept : ClientsKept script n
-  pub gives : (s : ℕ) → s < length script.sets → (ask : Ask) → Contains (n.set s).pending ask → GivenBy (n.set s).held ask.client ask.gives_up
+  pub gives : (s : ℕ) → s < length script.sets → (ask : Ask) → Contains (n.set s).pending ask → is_gone (n.set s) ask.client ≡ false
+      → GivenBy (n.set s).held ask.client ask.gives_up
+  pub one : (s : ℕ) → s < length script.sets → (c : ℕ) → count_by (is_asks c) (n.set s).pending ≤ 1
   pub some : (s : ℕ) → s < length script.sets → SomeEach (n.set s).held
+
+-- what the command may add for each client: one for its own, but nothing where it gives up an ask
+abbrev pub bonus_of : ℕ → Command → ℕ → ℕ
+bonus_of client (Lock s mode) c = one_for client c
+bonus_of client (Try s mode) c = one_for client c
+bonus_of client (Unlock s mode) c = one_for client c
+bonus_of client (Change s gives_up mode) c = one_for client c
+bonus_of client (DropAll other s) c = one_for client c
+bonus_of client (Withdraw other s) c = 0
 
 -- the set that the command touched may have one more
 abbrev pub bonus_at : ℕ → (ℕ → ℕ) → ℕ → ℕ → ℕ
@@ -52,6 +63,7 @@ node_after script n later touched bonus h each made free = record {
     counts = λ c. omega (arith, counts c, h.kept.counts c, made c);
   };
   gives = λ s below. (each s below).gives;
+  one = λ s below. (each s below).one;
   some = λ s below. (each s below).some;
 }
   where
@@ -61,20 +73,20 @@ node_after script n later touched bonus h each made free = record {
     asks : (c : ℕ) → unanswered_asks script later c ≤ unanswered_asks script n c + bonus c
     asks c = omega (
       arith,
-      sum_below-most sets (λ s. count_by (is_asks c) (later.set s).pending) (λ s. count_by (is_asks c) (n.set s).pending + bonus_at touched bonus s c)
+      sum_below-most sets (λ s. count_by (live_by (is_gone (later.set s) c) c) (later.set s).pending) (λ s. count_by (live_by (is_gone (n.set s) c) c) (n.set s).pending + bonus_at touched bonus s c)
           (λ s below. (each s below).asks c),
-      sum_below-add sets (λ s. count_by (is_asks c) (n.set s).pending) (λ s. bonus_at touched bonus s c),
+      sum_below-add sets (λ s. count_by (live_by (is_gone (n.set s) c) c) (n.set s).pending) (λ s. bonus_at touched bonus s c),
       sum_below-one sets touched (bonus c),
     )
 
     counts : (c : ℕ) → locks_in_all script later c + new_asks_of script later c ≤ locks_in_all script n c + new_asks_of script n c + bonus c
     counts c = omega (
       arith,
-      sum_below-most sets (λ s. locks_of (later.set s).held c + count_by (is_new c) (later.set s).pending)
-          (λ s. locks_of (n.set s).held c + count_by (is_new c) (n.set s).pending + bonus_at touched bonus s c) (λ s below. (each s below).counts c),
-      sum_below-add sets (λ s. locks_of (later.set s).held c) (λ s. count_by (is_new c) (later.set s).pending),
-      sum_below-add sets (λ s. locks_of (n.set s).held c + count_by (is_new c) (n.set s).pending) (λ s. bonus_at touched bonus s c),
-      sum_below-add sets (λ s. locks_of (n.set s).held c) (λ s. count_by (is_new c) (n.set s).pending),
+      sum_below-most sets (λ s. locks_of (later.set s).held c + count_by (new_by (is_gone (later.set s) c) c) (later.set s).pending)
+          (λ s. locks_of (n.set s).held c + count_by (new_by (is_gone (n.set s) c) c) (n.set s).pending + bonus_at touched bonus s c) (λ s below. (each s below).counts c),
+      sum_below-add sets (λ s. locks_of (later.set s).held c) (λ s. count_by (new_by (is_gone (later.set s) c) c) (later.set s).pending),
+      sum_below-add sets (λ s. locks_of (n.set s).held c + count_by (new_by (is_gone (n.set s) c) c) (n.set s).pending) (λ s. bonus_at touched bonus s c),
+      sum_below-add sets (λ s. locks_of (n.set s).held c) (λ s. count_by (new_by (is_gone (n.set s) c) c) (n.set s).pending),
       sum_below-one sets touched (bonus c),
     )
 
@@ -83,23 +95,14 @@ pub at_first : (script : ScriptData) (n : NodeState) → SoundClients script n �
 at_first script n h s below = record {
   asks = λ c. omega arith;
   counts = λ c. omega arith;
-  one = λ c. omega (arith, h.kept.one_ask c, sum_below-at (length script.sets) s (λ k. count_by (is_asks c) (n.set k).pending) below);
+  one = h.one s below;
   gives = h.gives s below;
   some = h.some s below;
 }
 
--- who doesn't wait has no ask
-no_asks : (asks : List Ask) (client : ℕ) → list_any (is_asks client) asks ≡ false → count_by (is_asks client) asks ≡ 0
-no_asks asks client none =
-    sum_by-zero (λ (ask : Ask). if is_asks client ask then 1 else 0) asks
-    (λ i d within. by_test (is_asks client (slice_index_or asks i d)) refl (Contains-get_or asks i d within))
-  where
-    by_test : {x : Ask} (own : Bool) → is_asks client x ≡ own → Contains asks x → ◌≡◌ {A = ℕ} (if own then 1 else 0) 0
-    by_test false e there = refl
-    by_test {x = x} true e there = absurd (false≢true (sym none ∙ list_any-at (is_asks client) asks x there e))
-
+-- who waits in no set waits in this one neither
 pub idle_in : (script : ScriptData) (n : NodeState) (client : ℕ) → node_waits script n client ≡ false → (s : ℕ) → s < length script.sets → IsIdle client (n.set s)
-idle_in script n client none s below = no_asks (n.set s).pending client (any_below_none (length script.sets) (λ k. waits (n.set k) client) none s below)
+idle_in script n client none s below = idle_live (n.set s) client (any_below_none (length script.sets) (λ k. waits (n.set k) client) none s below)
 
 clients_of_set : (s : ℕ) (bonus : ℕ → ℕ) (first : SetState) → IsOfSet s (clients bonus first)
 clients_of_set s bonus first t posts more others h = h
@@ -107,13 +110,13 @@ clients_of_set s bonus first t posts more others h = h
 idle_of_set : (s client : ℕ) (first : SetState) → IsOfSet s (idle client first)
 idle_of_set s client first t posts more others h = h
 
--- a command of a client that waits for nothing
+-- a command of a client that waits for nothing, or that gives up what it waits for
 pub act_clients : (script : ScriptData) (w : World) (q client : ℕ) (command : Command) → IsWhole script
     → ((s : ℕ) → s < length script.sets → AsksStand script w s) → q < script.nodes → SoundClients script (w.node q)
-    → node_waits script (w.node q) client ≡ false → HasTargetsAt script client command
-    → (touched : ℕ) × ((s : ℕ) → s < length script.sets → Clients (bonus_at touched (one_for client) s) ((w.node q).set s)
+    → (withdraws_itself (w.node q) client (Some command) ≡ false → node_waits script (w.node q) client ≡ false) → HasTargetsAt script client command
+    → (touched : ℕ) × ((s : ℕ) → s < length script.sets → Clients (bonus_at touched (bonus_of client command) s) ((w.node q).set s)
     ((obey script (act_stamp q (w.node q)) client (Some command) (one_made client (at_clock ((w.node q).clock + 1) (w.node q)))).node.set s))
-act_clients script w q client command whole stood below h waits_not targets = by_command command targets
+act_clients script w q client command whole stood below h waits_not targets = by_command command waits_not targets
   where
     n : NodeState
     n = w.node q
@@ -145,6 +148,9 @@ act_clients script w q client command whole stood below h waits_not targets = by
     first s under = at_first script n h s under
 
     -- nothing is allowed more where the bonus is none
+    none_more : (touched s : ℕ) (t u : SetState) → Clients (λ c. 0) t u → Clients (bonus_at touched (λ c. 0) s) t u
+    none_more touched s t u k = record { asks = λ c. omega (arith, k.asks c); counts = λ c. omega (arith, k.counts c); one = k.one; gives = k.gives; some = k.some }
+
     weaker : (touched s : ℕ) (t u : SetState) → Clients (λ c. 0) t u → Clients (bonus_at touched (one_for client) s) t u
     weaker touched s t u k = record { asks = λ c. omega (arith, k.asks c); counts = λ c. omega (arith, k.counts c); one = k.one; gives = k.gives; some = k.some }
 
@@ -170,38 +176,38 @@ act_clients script w q client command whole stood below h waits_not targets = by
           (subst (Clients (λ c. 0) (n.set s)) (sym (put-other n.set set (rule set (n.set set)).state s d)) (first s under))
     ]
 
-    begun : (s : ℕ) → s < length script.sets → both (before_move s) (idle client (n.set s)) (n.set s) []
-    begun s under = (standing s under, (first s under, idle_in script n client waits_not s under))
+    begun : node_waits script n client ≡ false → (s : ℕ) → s < length script.sets → both (before_move s) (idle client (n.set s)) (n.set s) []
+    begun free s under = (standing s under, (first s under, idle_in script n client free s under))
 
-    by_command : (command : Command) → HasTargetsAt script client command
-        → (touched : ℕ) × ((s : ℕ) → s < length script.sets → Clients (bonus_at touched (one_for client) s) (n.set s)
+    by_command : (command : Command) → (withdraws_itself n client (Some command) ≡ false → node_waits script n client ≡ false) → HasTargetsAt script client command
+        → (touched : ℕ) × ((s : ℕ) → s < length script.sets → Clients (bonus_at touched (bonus_of client command) s) (n.set s)
         ((obey script stamp client (Some command) begins).node.set s))
-    by_command (Lock set mode) t = (
+    by_command (Lock set mode) waits_not_of t = (
       set,
       one_touched set (λ k u. lock k stamp client mode u) t
           (ends_by_effects set stamp _ _ _ (ends set t (one_for client)) (locked set stamp client mode (n.set set)) []
-          (locked_of set stamp client _ _ (clients_acts set n.clock stamp client (others set) (asked_of set) (n.set set) refl) mode (n.set set) [] (begun set t))),
+          (locked_of set stamp client _ _ (clients_acts set n.clock stamp client (others set) (asked_of set) (n.set set) refl) mode (n.set set) [] (begun (waits_not_of refl) set t))),
     )
-    by_command (Try set mode) t = (
+    by_command (Try set mode) waits_not_of t = (
       set,
       one_touched set (λ k u. try k stamp client mode u) t
           (ends_by_effects set stamp _ _ _ (ends set t (one_for client)) (tried set stamp client mode (n.set set)) []
-          (tried_of set stamp client _ _ (clients_acts set n.clock stamp client (others set) (asked_of set) (n.set set) refl) mode (n.set set) [] (begun set t))),
+          (tried_of set stamp client _ _ (clients_acts set n.clock stamp client (others set) (asked_of set) (n.set set) refl) mode (n.set set) [] (begun (waits_not_of refl) set t))),
     )
-    by_command (Unlock set mode) t = (
+    by_command (Unlock set mode) waits_not_of t = (
       set,
       one_touched set (λ k u. unlock k stamp client mode u) t
           (ends_by_effects set stamp _ _ _ (ends set t (one_for client)) (unlocked set client mode (n.set set)) []
-          (unlocked_of set stamp client _ _ (clients_acts set n.clock stamp client (others set) (asked_of set) (n.set set) refl) mode (n.set set) [] (begun set t))),
+          (unlocked_of set stamp client _ _ (clients_acts set n.clock stamp client (others set) (asked_of set) (n.set set) refl) mode (n.set set) [] (begun (waits_not_of refl) set t))),
     )
-    by_command (Change set gives_up mode) t = (
+    by_command (Change set gives_up mode) waits_not_of t = (
       set,
       one_touched set (λ k u. change k stamp client gives_up mode u) t
           (ends_by_effects set stamp _ _ _ (ends set t (one_for client)) (changed set stamp client gives_up mode (n.set set)) []
           (changed_of set stamp client _ _ (clients_acts set n.clock stamp client (others set) (asked_of set) (n.set set) refl) gives_up mode (n.set set) []
-          (begun set t))),
+          (begun (waits_not_of refl) set t))),
     )
-    by_command (DropAll other set) t = (
+    by_command (DropAll other set) waits_not_of t = (
       0,
       λ s under. weaker 0 s (n.set s) ((drop_all (node_waits script begins other) stamp client other set (related script set) begins).node.set s)
           (by_waits s under (node_waits script begins other) refl (once_or_aside script s (Some (DropAll other set)))),
@@ -237,3 +243,19 @@ act_clients script w q client command whole stood below h waits_not targets = by
         by_waits s under false e (inr aside) =
             subst (Clients (λ c. 0) (n.set s)) (sym (each-beside s stamp (λ k. drop k stamp other) (λ k t. drop-sent k stamp other t)
             (related script set) aside begins).state) (first s under)
+    by_command (Withdraw other set) waits_not_of t = (
+      set,
+      λ s under. none_more set s (n.set s) ((touched begins set (withdraw set stamp client other (n.set set))).node.set s) (after_it s under),
+    )
+      where
+        ended : Clients (λ c. 0) (n.set set) (withdraw set stamp client other (n.set set)).state
+        ended =
+            (ends_by_effects set stamp _ _ _ (ends set t.0 (λ c. 0)) (withdrawn set client other (n.set set)) []
+            (withdrawn_of set n.clock stamp client other (others set) (asked_of set) (n.set set) refl (n.set set) [] (standing set t.0, first set t.0))).1
+
+        after_it : (s : ℕ) → s < length script.sets → Clients (λ c. 0) (n.set s) (put n.set set (withdraw set stamp client other (n.set set)).state s)
+        after_it s under = elim (cases_eq s set) [
+          | inl e ↦ subst (λ (k : ℕ). Clients (λ c. 0) (n.set k) (put n.set set (withdraw set stamp client other (n.set set)).state k)) (sym e)
+              (subst (Clients (λ c. 0) (n.set set)) (sym (put-same n.set set (withdraw set stamp client other (n.set set)).state)) ended)
+          | inr d ↦ subst (Clients (λ c. 0) (n.set s)) (sym (put-other n.set set (withdraw set stamp client other (n.set set)).state s d)) (first s under)
+        ]

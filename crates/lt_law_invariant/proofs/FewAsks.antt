@@ -1,4 +1,5 @@
 -- No more asks stand at a node than a script has clients, and fewer are unanswered than a node may have clients where one of them can act.
+use Rattle.lt_law_invariant.proofs.FittingLetters.{few_each}
 use Rattle.std.proofs.Common.{◌≡◌, ◌≢◌, ℕ, zero, suc, ◌+◌, ◌<◌, ◌≤◌, inl, inr, Bool, true, false, List, [], ◌∷◌, length, refl, arith, ap, sym, subst, ◌∙◌, Option, Some, None, ◌==◌, ◌||◌, if◌then◌else◌, not, nat_lt, All, Contains, count_by, IsTrue, eq-eqb, ne_eqb, ltb-true, true≢false, le-leb, lt-ltb, take_all, filter_map}
 use Rattle.std.proofs.lemmas.Bool.{cases_eq, and_parts, and_from}
 use Rattle.std.proofs.lemmas.List.{length-map}
@@ -97,11 +98,11 @@ loads q (client ∷ rest) =
     ones true = refl
     ones false = refl
 
--- where a client of the node waits for nothing in the set, fewer asks are unanswered than a node may have clients
-pub few_pending : (script : ScriptData) (q s c : ℕ) (n : NodeState) → IsScript script → ClientsKept script n
+-- where a client of the node has no unanswered ask in the set, fewer are unanswered than a node may have clients
+pub few_pending : (script : ScriptData) (q s c : ℕ) (n : NodeState) → IsScript script → ((k : ℕ) → count_by (λ (ask : Ask). ask.client == k) (n.set s).pending ≤ 1)
     → All (IsAskOf script q) (n.set s).pending → s < length script.sets → c < length script.clients → home script c ≡ q
-    → waits (n.set s) c ≡ false → length (n.set s).pending < MAX_CLIENTS_OF_NODE
-few_pending script q s c n is_script clients own within below at_home free =
+    → has_client c (n.set s).pending ≡ false → length (n.set s).pending < MAX_CLIENTS_OF_NODE
+few_pending script q s c n is_script few own within below at_home free =
     let asks = (n.set s).pending in
     let count = length script.clients in
     let here : ℕ → ℕ = λ k. if k == c then 1 else 0 in
@@ -138,8 +139,7 @@ few_pending script q s c n is_script clients own within below at_home free =
           elim (cases_eq (home script k) q) [
             | inl e ↦
                 let there = ap one_if (eq-eqb (home script k) q e) in
-                let one = sum_below-at (length script.sets) s (λ t. count_by (λ (ask : Ask). ask.client == k) (n.set t).pending) within in
-                omega (arith, here, there, one, clients.one_ask k)
+                omega (arith, here, there, few k)
             | inr away ↦
                 let there = ap one_if (ne_eqb (home script k) q away) in
                 let none = elsewhere k (n.set s).pending away (λ ask on. All-contains (IsAskOf script q) (n.set s).pending ask own on) in
@@ -207,6 +207,7 @@ targets script client (command.Try set mode) h = h
 targets script client (command.Unlock set mode) h = h
 targets script client (command.Change set gives_up mode) h = h
 targets script client (command.DropAll other set) h = h
+targets script client (command.Withdraw other set) h = h
 
 -- a script names what is of it
 pub whole : (script : ScriptData) → IsScript script → IsWhole script
@@ -276,12 +277,12 @@ asks_placed script run is_script is_run client declared runnable =
     let below = is_script.homes client declared in
     let kept = kept_after script run is_script is_run in
     let homes = homes_after script run is_script is_run in
-    let free : node_waits script n client ≡ false = is_not (node_waits script n client) (and_parts _ _ runnable).0 in
-    none_fails (length script.sets) (λ s. leaves_ask (n.set s))
-    (λ s within. lt-ltb _ _
-    (few_pending script q s client n is_script (kept.clients q below) (homes.states q s).pending within declared refl
-    (any_below_none (length script.sets) (λ t. waits (n.set t) client) free s within)))
+    let few : (s : ℕ) → s < length script.sets → (k : ℕ) → count_by (λ (ask : Ask). ask.client == k) (n.set s).pending ≤ 1 =
+    λ s within k. few_each (n.set s).pending ((kept.sets s within).states q below).one_ask k in
+    none_fails (length script.sets) (λ s. leaves_ask client (n.set s))
+    (λ s within. by_has (n.set s) (has_client client (n.set s).pending) refl (λ free. few_pending script q s client n is_script (few s within) (homes.states q s).pending within declared refl free))
   where
-    is_not : (found : Bool) → not found ≡ true → found ≡ false
-    is_not true e = sym e
-    is_not false e = refl
+    by_has : (t : SetState) (has : Bool) → has_client client t.pending ≡ has → (has_client client t.pending ≡ false → length t.pending < MAX_CLIENTS_OF_NODE)
+        → IsTrue (leaves_ask client t)
+    by_has t true e room = ap (λ (b : Bool). b || nat_lt (length t.pending) MAX_CLIENTS_OF_NODE) e
+    by_has t false e room = ap (λ (b : Bool). b || nat_lt (length t.pending) MAX_CLIENTS_OF_NODE) e ∙ lt-ltb _ _ (room e)

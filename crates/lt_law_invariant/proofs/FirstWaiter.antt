@@ -8,7 +8,7 @@ use Rattle.lt_modes.specs.Modes.{conflicts, has, held_modes, Modes, no_modes, un
 use Rattle.lt_modes.specs.Script.{ScriptData}
 use Rattle.lt_modes.specs.State.{Desk, Tell, Body, TellBody, CopyBody, TokenBody, Letter, ParkedTell, modes_of_asks, record_of, SetState, own_owed, others, FreezeBody, entry_of}
 use Rattle.lt_modes.proofs.ModeAlgebra.{union_bars_both, bars_by_table, none_in_none, conflicts-sym, each_barred, every_mode-at}
-use Rattle.lt_modes.specs.Serving.{queue_of, queue_of_desk, is_free, is_local, is_copy, is_served, may_draw, is_clear_at_home, next_service, next_draw, next_at, next_from, move_at, draw_from}
+use Rattle.lt_modes.specs.Serving.{queue_of, queue_of_desk, is_free, is_local, is_copy, is_served, may_draw, is_clear_at_home, next_service, next_draw, next_at, next_from, move_at, draw_from, is_void, is_ready}
 use Rattle.lt_modes.specs.Fits.{parked_asks, asks_here, numbers_of}
 use Rattle.lt_modes.specs.Sound.{SoundRow, SoundHere}
 use Rattle.lt_modes.specs.Freezing.{frozen_by}
@@ -116,13 +116,17 @@ second_false false b e f = cc
 -- the tests of the ask at place 0
 first_none : (me : ℕ) (t : SetState) (desk : Desk) (ask : Ask) (rest : List Ask) → next_from me t desk no_modes 0 (ask ∷ rest) ≡ None
     → draw_from me t desk no_modes 0 (ask ∷ rest) ≡ None
-    → (is_served me t desk no_modes ask ≡ false) × (may_draw me t desk no_modes 0 ask ≡ false)
-first_none me t desk ask rest service draw = (by_service (is_served me t desk no_modes ask) refl service, by_draw (may_draw me t desk no_modes 0 ask) refl draw)
+    → (is_ready me t desk no_modes ask ≡ false) × (may_draw me t desk no_modes 0 ask ≡ false)
+first_none me t desk ask rest service draw = (second (is_void me t ask) (is_ready me t desk no_modes ask) (by_service (is_served me t desk no_modes ask) refl service), by_draw (may_draw me t desk no_modes 0 ask) refl draw)
   where
     by_service : (b : Bool) → is_served me t desk no_modes ask ≡ b
         → (if b then Some 0 else next_from me t desk (with_mode no_modes ask.mode) (0 + 1) rest) ≡ None → is_served me t desk no_modes ask ≡ false
     by_service true e f = cc
     by_service false e f = e
+
+    second : (first rest : Bool) → (first || rest) ≡ false → rest ≡ false
+    second true rest e = cc
+    second false rest e = e
 
     by_draw : (b : Bool) → may_draw me t desk no_modes 0 ask ≡ b
         → (if b then Some 0 else draw_from me t desk (with_mode no_modes ask.mode) (0 + 1) rest) ≡ None → may_draw me t desk no_modes 0 ask ≡ false
@@ -157,7 +161,7 @@ first_waiter_conflicts script w s ask h rest (q, others_wait, under, queue) = by
         served : (next_service q t ≡ None) × (next_draw q t ≡ None)
         served = h.served q desk refl there
 
-        tests : (is_served q t desk no_modes ask ≡ false) × (may_draw q t desk no_modes 0 ask ≡ false)
+        tests : (is_ready q t desk no_modes ask ≡ false) × (may_draw q t desk no_modes 0 ask ≡ false)
         tests = first_none q t desk ask others_wait
             (ap (next_from q t desk no_modes 0) (sym e) ∙ ap (next_at q t) (sym here) ∙ served.0)
             (ap (draw_from q t desk no_modes 0) (sym e) ∙ ap (move_at q t) (sym here) ∙ served.1)

@@ -11,7 +11,7 @@ use Rattle.lt_modes.specs.Serving.{queue_of}
 use Rattle.lt_modes.specs.Fits.{ask_if, parked_asks, asks_here, has_client, is_pending, is_known, are_apart, is_at_home, queue_fits, body_fits, numbers_of}
 use Rattle.lt_lists.specs.Below.{one_if}
 use Rattle.lt_lists.proofs.Members.{list_any-at, list_any-which}
-use Rattle.lt_lists.proofs.Sums.{counted_twice, sum_below-at}
+use Rattle.lt_lists.proofs.Sums.{counted_twice, sum_below-at, sum_by-zero}
 use Rattle.lt_spec.specs.NodeMove.{home, IsWhole}
 use Rattle.lt_spec.specs.World.{World}
 use Rattle.lt_spec.specs.Facts.{state_at, times_parked, places_in_state, place_count, places_in_body, OnWay}
@@ -75,6 +75,25 @@ here_times a t =
     sum_by-append (λ (x : Ask). if same_ask a x then 1 else 0) (parked_asks t) (queue_of t) ∙ ap (λ (n : ℕ). n + times_in a (queue_of t))
     (parked_times a t.parked)
 
+-- and asks of different clients are one of each at most
+pub few_each : (asks : List Ask) → AllPairs (λ (a b : Ask). a.client ≢ b.client) asks → (c : ℕ) → count_by (is_asks c) asks ≤ 1
+few_each [] h c = omega arith
+few_each (ask ∷ rest) h c =
+    by_test (ask.client == c) refl (few_each rest (λ i j d before within. h (suc i) (suc j) d (omega (arith, before)) (omega (arith, within))) c)
+    (sum_by-cons (λ (x : Ask). if is_asks c x then 1 else 0) ask rest)
+  where
+    by_test : (own : Bool) → (ask.client == c) ≡ own → count_by (is_asks c) rest ≤ 1
+        → count_by (is_asks c) (ask ∷ rest) ≡ (if ask.client == c then 1 else 0) + count_by (is_asks c) rest → count_by (is_asks c) (ask ∷ rest) ≤ 1
+    by_test false e few sum =
+        let none : ◌≡◌ {A = ℕ} (if ask.client == c then 1 else 0) 0 = ap (λ (b : Bool). if b then 1 else 0) e in
+        omega (arith, few, sum, none)
+    by_test true e few sum =
+        let one : ◌≡◌ {A = ℕ} (if ask.client == c then 1 else 0) 1 = ap (λ (b : Bool). if b then 1 else 0) e in
+        let none = sum_by-zero (λ (x : Ask). if is_asks c x then 1 else 0) rest
+        (λ i d within. ap (λ (b : Bool). if b then 1 else 0)
+        (ne_eqb (slice_index_or rest i d).client c (λ same. h 0 (suc i) d (omega arith) (omega (arith, within)) (eqb-true ask.client c e ∙ sym same)))) in
+        omega (arith, sum, one, none)
+
 -- the asks of a set stand in one place each, are at home, and are of different clients at a node
 pub record OwnAsks (script : ScriptData) (w : World) (s : ℕ) : Type 0 where
   pub stood : AsksStand script w s
@@ -124,11 +143,7 @@ pub kept_asks : (script : ScriptData) (w : World) (s : ℕ) → WorldInvariant s
 kept_asks script w s h under = record {
   stood = kept_stands script w s (h.sets s under);
   own = λ x below. ((kept_homes script w h).states x s below under).pending;
-  few = λ x below client. omega (
-    arith,
-    (h.clients x below).one_ask client,
-    sum_below-at (length script.sets) s (λ k. count_by (is_asks client) ((w.node x).set k).pending) under,
-  );
+  few = λ x below client. few_each (state_at w s x).pending ((h.sets s under).states x below).one_ask client;
 }
 
 -- a letter of a set of the script that is on its way

@@ -159,8 +159,10 @@ held_acts s stamp = record {
   changes = λ client gives_up mode t posts holds e h. same_holds stamp.node t _ (record { desk = refl; parked = refl; firm = refl; pending = λ ask c. c }) h;
   releases = λ client mode t posts e h. same_holds stamp.node t _ (record { desk = refl; parked = refl; firm = refl; pending = λ ask c. c }) h;
   drops = λ client t posts h. same_holds stamp.node t _ (record { desk = refl; parked = refl; firm = refl; pending = λ ask c. c }) h;
-  asks = λ client mode t posts e h. waits (ask_of stamp client mode None t) t h;
-  change_asks = λ client gives_up mode t posts holds e h. waits (ask_of stamp client mode (Some gives_up) t) t h;
+  withdraws = λ other t posts waiting h. same_holds stamp.node t _ (record { desk = refl; parked = refl; firm = refl; pending = λ ask c. c }) h;
+  retakes = λ ask t posts gone same h. same_holds stamp.node t _ (record { desk = refl; parked = refl; firm = refl; pending = λ a c. c }) h;
+  asks = λ client mode t posts e free h. waits (ask_of stamp client mode None t) t h;
+  change_asks = λ client gives_up mode t posts holds e free h. waits (ask_of stamp client mode (Some gives_up) t) t h;
 }
   where
     waits : (ask : Ask) (t : SetState) → HeldUp stamp.node t → HeldUp stamp.node (asked s stamp ask t).state

@@ -6,12 +6,12 @@ use Rattle.std.proofs.lemmas.List.{length-map}
 use Rattle.std.proofs.lemmas.List.Elements.{All-contains, All-nil, All-weaker}
 use Rattle.std.proofs.lemmas.List.Sums.{get_or-le-sum_by}
 use Rattle.lt_modes.specs.declared.command.Command.{Command}
-use Rattle.lt_modes.specs.declared.command.Command.TheVariants.{Lock, Unlock, Try, Change, DropAll}
+use Rattle.lt_modes.specs.declared.command.Command.TheVariants.{Lock, Unlock, Try, Change, DropAll, Withdraw}
 use Rattle.lt_modes.specs.declared.stamp.Stamp.{Stamp}
 use Rattle.lt_modes.specs.Script.{ScriptData, ClientData}
 use Rattle.lt_modes.specs.State.{SetState, Letter, first_state, Made, Body, AskBody, TellBody, CopyBody, TokenBody, FreezeBody, Parked, ParkedAsk, ParkedTell, Post, same_ask}
 use Rattle.lt_modes.specs.Serving.{waits, queue_of}
-use Rattle.lt_modes.specs.SetMove.{finish, lock, try, unlock, change, drop, take}
+use Rattle.lt_modes.specs.SetMove.{finish, lock, try, unlock, change, drop, take, withdraw}
 use Rattle.lt_modes.specs.declared.ask.Ask.{Ask}
 use Rattle.lt_modes.specs.declared.parts.Row.{Row}
 use Rattle.lt_modes.specs.declared.moves.Step.{Step}
@@ -80,6 +80,7 @@ obey_alike script stamp client (Lock s mode) n m targets alike = touched_alike s
 obey_alike script stamp client (Try s mode) n m targets alike = touched_alike script n m s (λ k t. try k stamp client mode t) targets alike
 obey_alike script stamp client (Unlock s mode) n m targets alike = touched_alike script n m s (λ k t. unlock k stamp client mode t) targets alike
 obey_alike script stamp client (Change s gives_up mode) n m targets alike = touched_alike script n m s (λ k t. change k stamp client gives_up mode t) targets alike
+obey_alike script stamp client (Withdraw other s) n m targets alike = touched_alike script n m s (λ k t. withdraw k stamp client other t) targets.0 alike
 obey_alike script stamp client (DropAll other s) n m targets alike =
     subst (λ (b : Bool). MadeAlike script (drop_all (node_waits script n other) stamp client other s (related script s) n)
     (drop_all b stamp client other s (related script s) m))
@@ -126,8 +127,8 @@ row_at_home script q row h =
     let known : row.client < length script.clients = omega (arith, h.client, length-map script.clients (λ (client : ClientData). client.node)) in
     record { client = known; home = sym (home_among script.clients row.client known) ∙ h.home; count = h.count }
 
-own_at_home : (script : ScriptData) (q : ℕ) (held : List Row) (ask : Ask) → SoundPending (numbers_of script) q held ask → IsAskOf script q ask
-own_at_home script q held ask h =
+own_at_home : (script : ScriptData) (q : ℕ) (u : SetState) (ask : Ask) → SoundPending (numbers_of script) q u ask → IsAskOf script q ask
+own_at_home script q u ask h =
     let parts = and_parts (nat_lt ask.node script.nodes) _ h.home in
     let more = and_parts (nat_lt ask.client (length (numbers_of script).homes)) (slice_index (numbers_of script).homes ask.client == ask.node) parts.1 in
     let known : ask.client < length script.clients =
@@ -144,8 +145,8 @@ own_at_home script q held ask h =
 standing_at_home : (script : ScriptData) (w : World) (s : ℕ) (ask : Ask) → SetKept script Between w s → 1 ≤ place_count script w s ask → IsAskAtHome script ask
 standing_at_home script w s ask h some =
     let found = stands_once script w s ask (kept_stands script w s h) some in
-    (own_at_home script ask.node (state_at w s ask.node).held ask
-    (All-contains (SoundPending (numbers_of script) ask.node (state_at w s ask.node).held) (state_at w s ask.node).pending ask
+    (own_at_home script ask.node (state_at w s ask.node) ask
+    (All-contains (SoundPending (numbers_of script) ask.node (state_at w s ask.node)) (state_at w s ask.node).pending ask
     (h.states ask.node found.0).pending found.1)).0
 
 here_at_home : (script : ScriptData) (w : World) (s x : ℕ) (ask : Ask) → SetKept script Between w s → x < script.nodes
@@ -163,7 +164,7 @@ said_at_home script w p q letter ask h hp hq among some =
 state_at_home : (script : ScriptData) (w : World) (s x : ℕ) → SetKept script Between w s → x < script.nodes → IsStateAtHome script x (state_at w s x)
 state_at_home script w s x h below = record {
   rows = All-weaker (SoundRow (numbers_of script) x) (IsRowAtHome script x) (row_at_home script x) t.held (h.states x below).rows;
-  pending = All-weaker (SoundPending (numbers_of script) x t.held) (IsAskOf script x) (own_at_home script x t.held) t.pending (h.states x below).pending;
+  pending = All-weaker (SoundPending (numbers_of script) x t) (IsAskOf script x) (own_at_home script x t) t.pending (h.states x below).pending;
   parked = all_of (IsParkedAtHome script) t.parked by_item;
   queue = all_of (IsAskAtHome script) (queue_of t) (λ ask there. here_at_home script w s x ask h below (omega (arith, times_in-some ask (queue_of t) there)));
 }

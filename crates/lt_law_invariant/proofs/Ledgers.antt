@@ -1,5 +1,7 @@
 -- The ledgers of a set wherever its desk is, through the effects of a move of node q.
-use Rattle.std.proofs.Common.{◌≡◌, ℕ, ◌+◌, ◌<◌, inl, inr, [], ◌∷◌, ◌++◌, length, Option, Some, None, Bool, true, false, refl, sym, ap, subst, arith, ◌∙◌, if◌then◌else◌, Contains, remove, eq-eqb, ne_eqb, length-set}
+use Rattle.lt_model.specs.AccountRules.{IsLocallyFree}
+use Rattle.std.proofs.lemmas.Bool.{and_parts, eqb-true, false≢true}
+use Rattle.std.proofs.Common.{◌≡◌, ℕ, ◌+◌, ◌<◌, inl, inr, [], ◌∷◌, ◌++◌, length, Option, Some, None, Bool, true, false, refl, sym, ap, subst, arith, ◌∙◌, if◌then◌else◌, Contains, remove, eq-eqb, ne_eqb, length-set, List, ◌&&◌, ◌==◌}
 use Rattle.std.proofs.lemmas.List.Elements.{Contains-get_or}
 use Rattle.lt_modes.specs.declared.mode.Mode.{Mode}
 use Rattle.lt_modes.specs.declared.stamp.Stamp.{Stamp}
@@ -8,7 +10,7 @@ use Rattle.lt_modes.specs.Modes.{bars, same_modes, held_modes, take_lock}
 use Rattle.lt_modes.specs.Script.{ScriptData}
 use Rattle.lt_modes.specs.State.{SetState, Desk, TokenBody, Parked, ParkedAsk, ParkedTell, Made, Post, silent, no_ask, entry_of}
 use Rattle.lt_modes.specs.Freezing.{can_grant, frozen_by, freeze, freeze_at}
-use Rattle.lt_modes.specs.Serving.{ask_at, queue_of, next_service, next_at, owed_at, owing, put_queue, serve_one, serve_local, serve_copy, leaving, hand_over_to}
+use Rattle.lt_modes.specs.Serving.{ask_at, queue_of, next_service, next_at, owed_at, owing, put_queue, serve_one, serve_local, serve_copy, leaving, hand_over_to, is_gone, is_void}
 use Rattle.lt_modes.specs.SetMove.{Way, Parks, Goes, dealt, sent_on, route, tell_of, make_tell, given, asked, dropped}
 use Rattle.lt_spec.specs.World.{World}
 use Rattle.lt_spec.specs.Facts.{state_at, DeskIs}
@@ -24,7 +26,7 @@ use Rattle.lt_law_invariant.proofs.AfterEffect.{state_here, part_stays, comes_st
 use Rattle.lt_law_invariant.proofs.CopyService.{copy_service_keeps}
 use Rattle.lt_law_invariant.proofs.TakeToken.{hand_over_keeps}
 use Rattle.lt_law_invariant.proofs.Freezes.{freeze_keeps}
-use Rattle.lt_law_invariant.proofs.OwnSteps.{HasDesk, grant_keeps, unlock_keeps, drop_keeps, route_ask_keeps, asked_keeps, local_service_keeps, stays_keeps, desk_with}
+use Rattle.lt_law_invariant.proofs.OwnSteps.{HasDesk, grant_keeps, unlock_keeps, drop_keeps, route_ask_keeps, asked_keeps, local_service_keeps, stays_keeps, desk_with, gone_keeps}
 use Rattle.lt_law_invariant.proofs.Tells.{tell_keeps, no_tell_keeps}
 
 -- the ledgers with the desk where it is; node q keeps this desk, or none
@@ -90,6 +92,11 @@ pub all_dropped : (script : ScriptData) (w : World) (s q client : ℕ) → q < s
     → Ledger script (Acting q) (after_effect w q s (silent (dropped client (state_at w s q)))) s q (state_at w s q).desk
 all_dropped script w s q client below l =
     stay script (Acting q) (Acting q) w s q (silent (dropped client (state_at w s q))) refl l (drop_keeps script w s q client l.place l.desk below l.kept)
+
+pub regarded : (script : ScriptData) (w : World) (s q : ℕ) (gone : List ℕ) → Ledger script (Acting q) w s q (state_at w s q).desk
+    → Ledger script (Acting q) (after_effect w q s (silent (record (state_at w s q) { gone = gone }))) s q (state_at w s q).desk
+regarded script w s q gone l =
+    stay script (Acting q) (Acting q) w s q (silent (record (state_at w s q) { gone = gone })) refl l (gone_keeps script w s q gone l.place l.desk l.kept)
 
 -- what the node keeps of the desk once it has dealt with this
 abbrev pub with_item : Option Desk → Parked → Option Desk
@@ -170,17 +177,11 @@ serves script w s k stamp below next waiting alone l = by_desk (state_at w s sta
         → Ledger script (Acting q) (after_effect w q s (serve_one s stamp k t)) s q (serve_one s stamp k t).state.desk
     by_desk None away h = none_some k (sym (ap (next_at q t) away) ∙ next)
     by_desk (Some desk) here h = elim (serves_by_rule q k t desk here next) [
-      | inl free ↦
-          let m = serve_local s k t in
-          let left : Desk = record desk { queue = remove (queue_of t) k } in
-          let now : m.state.desk ≡ Some left = ap (λ (o : Option Desk). put_queue (remove (queue_of t) k) o) here in
-          let waits : Contains t.pending ask = subst (λ (y : ℕ). Contains (state_at w s y).pending ask) free.node (waiting ask among).waits in
-          subst (λ (b : Bool). Ledger script (Acting q) (after_effect w q s (if b then serve_local s k t else serve_copy s stamp k ask t)) s q
-          (if b then serve_local s k t else serve_copy s stamp k ask t).state.desk) (sym (eq-eqb ask.node q free.node))
-          (subst (Ledger script (Acting q) (after_effect w q s m) s q) (sym now)
-          (ledger_here script (Acting q) (after_effect w q s m) s q left below (ap (λ (u : SetState). u.desk) (state_here w q s m) ∙ now) old.1
-          (local_service_keeps script w s q k desk below here old.1 free waits (alone ask among free.node) old.0)))
-      | inr free ↦
+      | inl void ↦
+          let parts = and_parts (ask.node == q) (is_gone t ask.client) void in
+          own_service (eqb-true ask.node q parts.0) (λ live. absurd (false≢true (sym live ∙ parts.1)))
+      | inr (inl free) ↦ own_service free.node (λ live. free)
+      | inr (inr free) ↦
           let m = serve_copy s stamp k ask t in
           let now : m.state.desk ≡ Some (copied ask k desk) = ap (owed_at ask k) here in
           subst (λ (b : Bool). Ledger script (Acting q) (after_effect w q s (if b then serve_local s k t else serve_copy s stamp k ask t)) s q
@@ -193,6 +194,19 @@ serves script w s k stamp below next waiting alone l = by_desk (state_at w s sta
       where
         old : DeskKept script (Acting q) w s (Some q) desk × (length desk.entries ≡ script.nodes)
         old = kept_here script (Acting q) w s q desk h
+
+        own_service : ask.node ≡ q → (is_gone t ask.client ≡ false → IsLocallyFree q t desk ask)
+            → Ledger script (Acting q) (after_effect w q s (serve_one s stamp k t)) s q (serve_one s stamp k t).state.desk
+        own_service node free =
+            let m = serve_local s k t in
+            let left : Desk = record desk { queue = remove (queue_of t) k } in
+            let now : m.state.desk ≡ Some left = ap (λ (o : Option Desk). put_queue (remove (queue_of t) k) o) here in
+            let waits : Contains t.pending ask = subst (λ (y : ℕ). Contains (state_at w s y).pending ask) node (waiting ask among).waits in
+            subst (λ (b : Bool). Ledger script (Acting q) (after_effect w q s (if b then serve_local s k t else serve_copy s stamp k ask t)) s q
+            (if b then serve_local s k t else serve_copy s stamp k ask t).state.desk) (sym (eq-eqb ask.node q node))
+            (subst (Ledger script (Acting q) (after_effect w q s m) s q) (sym now)
+            (ledger_here script (Acting q) (after_effect w q s m) s q left below (ap (λ (u : SetState). u.desk) (state_here w q s m) ∙ now) old.1
+            (local_service_keeps script w s q k desk below here old.1 free waits (alone ask among node) old.0)))
 
 -- the desk here has frozen
 pub record FrozenHere (script : ScriptData) (w : World) (s q : ℕ) (o : Option Desk) : Type 0 where

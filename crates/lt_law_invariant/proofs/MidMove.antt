@@ -86,7 +86,7 @@ stands_at_rest script w s x a h rest below waits =
           | inl comes ↦ absurd (no_letters script w s q (TokenBody comes.0) h.paths rest comes.1)
           | inr behind ↦
               let own =
-              (All-contains (SoundPending (numbers_of script) q (state_at w s q).held) (state_at w s q).pending behind.0
+              (All-contains (SoundPending (numbers_of script) q (state_at w s q)) (state_at w s q).pending behind.0
               (h.states q hq).pending behind.1).node in (
                 q,
                 behind.0,
@@ -123,7 +123,7 @@ led script w s h rest zero v x a hx waits (inl none) = absurd (omega (arith, non
 led script w s h rest (suc c) v x a hx waits (inl before) = elim (cases_eq a.stamp.clock c) [
   | inr other ↦ led script w s h rest c v x a hx waits (inl (omega (arith, before, other)))
   | inl same ↦
-      let own = All-contains (SoundPending (numbers_of script) x (state_at w s x).held) (state_at w s x).pending a (h.states x hx).pending waits in
+      let own = All-contains (SoundPending (numbers_of script) x (state_at w s x)) (state_at w s x).pending a (h.states x hx).pending waits in
       led script w s h rest c script.nodes x a hx waits (inr (same, omega (arith, own.maker, hx)))
 ]
 led script w s h rest c (suc v) x a hx waits (inr (same, below)) = elim (stands_at_rest script w s x a h rest hx waits) [

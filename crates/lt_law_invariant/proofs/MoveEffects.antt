@@ -9,7 +9,7 @@ use Rattle.lt_modes.specs.Modes.{Modes, bars, same_modes, excludes_itself, with_
 use Rattle.lt_modes.specs.Script.{ScriptData}
 use Rattle.lt_modes.specs.State.{SetState, Desk, Parked, ParkedAsk, ParkedTell, Made, Post, silent, no_ask}
 use Rattle.lt_modes.specs.Freezing.{can_grant, freeze}
-use Rattle.lt_modes.specs.Serving.{ask_at, queue_of, queue_of_desk, next_service, next_draw, draw_from, move_at, may_draw, serve_one, serve_local, serve_copy, hand_over_to}
+use Rattle.lt_modes.specs.Serving.{ask_at, queue_of, queue_of_desk, next_service, next_draw, draw_from, move_at, may_draw, serve_one, serve_local, serve_copy, hand_over_to, without_gone}
 use Rattle.lt_modes.specs.SetMove.{Way, Parks, Goes, reversed, sent_on, route, make_tell, given, asked, ask_of, dropped}
 use Rattle.lt_spec.specs.World.{World}
 use Rattle.lt_spec.specs.Facts.{state_at}
@@ -21,7 +21,7 @@ use Rattle.lt_model.proofs.SentInMove.{Stands, stands}
 use Rattle.lt_model.proofs.StandingBegins.{elsewhere, unanswered, only_here}
 use Rattle.lt_law_invariant.specs.InvariantLaws.{after_effect, IsWaiting}
 use Rattle.lt_law_invariant.proofs.AfterEffect.{clock_stays}
-use Rattle.lt_law_invariant.proofs.Ledgers.{Ledger, FrozenHere, Ended, granted, unlocked, all_dropped, waited, serves, freezes, stays, leaves, tells, tells_not}
+use Rattle.lt_law_invariant.proofs.Ledgers.{Ledger, FrozenHere, Ended, granted, unlocked, all_dropped, waited, serves, freezes, stays, leaves, tells, tells_not, regarded}
 use Rattle.lt_law_invariant.proofs.MidMove.{made_of, world_of, leads, at_now, Scene, queue_waits, no_copy, Mid, Begun}
 
 -- the place of the ask that draws the desk is one of the queue
@@ -170,9 +170,25 @@ ledger_acts script w base s below stamp scene clock next = record {
       firm = h.1.mid.firm;
     },
   );
-  asks = λ client mode t posts can h. (standing.asks client mode t posts can h.0, asks (λ u. ask_of stamp client mode None u) (λ u. refl) t posts h.1);
-  change_asks = λ client gives_up mode t posts holds can h.
-      (standing.change_asks client gives_up mode t posts holds can h.0, asks (λ u. ask_of stamp client mode (Some gives_up) u) (λ u. refl) t posts h.1);
+  withdraws = λ other t posts waiting h. (
+    standing.withdraws other t posts waiting h.0,
+    record {
+      ledger = quiet (λ u. record u { gone = other ∷ u.gone }) t posts
+          (regarded script (world_of base q s t posts) s q _ (at_now base q s (λ u. Ledger script (Acting q) (world_of base q s t posts) s q u.desk) t posts h.1.mid.ledger));
+      firm = h.1.mid.firm;
+    },
+  );
+  retakes = λ ask t posts gone same h. (
+    standing.retakes ask t posts gone same h.0,
+    record {
+      ledger = quiet (λ u. record u { gone = without_gone u.gone ask.client }) t posts
+          (regarded script (world_of base q s t posts) s q _ (at_now base q s (λ u. Ledger script (Acting q) (world_of base q s t posts) s q u.desk) t posts h.1.mid.ledger));
+      firm = h.1.mid.firm;
+    },
+  );
+  asks = λ client mode t posts can free h. (standing.asks client mode t posts can free h.0, asks (λ u. ask_of stamp client mode None u) (λ u. refl) t posts h.1);
+  change_asks = λ client gives_up mode t posts holds can free h.
+      (standing.change_asks client gives_up mode t posts holds can free h.0, asks (λ u. ask_of stamp client mode (Some gives_up) u) (λ u. refl) t posts h.1);
 }
   where
     q : ℕ

@@ -1,5 +1,6 @@
 -- Effects of a node on its own account keep the ledgers: grants, unlocks, drops, asks, and answers at the desk.
-use Rattle.std.proofs.Common.{◌≡◌, ℕ, ◌<◌, [], ◌∷◌, ◌++◌, length, Option, Some, None, Bool, true, false, refl, sym, ap, subst, ◌∙◌, ◌==◌, ◌&&◌, not, if◌then◌else◌, Contains, IsFalse, is_some, remove, filter_map, eq-eqb, ne_eqb, append-nil}
+use Rattle.lt_model.proofs.Voids.{local_by}
+use Rattle.std.proofs.Common.{◌≡◌, ℕ, ◌<◌, [], ◌∷◌, ◌++◌, length, Option, Some, None, Bool, true, false, refl, sym, ap, subst, ◌∙◌, ◌==◌, ◌&&◌, not, if◌then◌else◌, Contains, IsFalse, is_some, remove, filter_map, eq-eqb, ne_eqb, append-nil, List}
 use Rattle.std.proofs.lemmas.List.Elements.{filter_map-append}
 use Rattle.lt_modes.specs.declared.mode.Mode.{Mode}
 use Rattle.lt_modes.specs.declared.stamp.Stamp.{Stamp}
@@ -9,13 +10,13 @@ use Rattle.lt_modes.specs.Modes.{Modes, excludes_itself, has, bars, held_modes, 
 use Rattle.lt_modes.specs.Script.{ScriptData}
 use Rattle.lt_modes.specs.State.{SetState, Desk, Parked, ParkedAsk, ParkedTell, Made, silent, entry_of, others}
 use Rattle.lt_modes.specs.Freezing.{can_grant}
-use Rattle.lt_modes.specs.Serving.{ask_at, queue_of, serve_local}
+use Rattle.lt_modes.specs.Serving.{ask_at, queue_of, serve_local, is_gone}
 use Rattle.lt_modes.specs.SetMove.{Way, Parks, Goes, dealt, reversed, sent_on, route, given, asked, dropped}
 use Rattle.lt_spec.specs.World.{World}
 use Rattle.lt_spec.specs.Facts.{state_at}
 use Rattle.lt_model.specs.OnWay.{Between, Acting, Frozen, is_at, tell_parked, tells_of, copies_to, account_of, news_of}
 use Rattle.lt_law_accounts.specs.AccountSteps.{MayGrant, MayAnswer}
-use Rattle.lt_law_accounts.specs.AccountPlay.{AllKept, Wait, Grant, Unlock, Drop, Answer, Rest, others_counted}
+use Rattle.lt_law_accounts.specs.AccountPlay.{AllKept, Wait, Grant, Unlock, Drop, Answer, Rest, others_counted, Void}
 use Rattle.lt_model.specs.AccountRules.{own_account, IsLocallyFree, account_with}
 use Rattle.lt_law_accounts.specs.News.{NewsKept}
 use Rattle.lt_model.specs.Invariant.{DeskKept}
@@ -107,6 +108,20 @@ drop_keeps script w s q client place desk below h =
   where
     m : Made
     m = silent (dropped client (state_at w s q))
+
+    quiet : QuietMade (state_at w s q) m
+    quiet = record { posts = tt; parked = λ x. refl }
+
+-- which asks were given up no account and no news reads
+pub gone_keeps : (script : ScriptData) (w : World) (s q : ℕ) (gone : List ℕ) (place : Option ℕ) (desk : Desk) → DeskKept script (Acting q) w s place desk
+    → DeskKept script (Acting q) (after_effect w q s (silent (record (state_at w s q) { gone = gone }))) s place desk
+gone_keeps script w s q gone place desk h =
+    kept_by script (Acting q) (after_effect w q s m) s place desk
+    (accounts_stay script (Acting q) w q s m place desk desk quiet (record { held = refl; charge = refl; pending = refl }) (λ x. refl) (all_kept script (Acting q) w s place desk h))
+    (λ x under. news_stay script (Acting q) w q s m place desk x quiet (record { number = refl; frozen = refl }) (h.news x under))
+  where
+    m : Made
+    m = silent (record (state_at w s q) { gone = gone })
 
     quiet : QuietMade (state_at w s q) m
     quiet = record { posts = tt; parked = λ x. refl }
@@ -215,9 +230,10 @@ asked_keeps script w s q stamp ask place desk below has_desk now first h =
         (all_kept script (Acting q) w s place desk h) (record { moves = eq-eqb q q refl; now = now; first = first })
         (account_as (w.node q).clock (is_at place q) (q == q) (entry_of desk q) (tells_of script w s q) (copies_to script w s q) more m.state own)
 
--- the desk's node grants an ask of its own
+-- the desk's node grants an ask of its own, or answers one that was given up
 pub local_service_keeps : (script : ScriptData) (w : World) (s q k : ℕ) (desk : Desk) → q < script.nodes → (state_at w s q).desk ≡ Some desk
-    → length desk.entries ≡ script.nodes → IsLocallyFree q (state_at w s q) desk (ask_at (state_at w s q) k)
+    → length desk.entries ≡ script.nodes
+    → (is_gone (state_at w s q) (ask_at (state_at w s q) k).client ≡ false → IsLocallyFree q (state_at w s q) desk (ask_at (state_at w s q) k))
     → Contains (state_at w s q).pending (ask_at (state_at w s q) k) → (Contains (copies_to script w s q) (ask_at (state_at w s q) k) → ⊥)
     → DeskKept script (Acting q) w s (Some q) desk
     → DeskKept script (Acting q) (after_effect w q s (serve_local s k (state_at w s q))) s (Some q) (record desk { queue = remove (queue_of (state_at w s q)) k })
@@ -247,17 +263,23 @@ local_service_keeps script w s q k desk below at entries free waits alone h =
     same_others : others q t desk q ≡ against
     same_others = rules_count.others script (Acting q) w s q q desk entries
 
-    may : MayAnswer against ask (account_of script (Acting q) w s (Some q) desk q)
-    may = record {
+    may : is_gone t ask.client ≡ false → MayAnswer against ask (account_of script (Acting q) w s (Some q) desk q)
+    may live = record {
       here = eq-eqb q q refl;
       waits = waits;
       alone = alone;
-      free = subst (λ (o : Modes). IsFalse (has ask.mode (bars o))) same_others free.free;
-      local = free.local;
+      free = subst (λ (o : Modes). IsFalse (has ask.mode (bars o))) same_others (free live).free;
+      local = (free live).local;
     }
 
+    by_gone : (gone : Bool) → is_gone t ask.client ≡ gone → AllKept script.nodes (account_of script (Acting q) (after_effect w q s (local_by s k t gone)) s (Some q) left)
+    by_gone true e = own_happens script (Acting q) w q s (local_by s k t true) (Some q) left desk (Void ask) (record { posts = tt; parked = λ x. refl }) (λ x. refl) below
+        (all_kept script (Acting q) w s (Some q) desk h) (record { waits = waits; alone = alone }) refl
+    by_gone false e = own_happens script (Acting q) w q s (local_by s k t false) (Some q) left desk (Answer ask) (record { posts = tt; parked = λ x. refl }) (λ x. refl) below
+        (all_kept script (Acting q) w s (Some q) desk h) (may e) refl
+
     kept : AllKept script.nodes (account_of script (Acting q) (after_effect w q s m) s (Some q) left)
-    kept = own_happens script (Acting q) w q s m (Some q) left desk (Answer ask) quiet (λ x. refl) below (all_kept script (Acting q) w s (Some q) desk h) may refl
+    kept = by_gone (is_gone t ask.client) refl
 
 -- the move ends at the desk's node
 pub stays_keeps : (script : ScriptData) (w : World) (s q : ℕ) (desk : Desk) → q < script.nodes

@@ -1,23 +1,24 @@
 -- In a run a client makes no more commands than it has.
+use Rattle.lt_model.proofs.Voids.{withdraws_ways}
 use Rattle.std.proofs.Common.{◌≡◌, ℕ, ◌+◌, ◌<◌, ◌≤◌, inl, inr, Bool, true, false, List, [], ◌∷◌, length, Option, Some, None, refl, arith, ap, sym, subst, ◌∙◌, ◌≢◌, ◌++◌, ◌==◌, ◌&&◌, not, nat_lt, IsTrue, ◌⊎◌, if◌then◌else◌, AllPairs, Contains, eqb-true, ltb-true}
 use Rattle.std.proofs.lemmas.Bool.{cases_eq, and_parts}
 use Rattle.std.proofs.lemmas.List.Elements.{All-contains}
 use Rattle.lt_modes.specs.declared.stamp.Stamp.{Stamp}
 use Rattle.lt_modes.specs.declared.command.Command.{Command}
-use Rattle.lt_modes.specs.declared.command.Command.TheVariants.{Lock, Unlock, Try, Change, DropAll}
+use Rattle.lt_modes.specs.declared.command.Command.TheVariants.{Lock, Unlock, Try, Change, DropAll, Withdraw}
 use Rattle.lt_modes.specs.declared.moves.Step.{Step}
 use Rattle.lt_modes.specs.declared.moves.Step.TheVariants.{Act, Take}
 use Rattle.lt_modes.specs.Script.{ScriptData}
 use Rattle.lt_modes.specs.State.{SetState, Letter, Made, Desk, Body, AskBody, TellBody, CopyBody, TokenBody, FreezeBody, ParkedAsk, ParkedTell, first_state}
-use Rattle.lt_modes.specs.SetMove.{finish, drop, learn, tell_of, take_body, ask_of, dropped, lock, try, unlock, change, take as take_letter}
+use Rattle.lt_modes.specs.SetMove.{finish, drop, learn, tell_of, take_body, ask_of, dropped, lock, try, unlock, change, take as take_letter, withdraw, withdrawn}
 use Rattle.lt_modes.specs.declared.parts.Row.{Row}
 use Rattle.lt_modes.specs.Modes.{held_modes}
-use Rattle.lt_modes.specs.Serving.{ask_at, serve_local, serve_copy, hand_over_to}
+use Rattle.lt_modes.specs.Serving.{ask_at, serve_local, serve_copy, hand_over_to, is_gone, answered}
 use Rattle.lt_modes.specs.Freezing.{freeze_at}
 use Rattle.lt_lists.specs.Below.{put}
 use Rattle.lt_lists.proofs.Puts.{put-same, put-other}
 use Rattle.lt_spec.specs.NodeMove.{commands_of, home, related, NodeState, node_waits, touched, each_touched, drop_all, obey, has_command, next_command, act_stamp, at_clock, one_made, take_stamp, IsWhole}
-use Rattle.lt_spec.specs.World.{Logged, World, start, is_waiting, is_runnable, is_enabled, take_front, node_move, after, after_run, IsRun, IsRunFrom}
+use Rattle.lt_spec.specs.World.{Logged, World, start, is_waiting, is_runnable, is_enabled, take_front, node_move, after, after_run, IsRun, IsRunFrom, is_free_to_act}
 use Rattle.lt_spec.specs.Facts.{state_at}
 use Rattle.lt_model.proofs.NodeEffects.{after_node}
 use Rattle.lt_model.specs.Invariant.{WorldInvariant}
@@ -44,6 +45,7 @@ obey-made script stamp client (Some (Lock s mode)) n c = refl
 obey-made script stamp client (Some (Try s mode)) n c = refl
 obey-made script stamp client (Some (Unlock s mode)) n c = refl
 obey-made script stamp client (Some (Change s gives_up mode)) n c = refl
+obey-made script stamp client (Some (Withdraw other s)) n c = refl
 obey-made script stamp client (Some (DropAll other s)) n c =
     drop-made (node_waits script n other) stamp client other s (related script s) n c
 
@@ -63,7 +65,7 @@ moved_made script w q (Act client) h enabled c =
     let parts = and_parts (home script client == q) (is_runnable script w client) (and_parts (nat_lt client (length script.clients)) (home script client == q && is_runnable script w client) enabled).1 in
     let here = eqb-true (home script client) q parts.0 in
     let has : (w.node (home script client)).made client < length (commands_of script client) =
-    ltb-true _ _ (and_parts (not (is_waiting script w client)) (has_command script (w.node (home script client)) client) parts.1).1 in
+    ltb-true _ _ (and_parts (is_free_to_act script w client) (has_command script (w.node (home script client)) client) parts.1).1 in
     let left : n.made client < length (commands_of script client) =
     subst (λ (x : ℕ). (w.node x).made client < length (commands_of script client)) here has in
     elim (cases_eq c client) [
@@ -112,7 +114,11 @@ single_ends set stamp = record {
 }
   where
     served : (t : SetState) (k : ℕ) → Single t.held → (own : Bool) → Single (if own then serve_local set k t else serve_copy set stamp k (ask_at t k) t).state.held
-    served t k h true = single_answered t.held (ask_at t k).client (ask_at t k).mode (ask_at t k).gives_up h
+    served t k h true = by_gone (is_gone t (ask_at t k).client)
+      where
+        by_gone : (gone : Bool) → Single (if gone then t.held else answered t.held (ask_at t k))
+        by_gone true = h
+        by_gone false = single_answered t.held (ask_at t k).client (ask_at t k).mode (ask_at t k).gives_up h
     served t k h false = h
 
     frozen : (t : SetState) → Single t.held → (o : Option Desk) → Single (freeze_at set stamp t o).state.held
@@ -134,6 +140,8 @@ single_acts set stamp client = record {
   asks = λ mode gives_up t h. subst Single
       (sym (route_same set stamp false (ParkedAsk (ask_of stamp client mode gives_up t))
       (record t { pending = t.pending ++ ask_of stamp client mode gives_up t ∷ [] })).1.held) h;
+  retakes = λ mode t h. h;
+  withheld = λ mode t h. h;
   ended = λ t m a h. finish_rule set stamp stays_single (single_ends set stamp) m.state (a h);
 }
 
@@ -152,7 +160,11 @@ single_take stamp letter t =
     by_body : (body : Body) → Single u.held → Single (take_body letter.set stamp body u).state.held
     by_body (AskBody ask marked) h = subst Single (sym (route_same letter.set stamp marked (ParkedAsk ask) u).1.held) h
     by_body (TellBody tell) h = subst Single (sym (route_same letter.set stamp false (ParkedTell tell) u).1.held) h
-    by_body (CopyBody ask) h = single_answered u.held ask.client ask.mode ask.gives_up h
+    by_body (CopyBody ask) h = by_gone (is_gone u ask.client)
+      where
+        by_gone : (gone : Bool) → Single (if gone then u.held else answered u.held ask)
+        by_gone true = h
+        by_gone false = single_answered u.held ask.client ask.mode ask.gives_up h
     by_body (TokenBody desk) h = h
     by_body (FreezeBody number modes) h = by_test (nat_lt u.number number)
       where
@@ -191,6 +203,10 @@ obey_single script stamp client (Some (Unlock s mode)) n h =
 obey_single script stamp client (Some (Change s gives_up mode)) n h =
     touched_single n s (change s stamp client gives_up mode (n.set s)) h
     ((command_rules s stamp client stays_single (single_acts s stamp client)).changes gives_up mode (n.set s) (h s))
+obey_single script stamp client (Some (Withdraw other s)) n h =
+    touched_single n s (withdraw s stamp client other (n.set s)) h
+    (finish_rule s stamp stays_single (single_ends s stamp) (withdrawn s client other (n.set s)).state
+    (withdraws_ways (λ (m : Made). Single m.state.held) s client other (n.set s) (λ waiting. h s) (λ idle. h s)))
 obey_single script stamp client (Some (DropAll other s)) n h = by_waits (node_waits script n other)
   where
     by_waits : (waiting : Bool) → AllSingle (drop_all waiting stamp client other s (related script s) n).node

@@ -1,5 +1,5 @@
 -- An ask that leaves a queue by being served conflicts with no ask that stands before it.
-use Rattle.std.proofs.Common.{◌≡◌, ◌≢◌, ℕ, zero, suc, ◌+◌, ◌<◌, inl, inr, List, [], ◌∷◌, ◌++◌, length, Option, Some, None, Bool, true, false, refl, sym, ap, subst, arith, take, ◌∙◌, ◌⊎◌, ◌||◌, not, if◌then◌else◌, All, Contains, IsTrue, IsFalse, slice_index_or}
+use Rattle.std.proofs.Common.{◌≡◌, ◌≢◌, ℕ, zero, suc, ◌+◌, ◌<◌, inl, inr, List, [], ◌∷◌, ◌++◌, length, Option, Some, None, Bool, true, false, refl, sym, ap, subst, arith, take, ◌∙◌, ◌⊎◌, ◌||◌, not, if◌then◌else◌, All, Contains, IsTrue, IsFalse, slice_index_or, ◌==◌, ◌&&◌}
 use Rattle.std.specs.List.{AllByRecursion}
 use Rattle.std.proofs.lemmas.Bool.{and_parts}
 use Rattle.std.proofs.lemmas.List.Elements.{All-nil, All-cons}
@@ -7,15 +7,15 @@ use Rattle.lt_modes.specs.declared.mode.Mode.{Mode}
 use Rattle.lt_modes.specs.declared.stamp.Stamp.{Stamp}
 use Rattle.lt_modes.specs.declared.ask.Ask.{Ask}
 use Rattle.lt_modes.specs.declared.command.Command.{Command}
-use Rattle.lt_modes.specs.declared.command.Command.TheVariants.{Lock, Unlock, Try, Change, DropAll}
+use Rattle.lt_modes.specs.declared.command.Command.TheVariants.{Lock, Unlock, Try, Change, DropAll, Withdraw}
 use Rattle.lt_modes.specs.declared.event.Event.{Event}
 use Rattle.lt_modes.specs.declared.moves.Step.{Step}
 use Rattle.lt_modes.specs.declared.moves.Step.TheVariants.{Act, Take}
 use Rattle.lt_modes.specs.Modes.{Modes, conflicts, has, no_modes, union, bars, with_mode}
 use Rattle.lt_modes.specs.Script.{ScriptData}
 use Rattle.lt_modes.specs.State.{SetState, Desk, Letter, Made, no_ask, others}
-use Rattle.lt_modes.specs.Serving.{queue_of, queue_of_desk, is_free, is_local, is_copy, is_served, next_from, next_at, next_service, serve_one, serve_up_to, serve_step}
-use Rattle.lt_modes.specs.SetMove.{dropped, lock, try, unlock, change, drop, take as take_letter, arrive, finish}
+use Rattle.lt_modes.specs.Serving.{queue_of, queue_of_desk, is_free, is_local, is_copy, is_served, next_from, next_at, next_service, serve_one, serve_up_to, serve_step, is_gone, is_void, is_ready}
+use Rattle.lt_modes.specs.SetMove.{dropped, lock, try, unlock, change, drop, take as take_letter, arrive, finish, withdraw}
 use Rattle.lt_modes.proofs.ModeAlgebra.{bars_by_table}
 use Rattle.lt_lists.specs.Below.{put}
 use Rattle.lt_lists.proofs.Puts.{put-same, put-other}
@@ -31,14 +31,25 @@ not_false true e = cc
 not_false false e = refl
 
 -- the ask conflicts with no mode that stands before it
-free_of : (me : ℕ) (s : SetState) (desk : Desk) (before : Modes) (ask : Ask) → is_served me s desk before ask ≡ true → (other : Mode)
+free_of : (me : ℕ) (s : SetState) (desk : Desk) (before : Modes) (ask : Ask) → is_gone s ask.client ≡ false → is_served me s desk before ask ≡ true → (other : Mode)
     → IsTrue (has other before) → IsFalse (conflicts ask.mode other)
-free_of me s desk before ask e other member = by_test (conflicts ask.mode other) refl
+free_of me s desk before ask live e other member = by_test (conflicts ask.mode other) refl
   where
+    no_void : (own gone : Bool) → gone ≡ false → (own && gone) ≡ false
+    no_void true gone f = f
+    no_void false gone f = refl
+
+    second : (first rest : Bool) → first ≡ false → (first || rest) ≡ true → rest ≡ true
+    second true rest f g = cc
+    second false rest f g = g
+
+    ready : is_ready me s desk before ask ≡ true
+    ready = second (is_void me s ask) (is_ready me s desk before ask) (no_void (ask.node == me) (is_gone s ask.client) live) e
+
     free : has ask.mode (bars (union (others me s desk ask.node) before)) ≡ false
     free =
         not_false (has ask.mode (bars (union (others me s desk ask.node) before)))
-        (and_parts (is_free me s desk before ask) (is_local me s desk ask || is_copy me s desk ask) e).0
+        (and_parts (is_free me s desk before ask) (is_local me s desk ask || is_copy me s desk ask) ready).0
 
     by_test : (t : Bool) → conflicts ask.mode other ≡ t → t ≡ false
     by_test false f = refl
@@ -49,8 +60,9 @@ free_of me s desk before ask e other member = by_test (conflicts ask.mode other)
 
 -- the ask that is next conflicts neither with a mode from before these asks, nor with one of them that stands before it
 next_in_turn : (me : ℕ) (s : SetState) (desk : Desk) (before : Modes) (first : ℕ) (queue : List Ask) (k : ℕ) → next_from me s desk before first queue ≡ Some k
-    → (i : ℕ) × (k ≡ first + i) × ((other : Mode) → IsTrue (has other before) → IsFalse (conflicts (slice_index_or queue i no_ask).mode other))
-    × ((j : ℕ) → j < i → IsFalse (conflicts (slice_index_or queue i no_ask).mode (slice_index_or queue j no_ask).mode))
+    → (i : ℕ) × (k ≡ first + i)
+    × (is_gone s (slice_index_or queue i no_ask).client ≡ false → (other : Mode) → IsTrue (has other before) → IsFalse (conflicts (slice_index_or queue i no_ask).mode other))
+    × (is_gone s (slice_index_or queue i no_ask).client ≡ false → (j : ℕ) → j < i → IsFalse (conflicts (slice_index_or queue i no_ask).mode (slice_index_or queue j no_ask).mode))
 next_in_turn me s desk before first [] k e = cc
 next_in_turn me s desk before first (ask ∷ rest) k e =
     by_test (is_served me s desk before ask) refl e (λ f. next_in_turn me s desk (with_mode before ask.mode) (first + 1) rest k f)
@@ -58,15 +70,16 @@ next_in_turn me s desk before first (ask ∷ rest) k e =
     by_test : (now : Bool) → is_served me s desk before ask ≡ now
         → (if now then Some first else next_from me s desk (with_mode before ask.mode) (first + 1) rest) ≡ Some k
         → (next_from me s desk (with_mode before ask.mode) (first + 1) rest ≡ Some k
-        → (i : ℕ) × (k ≡ first + 1 + i) × ((other : Mode) → IsTrue (has other (with_mode before ask.mode)) → IsFalse
+        → (i : ℕ) × (k ≡ first + 1 + i) × (is_gone s (slice_index_or rest i no_ask).client ≡ false → (other : Mode) → IsTrue (has other (with_mode before ask.mode)) → IsFalse
         (conflicts (slice_index_or rest i no_ask).mode other))
-        × ((j : ℕ) → j < i → IsFalse (conflicts (slice_index_or rest i no_ask).mode (slice_index_or rest j no_ask).mode)))
-        → (i : ℕ) × (k ≡ first + i) × ((other : Mode) → IsTrue (has other before) → IsFalse (conflicts (slice_index_or (ask ∷ rest) i no_ask).mode other))
-        × ((j : ℕ) → j < i → IsFalse (conflicts (slice_index_or (ask ∷ rest) i no_ask).mode (slice_index_or (ask ∷ rest) j no_ask).mode))
-    by_test true test f again = let same : first ≡ k = cc in (0, omega (arith, same), free_of me s desk before ask test, λ j none. absurd (omega (arith, none)))
+        × (is_gone s (slice_index_or rest i no_ask).client ≡ false → (j : ℕ) → j < i → IsFalse (conflicts (slice_index_or rest i no_ask).mode (slice_index_or rest j no_ask).mode)))
+        → (i : ℕ) × (k ≡ first + i)
+        × (is_gone s (slice_index_or (ask ∷ rest) i no_ask).client ≡ false → (other : Mode) → IsTrue (has other before) → IsFalse (conflicts (slice_index_or (ask ∷ rest) i no_ask).mode other))
+        × (is_gone s (slice_index_or (ask ∷ rest) i no_ask).client ≡ false → (j : ℕ) → j < i → IsFalse (conflicts (slice_index_or (ask ∷ rest) i no_ask).mode (slice_index_or (ask ∷ rest) j no_ask).mode))
+    by_test true test f again = let same : first ≡ k = cc in (0, omega (arith, same), λ live. free_of me s desk before ask live test, λ live j none. absurd (omega (arith, none)))
     by_test false test f again =
         let found = again f in
-        (suc found.0, omega (arith, found.1), λ other member. found.2 other (has-kept other ask.mode before member), behind found.0 found.2 found.3)
+        (suc found.0, omega (arith, found.1), λ live other member. found.2 live other (has-kept other ask.mode before member), λ live. behind found.0 (found.2 live) (found.3 live))
       where
         behind : (i : ℕ) → ((other : Mode) → IsTrue (has other (with_mode before ask.mode)) → IsFalse (conflicts (slice_index_or rest i no_ask).mode other))
             → ((j : ℕ) → j < i → IsFalse (conflicts (slice_index_or rest i no_ask).mode (slice_index_or rest j no_ask).mode))
@@ -83,9 +96,10 @@ service_in_turn me k s e = by_desk s.desk refl e
         let found = next_in_turn me s desk no_modes 0 desk.queue k f in
         let queue : queue_of s ≡ desk.queue = ap queue_of_desk here in
         let place : found.0 ≡ k = omega (arith, found.1) in
-        λ j before_it. subst (λ (l : List Ask). IsFalse (conflicts (slice_index_or l k no_ask).mode (slice_index_or l j no_ask).mode)) (sym queue)
+        λ j before_it live. subst (λ (l : List Ask). IsFalse (conflicts (slice_index_or l k no_ask).mode (slice_index_or l j no_ask).mode)) (sym queue)
         (subst (λ (i : ℕ). IsFalse (conflicts (slice_index_or desk.queue i no_ask).mode (slice_index_or desk.queue j no_ask).mode)) place
-        (found.3 j (omega (arith, before_it, place))))
+        (found.3 (ap (λ (i : ℕ). is_gone s (slice_index_or desk.queue i no_ask).client) place ∙ (ap (λ (l : List Ask). is_gone s (slice_index_or l k no_ask).client) (sym queue) ∙ live))
+        j (omega (arith, before_it, place))))
 
 services_in_turn : (n set : ℕ) (stamp : Stamp) (s : SetState) → All IsInTurn (services_up_to n set stamp s)
 services_in_turn zero set stamp s = All-nil IsInTurn
@@ -149,6 +163,8 @@ obey_ends script stamp client s (Some (Unlock set mode)) n there =
 obey_ends script stamp client s (Some (Change set gives_up mode)) n there =
     ap (λ (k : ℕ). put n.set k (change k stamp client gives_up mode (n.set k)).state s) (own_set set s there) ∙ put-same n.set s
     (change s stamp client gives_up mode (n.set s)).state
+obey_ends script stamp client s (Some (Withdraw other set)) n there =
+    ap (λ (k : ℕ). put n.set k (withdraw k stamp client other (n.set k)).state s) (own_set set s there) ∙ put-same n.set s (withdraw s stamp client other (n.set s)).state
 obey_ends script stamp client s (Some (DropAll other set)) n there = by_once (once_or_aside script s (Some (DropAll other set)))
   where
     by_waits : IsOnce s (related script set) → (waiting : Bool)
@@ -177,6 +193,7 @@ move_ends script w q (Act client) s there =
     same (Some (Unlock set mode)) = refl
     same (Some (Change set gives_up mode)) = refl
     same (Some (DropAll other set)) = refl
+    same (Some (Withdraw other set)) = refl
 move_ends script w q (Take p) s there = by_letters (w.mail p q) there
   where
     by_letters : (letters : List Letter) → Contains (sets_of_front letters) s

@@ -77,14 +77,14 @@ pub sound_set : (script : ScriptData) (w : World) (s x : ℕ) → IsWhole script
 sound_set script w s x whole g below under differ = record {
   rows = homes.rows;
   rows_apart = differ;
-  pending = all_of (SoundPending (numbers_of script) x t.held) t.pending (λ ask there.
+  pending = all_of (SoundPending (numbers_of script) x t) t.pending (λ ask there.
       let own = All-contains (IsSoundOwn script x) t.pending ask homes.pending there in
       record {
         home = own.0;
         node = own.1;
         maker = own.2;
-        gives_up = gives_up_held t.held ask.client ask.gives_up (clients.some s below)
-            (clients.gives s below ask there);
+        gives_up = λ live. gives_up_held t.held ask.client ask.gives_up (clients.some s below)
+            (clients.gives s below ask there live);
       });
   one_ask = one_each t.pending (few_at x under);
   stamps_apart = g.stood.apart x under;
@@ -115,7 +115,7 @@ sound_set script w s x whole g below under differ = record {
     clients = g.clients x under
 
     few_at : (y : ℕ) → y < script.nodes → (c : ℕ) → count_by (is_asks c) (state_at w s y).pending ≤ 1
-    few_at y hy c = omega (arith, (g.clients y hy).kept.one_ask c, sum_below-at (length script.sets) s (λ k. count_by (is_asks c) ((w.node y).set k).pending) below)
+    few_at y hy c = (g.clients y hy).one s below c
 
     asks : OwnAsks script w s
     asks = record { stood = g.stood; own = λ y hy. (g.homes.states y s hy below).pending; few = few_at }

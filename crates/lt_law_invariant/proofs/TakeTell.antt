@@ -1,15 +1,16 @@
 -- A letter in hand that accounts and news don't read, and a copy that is taken, keep the ledgers.
+use Rattle.lt_model.proofs.Voids.{copy_by}
 use Rattle.std.proofs.Common.{◌≡◌, ℕ, ◌<◌, Option, None, refl, sym, subst, ◌∙◌, inl, inr, length, Some, Bool, true, false, ap, ◌==◌, if◌then◌else◌, Contains, is_some, eq-eqb, ne_eqb}
 use Rattle.lt_modes.specs.declared.ask.Ask.{Ask}
 use Rattle.lt_modes.specs.Modes.{with_mode}
 use Rattle.lt_modes.specs.Script.{ScriptData}
 use Rattle.lt_modes.specs.State.{SetState, Desk, Body, CopyBody, Made, without, entry_of, Entry, Tell, TellBody, ParkedTell, silent}
-use Rattle.lt_modes.specs.Serving.{answered, told, tell_applied}
+use Rattle.lt_modes.specs.Serving.{answered, told, tell_applied, is_gone}
 use Rattle.lt_modes.specs.SetMove.{take_copy, route}
 use Rattle.lt_modes.specs.declared.stamp.Stamp.{Stamp}
 use Rattle.lt_spec.specs.World.{World}
 use Rattle.lt_spec.specs.Facts.{state_at}
-use Rattle.lt_law_accounts.specs.AccountPlay.{Deliver, Apply, Reorder}
+use Rattle.lt_law_accounts.specs.AccountPlay.{Deliver, Apply, Reorder, AccountStep, VoidCopy, after_step, MayStep, others_counted}
 use Rattle.lt_law_accounts.specs.News.{NewsKept}
 use Rattle.lt_law_accounts.specs.AccountSteps.{IsLoss, delivering, IsGain, applying, reordering}
 use Rattle.lt_law_accounts.proofs.AccountPlay.{same_kept, one_changes}
@@ -39,16 +40,16 @@ nothing_in_hand script w base s q body place desk hand no_tell no_copy no_freeze
     heard : (x : ℕ) → SameHeard script w base s x
     heard x = hand_heard script w base s q x body hand (no_tell x) (λ e. no_copy) (λ e. no_freeze)
 
--- a copy answers its ask
-pub take_copy_keeps : (script : ScriptData) (w base : World) (s q : ℕ) (ask : Ask) (place : Option ℕ) (desk : Desk) → q < script.nodes
+-- a copy answers its ask, or is void where that was given up
+take_copy_by : (script : ScriptData) (w base : World) (s q : ℕ) (ask : Ask) (place : Option ℕ) (desk : Desk) (gone : Bool) → q < script.nodes
     → InHand script w base s q (CopyBody ask) → HasDesk place desk q (state_at base s q).desk → (Contains (copies_to script base s q) ask → ⊥)
     → DeskKept script (Acting q) w s place desk
-    → DeskKept script (Acting q) (after_effect base q s (take_copy s ask (state_at base s q))) s place desk
-take_copy_keeps script w base s q ask place desk below hand has_desk alone h =
+    → DeskKept script (Acting q) (after_effect base q s (copy_by s ask (state_at base s q) gone)) s place desk
+take_copy_by script w base s q ask place desk gone below hand has_desk alone h =
     kept_by script (Acting q) later s place desk
-    (one_changes script.nodes (account_of script (Acting q) w s place desk) (account_of script (Acting q) later s place desk) q (Deliver ask (copies_to script base s q))
+    (one_changes script.nodes (account_of script (Acting q) w s place desk) (account_of script (Acting q) later s place desk) q (step gone)
     (all_kept script (Acting q) w s place desk h) below
-    (record { moves = eq-eqb q q refl; came = taken.0; left = taken.1; once = alone })
+    (may gone)
     (λ x under d. account_seen script (Acting q) (Acting q) w later s place place desk desk x (record {
       heard = heard_then script w base later s x (hand_heard script w base s q x (CopyBody ask) hand refl (λ e. absurd (d e)) (λ e. refl)) (heard x);
       own = own_then (state_at w s x) (state_at base s x) (state_at later s x) (hand.own x) (own_as (state_at base s x) (state_at later s x) (state_there base q s m x d));
@@ -61,7 +62,7 @@ take_copy_keeps script w base s q ask place desk below hand has_desk alone h =
     t = state_at base s q
 
     m : Made
-    m = take_copy s ask t
+    m = copy_by s ask t gone
 
     later : World
     later = after_effect base q s m
@@ -75,13 +76,32 @@ take_copy_keeps script w base s q ask place desk below hand has_desk alone h =
     taken : Contains (copies_to script w s q) ask × IsLoss ask (copies_to script w s q) (copies_to script base s q)
     taken = copy_in_hand script w base s q ask hand
 
-    own : account_of script (Acting q) later s place desk q ≡ delivering ask (copies_to script base s q) (account_of script (Acting q) w s place desk q)
+    step : Bool → AccountStep
+    step true = VoidCopy ask (copies_to script base s q)
+    step false = Deliver ask (copies_to script base s q)
+
+    may : (g : Bool) → MayStep (others_counted script.nodes (account_of script (Acting q) w s place desk) q) (step g) (account_of script (Acting q) w s place desk q)
+    may true = record { moves = eq-eqb q q refl; came = taken.0; left = taken.1; once = alone }
+    may false = record { moves = eq-eqb q q refl; came = taken.0; left = taken.1; once = alone }
+
+    void_or_delivered : (g : Bool)
+        → record (account_of script (Acting q) w s place desk q) {
+          held = if g then (state_at w s q).held else answered (state_at w s q).held ask;
+          charge = if is_at place q then (state_at w s q).charge else with_mode (state_at w s q).charge ask.mode;
+          pending = without (state_at w s q).pending ask.stamp;
+          copies = copies_to script base s q;
+        }
+        ≡ after_step (step g) (account_of script (Acting q) w s place desk q)
+    void_or_delivered true = refl
+    void_or_delivered false = refl
+
+    own : account_of script (Acting q) later s place desk q ≡ after_step (step gone) (account_of script (Acting q) w s place desk q)
     own =
         account_heard script (Acting q) base later s place desk q (heard q)
         ∙ (λ i. account_with (hand.clocks q i) (is_at place q) (q == q) (entry_of desk q) (state_here base q s m i) (hand.tells q refl i) (copies_to script base s q))
         ∙ (λ i. record {
           clock = (w.node q).clock;
-          held = answered ((hand.own q).held i) ask;
+          held = if gone then (hand.own q).held i else answered ((hand.own q).held i) ask;
           charge = if here i then (hand.own q).charge i else with_mode ((hand.own q).charge i) ask.mode;
           pending = without ((hand.own q).pending i) ask.stamp;
           entry = entry_of desk q;
@@ -90,6 +110,15 @@ take_copy_keeps script w base s q ask place desk below hand has_desk alone h =
           here = is_at place q;
           moving = q == q;
         })
+        ∙ void_or_delivered gone
+
+-- a copy is taken
+pub take_copy_keeps : (script : ScriptData) (w base : World) (s q : ℕ) (ask : Ask) (place : Option ℕ) (desk : Desk) → q < script.nodes
+    → InHand script w base s q (CopyBody ask) → HasDesk place desk q (state_at base s q).desk → (Contains (copies_to script base s q) ask → ⊥)
+    → DeskKept script (Acting q) w s place desk
+    → DeskKept script (Acting q) (after_effect base q s (take_copy s ask (state_at base s q))) s place desk
+take_copy_keeps script w base s q ask place desk below hand has_desk alone h =
+    take_copy_by script w base s q ask place desk (is_gone (state_at base s q) ask.client) below hand has_desk alone h
 
 -- A tell that is taken keeps the ledgers: applied at the desk, or parked or sent on.
 

@@ -35,7 +35,7 @@ DropsStayWithin = (script : ScriptData) (run : List Logged) → IsScript script 
 abbrev pub AsksArePlaced : Type 0
 AsksArePlaced = (script : ScriptData) (run : List Logged) → IsScript script → IsRun script run → (client : ℕ) → client < length script.clients
     → IsTrue (is_runnable script (world_after script run) client)
-    → IsTrue (leaves_asks script ((world_after script run).node (home script client)))
+    → IsTrue (leaves_asks script ((world_after script run).node (home script client)) client)
 
 -- What holds up the parked letters of a node, as it can tell from what it keeps.
 

@@ -2,6 +2,7 @@ pub mod Accepting
 pub mod Places
 pub mod Firsts
 pub mod Answers
+pub mod OwnVersion
 pub mod Short
 pub mod Feeds
 pub mod RowAnswers

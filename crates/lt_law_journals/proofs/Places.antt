@@ -13,7 +13,7 @@ use Rattle.lt_lists.specs.Below.{any_below}
 use Rattle.lt_spec.specs.NodeMove.{home}
 use Rattle.lt_model.proofs.Runs.{IsRunFrom-push}
 use Rattle.lt_journal.specs.declared.line.Line.{Line}
-use Rattle.lt_journal.specs.declared.line.Line.TheVariants.{Version, Move as MoveLine, Event as EventLine, Held, Waiting, Owner, End, Cut, Bad}
+use Rattle.lt_journal.specs.declared.line.Line.TheVariants.{Version2, Version3, Move as MoveLine, Event as EventLine, Held, Waiting, Owner, End, Cut, Bad}
 use Rattle.lt_journal.specs.Grammar.{read_line}
 use Rattle.lt_journal.specs.RunLines.{IsAsWritten, first_lines, event_lines, entry_lines, moves_lines}
 use Rattle.lt_journal.proofs.Found.{as_written}
@@ -101,7 +101,8 @@ next_move script run line place (MoveLine clock node step) same e = elim (cases_
       }
   | inr none ↦ absurd (let e' : None ≡ Some place = sym (ap (λ (b : Bool). cond b (Some (moved script run (logged script (world_after script run) node step))) None) none) ∙ e in cc)
 ]
-next_move script run line place Version same e = absurd (cc)
+next_move script run line place Version2 same e = absurd (cc)
+next_move script run line place Version3 same e = absurd (cc)
 next_move script run line place (EventLine event) same e = absurd (cc)
 next_move script run line place (Held client set mode count) same e = absurd (cc)
 next_move script run line place (Waiting client set mode) same e = absurd (cc)

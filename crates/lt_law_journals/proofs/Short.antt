@@ -10,7 +10,7 @@ use Rattle.lt_modes.specs.declared.command.Command.TheVariants as command
 use Rattle.lt_modes.specs.declared.moves.Step.{Step}
 use Rattle.lt_modes.specs.declared.moves.Step.TheVariants.{Act, Take}
 use Rattle.lt_modes.specs.declared.event.Event.{Event}
-use Rattle.lt_modes.specs.declared.event.Event.TheVariants.{Grant, Wait, Try, Unlock, NotHeld, Change, DropAll, Busy, Copy, Freeze, Token}
+use Rattle.lt_modes.specs.declared.event.Event.TheVariants.{Grant, Wait, Try, Unlock, NotHeld, Change, DropAll, Busy, Withdraw, Withdrawn, Void, Withheld, Copy, Freeze, Token}
 use Rattle.lt_modes.specs.Script.{ScriptData, set_name, client_name}
 use Rattle.lt_modes.specs.declared.mode.Mode.{Mode}
 use Rattle.lt_modes.specs.Modes.{Modes, word_of, has, has_none, modes_in_order}
@@ -21,6 +21,7 @@ use Rattle.lt_spec.specs.Holdings.{Holding, holding, without_one, after_line, li
 use Rattle.lt_spec.specs.Script.{IsScript, IsRequest, is_name}
 use Rattle.lt_spec.specs.Script as of_script
 use Rattle.lt_spec.specs.declared.limits.TheConstants.{MAX_NAME}
+use Rattle.lt_lists.proofs.AllLemmas.{all_weaker, all_both}
 use Rattle.lt_text.specs.Text.{after_space, spaced}
 use Rattle.lt_tally.proofs.Telling.{length-without, length-kept}
 use Rattle.lt_journal.specs.LineFits.{FitsStep, FitsEvent, FitsCut, IsNumber, HasNode, HasSet, HasClient, FitsLine}
@@ -28,10 +29,11 @@ use Rattle.lt_journal.proofs.Fitting.{FitsEntry, FitsRun}
 use Rattle.lt_journal.proofs.Written.{few_nodes}
 use Rattle.lt_journal.specs.RunLines.{words_of_modes, word_of_bool, step_words, event_words, line_words}
 use Rattle.lt_journal.specs.declared.line.Line.{Line}
-use Rattle.lt_journal.specs.declared.line.Line.TheVariants.{Version, Move as MoveLine, Event as EventLine, Held, Waiting, Owner, End, Cut, Bad}
+use Rattle.lt_journal.specs.declared.line.Line.TheVariants.{Version2, Version3, Move as MoveLine, Event as EventLine, Held, Waiting, Owner, End, Cut, Bad}
 use Rattle.lt_model.specs.Homes.{adds, added_by, HasMaker, IsLineWithin, IsEntryWithin}
 use Rattle.lt_model.proofs.LinesInRuns.{lines_in_runs, few_added}
 use Rattle.lt_law_journals.specs.Checking.{written}
+use Rattle.lt_law_journals.proofs.OwnVersion.{IsLineOf, of_third, own_lines}
 
 targets : (script : ScriptData) (client : ℕ) (request : Command) → of_script.HasTargets script.sets script.clients client request
     → HasTargetsAt script client request
@@ -40,6 +42,7 @@ targets script client (command.Try set mode) h = h
 targets script client (command.Unlock set mode) h = h
 targets script client (command.Change set gives_up mode) h = h
 targets script client (command.DropAll other set) h = h
+targets script client (command.Withdraw other set) h = h
 
 -- a script names what is of it
 pub whole : (script : ScriptData) → IsScript script → IsWhole script
@@ -54,24 +57,28 @@ step_fits : (script : ScriptData) (step : Step) → HasMaker script step → Fit
 step_fits script (Act client) h = h
 step_fits script (Take from) h = h
 
-line_fits : (script : ScriptData) (bound : ℕ) (line : Event) → bound < 2 ^ 64 → IsLineWithin script bound line → FitsEvent script line
-line_fits script bound (Grant client set mode) few h = h
-line_fits script bound (Wait client set mode) few h = h
-line_fits script bound (Try client set mode got) few h = h
-line_fits script bound (Unlock client set mode) few h = h
-line_fits script bound (NotHeld client set mode) few h = h
-line_fits script bound (Change client set gives_up mode) few h = h
-line_fits script bound (DropAll client other set count) few h = (h.0, h.1, h.2, omega (arith, h.3, few))
-line_fits script bound (Busy client other set) few h = h
-line_fits script bound (Copy set to client mode) few h = h
-line_fits script bound (Freeze set to number modes) few h = (h.0, h.1, omega (arith, h.2, few))
-line_fits script bound (Token set to epoch) few h = (h.0, h.1, omega (arith, h.2, few))
+line_fits : (script : ScriptData) (bound : ℕ) (line : Event) → bound < 2 ^ 64 → IsLineWithin script bound line → IsLineOf script line → FitsEvent script line
+line_fits script bound (Grant client set mode) few h own = h
+line_fits script bound (Wait client set mode) few h own = h
+line_fits script bound (Try client set mode got) few h own = h
+line_fits script bound (Unlock client set mode) few h own = h
+line_fits script bound (NotHeld client set mode) few h own = h
+line_fits script bound (Change client set gives_up mode) few h own = h
+line_fits script bound (DropAll client other set count) few h own = (h.0, h.1, h.2, omega (arith, h.3, few))
+line_fits script bound (Busy client other set) few h own = h
+line_fits script bound (Withdraw client other set got) few h own = (h.0, h.1, h.2, of_third own)
+line_fits script bound (Withdrawn client set mode) few h own = (h.0, h.1, of_third own)
+line_fits script bound (Void client set mode) few h own = (h.0, h.1, of_third own)
+line_fits script bound (Withheld client set mode) few h own = (h.0, h.1, of_third own)
+line_fits script bound (Copy set to client mode) few h own = h
+line_fits script bound (Freeze set to number modes) few h own = (h.0, h.1, omega (arith, h.2, few))
+line_fits script bound (Token set to epoch) few h own = (h.0, h.1, omega (arith, h.2, few))
 
-entry_fits : (script : ScriptData) (bound : ℕ) (entry : Logged) → bound < 2 ^ 64 → IsEntryWithin script bound entry → FitsEntry script entry
+entry_fits : (script : ScriptData) (bound : ℕ) (entry : Logged) → bound < 2 ^ 64 → IsEntryWithin script bound entry × AllByRecursion (IsLineOf script) entry.events → FitsEntry script entry
 entry_fits script bound entry few h = (
-  (omega (arith, h.made.clock, few), h.made.node, step_fits script entry.made.step h.made.maker),
-  recursion_from_All (FitsEvent script) entry.events
-      (All-weaker (IsLineWithin script bound) (FitsEvent script) (λ line within. line_fits script bound line few within) entry.events h.lines),
+  (omega (arith, h.0.made.clock, few), h.0.made.node, step_fits script entry.made.step h.0.made.maker),
+  all_weaker (λ line. IsLineWithin script bound line × IsLineOf script line) (FitsEvent script) (λ line both. line_fits script bound line few both.0 both.1) entry.events
+      (all_both (IsLineWithin script bound) (IsLineOf script) entry.events (recursion_from_All (IsLineWithin script bound) entry.events h.0.lines) h.1),
 )
 
 -- each line adds as many locks as it says, or fewer
@@ -87,6 +94,10 @@ more_held script held (Change client set gives_up mode) =
     omega (arith, length-without held (holding client set gives_up), length-append left (holding client set mode ∷ []))
 more_held script held (DropAll client other set count) = omega (arith, length-kept script other set held)
 more_held script held (Busy client other set) = omega arith
+more_held script held (Withdraw client other set got) = omega arith
+more_held script held (Withdrawn client set mode) = omega arith
+more_held script held (Void client set mode) = omega arith
+more_held script held (Withheld client set mode) = omega arith
 more_held script held (Copy set to client mode) = omega arith
 more_held script held (Freeze set to number modes) = omega arith
 more_held script held (Token set to epoch) = omega arith
@@ -99,11 +110,16 @@ all_held script (line ∷ rest) held =
 pub fits_in_runs : (script : ScriptData) (entries : List Logged) (cut : Option ℕ) → IsScript script → IsRun script entries
     → length entries < 2 ^ 64 → FitsCut script cut → FitsRun script entries cut
 fits_in_runs script entries cut is_script is_run few cut_node = record {
+  version = is_script.version;
   some_node = is_script.some_node;
   few_nodes = few_nodes script is_script;
-  moves = recursion_from_All (FitsEntry script) entries
-      (All-weaker (IsEntryWithin script (length entries)) (FitsEntry script) (λ entry h. entry_fits script (length entries) entry few h) entries
-      (lines_in_runs script entries (whole script is_script) is_run));
+  moves =
+      let bound = length entries in
+      all_weaker (λ (entry : Logged). IsEntryWithin script bound entry × AllByRecursion (IsLineOf script) entry.events) (FitsEntry script)
+      (λ entry both. entry_fits script bound entry few both) entries
+      (all_both (IsEntryWithin script bound) (λ (entry : Logged). AllByRecursion (IsLineOf script) entry.events) entries
+      (recursion_from_All (IsEntryWithin script bound) entries (lines_in_runs script entries (whole script is_script) is_run))
+      (own_lines script entries is_script is_run));
   few_moves = few;
   few_locks = omega (
     arith,
@@ -222,6 +238,14 @@ short_event script (DropAll client other set count) is_script fits = by_words (e
     (omega arith, (short_client script client is_script fits.0, (short_client script other is_script fits.1, (short_set script set is_script fits.2, (short_number count fits.3, tt))))) (omega arith)
 short_event script (Busy client other set) is_script fits = by_words (event_words script (Busy client other set))
     (omega arith, (short_client script client is_script fits.0, (short_client script other is_script fits.1, (short_set script set is_script fits.2, tt)))) (omega arith)
+short_event script (Withdraw client other set got) is_script fits = by_words (event_words script (Withdraw client other set got))
+    (omega arith, (short_client script client is_script fits.0, (short_client script other is_script fits.1, (short_set script set is_script fits.2, (short_bool got, tt))))) (omega arith)
+short_event script (Withdrawn client set mode) is_script fits = by_words (event_words script (Withdrawn client set mode))
+    (omega arith, (short_client script client is_script fits.0, (short_set script set is_script fits.1, (short_mode mode, tt)))) (omega arith)
+short_event script (Void client set mode) is_script fits = by_words (event_words script (Void client set mode))
+    (omega arith, (short_client script client is_script fits.0, (short_set script set is_script fits.1, (short_mode mode, tt)))) (omega arith)
+short_event script (Withheld client set mode) is_script fits = by_words (event_words script (Withheld client set mode))
+    (omega arith, (short_client script client is_script fits.0, (short_set script set is_script fits.1, (short_mode mode, tt)))) (omega arith)
 short_event script (Copy set to client mode) is_script fits = by_words (event_words script (Copy set to client mode))
     (omega arith, (short_set script set is_script fits.0, (short_node script to is_script fits.1, (short_client script client is_script fits.2, (short_mode mode, tt))))) (omega arith)
 short_event script (Freeze set to number modes) is_script fits = short_freeze script set to number modes is_script fits.0 fits.1 fits.2
@@ -229,7 +253,8 @@ short_event script (Token set to epoch) is_script fits = by_words (event_words s
     (omega arith, (short_set script set is_script fits.0, (short_node script to is_script fits.1, (short_number epoch fits.2, tt)))) (omega arith)
 
 pub short_line : (script : ScriptData) (x : Line) → IsScript script → FitsLine script x → length (written script x) < 200
-short_line script Version is_script fits = by_words (line_words script Version) (omega arith, (omega arith, tt)) (omega arith)
+short_line script Version2 is_script fits = by_words (line_words script Version2) (omega arith, (omega arith, tt)) (omega arith)
+short_line script Version3 is_script fits = by_words (line_words script Version3) (omega arith, (omega arith, tt)) (omega arith)
 short_line script (MoveLine clock node step) is_script fits =
     let rest = short_step script step is_script fits.2 in
     by_words (line_words script (MoveLine clock node step)) (omega arith, (short_number clock fits.0, (short_node script node is_script fits.1, rest.0))) (omega (arith, rest.1))

@@ -5,7 +5,7 @@ use Rattle.lt_modes.specs.Script.{ScriptData}
 use Rattle.lt_spec.specs.World.{Logged, world_after, is_enabled, is_at_rest, move_stamp, logged, IsRun}
 use Rattle.lt_text.specs.Text.{spaced, lines, is_line_end, is_filled, without_return}
 use Rattle.lt_journal.specs.declared.line.Line.{Line}
-use Rattle.lt_journal.specs.declared.line.Line.TheVariants.{Version, Move as MoveLine, Event as EventLine, Held, Waiting, Owner, End, Cut, Bad}
+use Rattle.lt_journal.specs.declared.line.Line.TheVariants.{Version2, Version3, Move as MoveLine, Event as EventLine, Held, Waiting, Owner, End, Cut, Bad}
 use Rattle.lt_journal.specs.Grammar.{read_line}
 use Rattle.lt_journal.specs.RunLines.{line_words, first_lines, event_lines, closing_lines, text_of, moves_lines}
 use Rattle.lt_journal.specs.Split.{is_journal_line, input_parts}
@@ -43,7 +43,8 @@ is_next script run clock node step =
 abbrev pub by_move : ScriptData → List Logged → Line → Option Place
 by_move script run (MoveLine clock node step) =
     if is_next script run clock node step then Some (moved script run (logged script (world_after script run) node step)) else None
-by_move script run Version = None
+by_move script run Version2 = None
+by_move script run Version3 = None
 by_move script run (EventLine event) = None
 by_move script run (Held client set mode count) = None
 by_move script run (Waiting client set mode) = None

@@ -6,14 +6,14 @@ use Rattle.std.proofs.lemmas.List.Elements.{All-filter}
 use Rattle.std.proofs.lemmas.List.Sums.{fold-append}
 use Rattle.lt_modes.specs.declared.stamp.Stamp.{Stamp}
 use Rattle.lt_modes.specs.declared.command.Command.{Command}
-use Rattle.lt_modes.specs.declared.command.Command.TheVariants.{Lock, Unlock, Try, Change, DropAll}
+use Rattle.lt_modes.specs.declared.command.Command.TheVariants.{Lock, Unlock, Try, Change, DropAll, Withdraw}
 use Rattle.lt_modes.specs.declared.event.Event.{Event}
 use Rattle.lt_modes.specs.declared.moves.Step.{Step}
 use Rattle.lt_modes.specs.declared.moves.Step.TheVariants.{Act, Take}
 use Rattle.lt_modes.specs.Script.{family_of_set, ScriptData, SetData}
 use Rattle.lt_modes.specs.State.{SetState, Letter, Made}
 use Rattle.lt_modes.specs.Modes.{is_of}
-use Rattle.lt_modes.specs.SetMove.{finish, lock, try, unlock, change, drop, dropped, take as take_letter}
+use Rattle.lt_modes.specs.SetMove.{finish, lock, try, unlock, change, drop, dropped, take as take_letter, withdraw}
 use Rattle.lt_lists.specs.Below.{put}
 use Rattle.lt_spec.specs.NodeMove.{home, family, is_related, related, IsWhole, HasTargetsAt, NodeState, NodeMade, no_move, node_waits, next_command, act_stamp, take_stamp, at_clock, one_made, node_act, node_take, touched, each_touched, drop_all, obey}
 use Rattle.lt_spec.specs.Holdings.{Holding, holding, is_dropped}
@@ -27,7 +27,7 @@ use Rattle.lt_model.proofs.TryEffects.{command_rules}
 use Rattle.lt_law_invariant.proofs.Freezes.{places-which, places-at}
 use Rattle.lt_law_accounts.proofs.RowTotals.{total, total_dropped}
 use Rattle.lt_law_lines.proofs.LineCounts.{count_after}
-use Rattle.lt_law_lines.proofs.LineRules.{LinesFollow, follows, line_acts, finish_lines, take_lines}
+use Rattle.lt_law_lines.proofs.LineRules.{LinesFollow, follows, line_acts, finish_lines, take_lines, withdraw_lines}
 
 abbrev pub AtHome : ScriptData → ℕ → NodeState → Type 0
 AtHome script q n = (s : ℕ) → IsStateAtHome script q (n.set s)
@@ -238,6 +238,8 @@ obey_follows script stamp client (Unlock s mode) n known own in_nodes targets h 
     touched_follows script stamp.node s n (unlock s stamp client mode (n.set s)) targets h ((command_rules s stamp client _ (line_acts script s stamp client targets known own in_nodes)).unlocks mode (n.set s))
 obey_follows script stamp client (Change s gives_up mode) n known own in_nodes targets h =
     touched_follows script stamp.node s n (change s stamp client gives_up mode (n.set s)) targets h ((command_rules s stamp client _ (line_acts script s stamp client targets known own in_nodes)).changes gives_up mode (n.set s))
+obey_follows script stamp client (Withdraw other s) n known own in_nodes targets h =
+    touched_follows script stamp.node s n (withdraw s stamp client other (n.set s)) targets.0 h (withdraw_lines script s stamp client other targets.0 in_nodes (n.set s))
 obey_follows script stamp client (DropAll other s) n known own in_nodes targets h =
     drops_follow script stamp client other s n (node_waits script n other) targets.0 in_nodes (targets.2 ∙ own) h (dropped_home script stamp.node other)
 

@@ -138,7 +138,7 @@ lines_kept_in_runs script run whole is_run k = record {
   held = λ client s mode known below. lines_tell_held script run whole is_run k client s mode known below;
   waits = λ client s mode known below. (
     λ e. ((told client known).says (holding client s mode) e).2,
-    λ waits. (told client known).told s below waits.0 waits.1 waits.2 ∙ ap (λ (m : Mode). Some (holding client s m)) waits.3,
+    λ waits. (told client known).told s below waits.0 (waits.1, waits.4) waits.2 ∙ ap (λ (m : Mode). Some (holding client s m)) waits.3,
   );
 }
   where

@@ -4,7 +4,7 @@ use Rattle.std.proofs.lemmas.Bool.{and_parts, and_from, false≢true}
 use Rattle.std.proofs.lemmas.List.Quantifiers.{position-Some}
 use Rattle.std.proofs.lemmas.List.Sums.{sum_by-cons, sum_by_push, sum_by-remove}
 use Rattle.lt_modes.specs.declared.event.Event.{Event}
-use Rattle.lt_modes.specs.declared.event.Event.TheVariants.{Grant, Wait, Try, Unlock, NotHeld, Change, DropAll, Busy, Copy, Freeze, Token}
+use Rattle.lt_modes.specs.declared.event.Event.TheVariants.{Grant, Wait, Try, Unlock, NotHeld, Change, DropAll, Busy, Copy, Freeze, Token, Withdraw, Withdrawn, Void, Withheld}
 use Rattle.lt_modes.specs.Script.{ScriptData}
 use Rattle.lt_modes.proofs.ModeAlgebra.{has-itself, same_mode-true}
 use Rattle.lt_spec.specs.Holdings.{Holding, holding, same_holding, without_holding, without_one, is_dropped, after_line, times_held}
@@ -21,6 +21,10 @@ count_after script k n (DropAll client other set count) = if is_dropped script o
 count_after script k n (Wait client set mode) = n
 count_after script k n (NotHeld client set mode) = n
 count_after script k n (Busy client other set) = n
+count_after script k n (Withdraw client other set got) = n
+count_after script k n (Withdrawn client set mode) = n
+count_after script k n (Void client set mode) = n
+count_after script k n (Withheld client set mode) = n
 count_after script k n (Copy set to client mode) = n
 count_after script k n (Freeze set to number modes) = n
 count_after script k n (Token set to epoch) = n
@@ -114,6 +118,10 @@ line_counts script k held (DropAll client other set count) = dropped_all script 
 line_counts script k held (Wait client set mode) = refl
 line_counts script k held (NotHeld client set mode) = refl
 line_counts script k held (Busy client other set) = refl
+line_counts script k held (Withdraw client other set got) = refl
+line_counts script k held (Withdrawn client set mode) = refl
+line_counts script k held (Void client set mode) = refl
+line_counts script k held (Withheld client set mode) = refl
 line_counts script k held (Copy set to client mode) = refl
 line_counts script k held (Freeze set to number modes) = refl
 line_counts script k held (Token set to epoch) = refl

@@ -1,4 +1,5 @@
 -- The lines of a rule tell what it changed in the rows.
+use Rattle.lt_model.proofs.Voids.{local_by, copy_by, withdraws_ways}
 use Rattle.std.proofs.Common.{◌≡◌, ◌≢◌, ℕ, ◌+◌, ◌-◌, ◌<◌, ◌≤◌, inl, inr, List, [], ◌∷◌, ◌++◌, length, map, Option, Some, None, Bool, true, false, refl, sym, ap, ◌∙◌, ◌⊎◌, ◌==◌, ◌&&◌, not, nat_lt, if◌then◌else◌, All, fold, slice_index_or, eq-eqb, ne_eqb, eqb-true}
 use Rattle.std.proofs.lemmas.Bool.{and_left, and_right}
 use Rattle.std.proofs.lemmas.List.Elements.{All-contains, Contains-get_or}
@@ -13,9 +14,9 @@ use Rattle.lt_modes.specs.declared.event.Event.TheVariants.{Grant, Change, Freez
 use Rattle.lt_modes.specs.Modes.{Modes, same_mode, excludes_itself, no_row, add_lock, take_lock, held_modes}
 use Rattle.lt_modes.specs.Script.{ScriptData}
 use Rattle.lt_modes.specs.State.{SetState, Desk, Body, AskBody, TellBody, CopyBody, TokenBody, FreezeBody, Letter, Parked, ParkedAsk, ParkedTell, Made, silent, then_do, no_ask}
-use Rattle.lt_modes.specs.Serving.{ask_at, queue_of, give_up, answered, answer_by, answer_event, serve_local, serve_copy, hand_over_to}
+use Rattle.lt_modes.specs.Serving.{ask_at, queue_of, give_up, answered, answer_by, answer_event, serve_local, serve_copy, hand_over_to, is_gone}
 use Rattle.lt_modes.specs.Freezing.{freeze_at, frozen_by, targets}
-use Rattle.lt_modes.specs.SetMove.{Way, Parks, Goes, reversed, sent_on, route, learn, tell_of, make_tell, finish, take_body, ask_of, take}
+use Rattle.lt_modes.specs.SetMove.{Way, Parks, Goes, reversed, sent_on, route, learn, tell_of, make_tell, finish, take_body, ask_of, take, withdrawn, withdraw}
 use Rattle.lt_spec.specs.NodeMove.{home}
 use Rattle.lt_spec.specs.Holdings.{Holding, holding, same_holding}
 use Rattle.lt_model.specs.Homes.{IsRowAtHome, IsAskAtHome, IsStateAtHome, IsBodyAtHome}
@@ -152,10 +153,17 @@ line_ends script set stamp in_sets in_nodes = record {
     served t k within h true e =
         let ask = ask_at t k in
         let at_home = All-contains (IsAskAtHome script) (queue_of t) ask h.queue (Contains-get_or (queue_of t) k no_ask within) in
-        record {
-          own = answer_total script stamp.node set ask t.held h.rows;
-          aside = λ key n other. answer_aside script stamp.node set ask key n (at_home.home ∙ eqb-true ask.node stamp.node e) other;
+        by_gone ask at_home (is_gone t ask.client)
+      where
+        by_gone : (ask : Ask) → IsAskAtHome script ask → (gone : Bool) → LinesFollow script stamp.node set t.held (local_by set k t gone)
+        by_gone ask at_home true = record { own = λ c mode. refl; aside = λ key n other. refl }
+        by_gone ask at_home false = record {
+          own = answer_total script stamp.node set (ask_at t k) t.held h.rows;
+          aside = λ key n other. answer_aside script stamp.node set (ask_at t k) key n (own_home ∙ eqb-true (ask_at t k).node stamp.node e) other;
         }
+          where
+            own_home : home script (ask_at t k).client ≡ (ask_at t k).node
+            own_home = (All-contains (IsAskAtHome script) (queue_of t) (ask_at t k) h.queue (Contains-get_or (queue_of t) k no_ask within)).home
     served t k within h false e = record { own = λ c mode. refl; aside = λ key n other. refl }
 
     frozen : (t : SetState) (o : Option Desk) → LinesFollow script stamp.node set t.held (freeze_at set stamp t o)
@@ -212,6 +220,8 @@ line_acts script set stamp client in_sets known own in_nodes = record {
           aside = λ key n other. ap (λ (l : List Event). fold (count_after script key) n l) says.0;
         },
   );
+  retakes = λ mode t h. ((homes.retakes mode t h).state, record { own = λ c m. refl; aside = λ key n other. refl });
+  withheld = λ mode t h. (h, record { own = λ c m. refl; aside = λ key n other. refl });
   ended = λ t m a. joined script stamp.node set t m (finish set stamp) a (finish_rule set stamp (follows script stamp.node set) (line_ends script set stamp in_sets in_nodes) m.state);
 }
   where
@@ -220,6 +230,15 @@ line_acts script set stamp client in_sets known own in_nodes = record {
 
 pub finish_lines : (script : ScriptData) (set : ℕ) (stamp : Stamp) → set < length script.sets → stamp.node < script.nodes → (t : SetState) → follows script stamp.node set t (finish set stamp t)
 finish_lines script set stamp in_sets in_nodes t = finish_rule set stamp (follows script stamp.node set) (line_ends script set stamp in_sets in_nodes) t
+
+pub withdraw_lines : (script : ScriptData) (set : ℕ) (stamp : Stamp) (client other : ℕ) → set < length script.sets → stamp.node < script.nodes → (t : SetState)
+    → follows script stamp.node set t (withdraw set stamp client other t)
+withdraw_lines script set stamp client other in_sets in_nodes t =
+    joined script stamp.node set t (withdrawn set client other t) (finish set stamp)
+    (λ h. withdraws_ways (λ (m : Made). IsStateAtHome script stamp.node m.state × LinesFollow script stamp.node set t.held m) set client other t
+    (λ waiting. (record { rows = h.rows; pending = h.pending; parked = h.parked; queue = h.queue }, record { own = λ c m. refl; aside = λ key n away. refl }))
+    (λ idle. (h, record { own = λ c m. refl; aside = λ key n away. refl })))
+    (finish_lines script set stamp in_sets in_nodes (withdrawn set client other t).state)
 
 pub take_lines : (script : ScriptData) (stamp : Stamp) (letter : Letter) → letter.set < length script.sets → IsBodyAtHome script stamp.node letter.body → stamp.node < script.nodes
     → (t : SetState) → follows script stamp.node letter.set t (take stamp letter t)
@@ -238,10 +257,14 @@ take_lines script stamp letter in_sets own in_nodes t =
     arrived : u.held ≡ t.held → (body : Body) → IsBodyAtHome script stamp.node body → IsStateAtHome script stamp.node t → LinesFollow script stamp.node letter.set t.held (take_body letter.set stamp body u)
     arrived same (AskBody ask marked) b h = let says = route_says letter.set stamp marked (ParkedAsk ask) u in quiet script stamp.node letter.set t (take_body letter.set stamp (AskBody ask marked) u) says.0 (says.1 ∙ same)
     arrived same (TellBody tell) b h = let says = route_says letter.set stamp false (ParkedTell tell) u in quiet script stamp.node letter.set t (take_body letter.set stamp (TellBody tell) u) says.0 (says.1 ∙ same)
-    arrived same (CopyBody ask) b h = record {
-      own = λ c m. ap (λ (rows : List Row). total (answered rows ask) c m) same ∙ answer_total script stamp.node letter.set ask t.held h.rows c m;
-      aside = λ key n other. answer_aside script stamp.node letter.set ask key n (b.0.home ∙ b.1) other;
-    }
+    arrived same (CopyBody ask) b h = by_gone (is_gone u ask.client)
+      where
+        by_gone : (gone : Bool) → LinesFollow script stamp.node letter.set t.held (copy_by letter.set ask u gone)
+        by_gone true = record { own = λ c m. ap (λ (rows : List Row). total rows c m) same; aside = λ key n other. refl }
+        by_gone false = record {
+          own = λ c m. ap (λ (rows : List Row). total (answered rows ask) c m) same ∙ answer_total script stamp.node letter.set ask t.held h.rows c m;
+          aside = λ key n other. answer_aside script stamp.node letter.set ask key n (b.0.home ∙ b.1) other;
+        }
     arrived same (TokenBody desk) b h = quiet script stamp.node letter.set t (take_body letter.set stamp (TokenBody desk) u) refl same
     arrived same (FreezeBody number modes) b h = by_test (nat_lt u.number number)
       where

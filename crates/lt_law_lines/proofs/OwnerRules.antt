@@ -1,4 +1,5 @@
 -- The `token` lines of a move are those of the letters that carry the token.
+use Rattle.lt_model.proofs.Voids.{withdraws_ways}
 use Rattle.std.proofs.Common.{◌≡◌, ◌≢◌, ℕ, ◌+◌, inl, inr, List, [], ◌∷◌, ◌++◌, map, Option, Some, None, Bool, true, false, refl, ap, arith, ◌∙◌, ◌⊎◌, ◌==◌, if◌then◌else◌, Contains, fold, filter_map, eq-eqb, ne_eqb}
 use Rattle.std.specs.List.{cons_option}
 use Rattle.std.proofs.lemmas.Bool.{cases_eq}
@@ -9,12 +10,12 @@ use Rattle.lt_modes.specs.declared.stamp.Stamp.{Stamp}
 use Rattle.lt_modes.specs.declared.ask.Ask.{Ask}
 use Rattle.lt_modes.specs.declared.parts.Link.{Link}
 use Rattle.lt_modes.specs.declared.event.Event.{Event}
-use Rattle.lt_modes.specs.declared.event.Event.TheVariants.{Freeze, Wait}
+use Rattle.lt_modes.specs.declared.event.Event.TheVariants.{Freeze, Wait, Void}
 use Rattle.lt_modes.specs.Modes.{Modes, held_modes}
 use Rattle.lt_modes.specs.State.{SetState, Desk, Body, AskBody, TellBody, CopyBody, TokenBody, FreezeBody, Letter, Parked, ParkedAsk, ParkedTell, Made, Post, post_of}
-use Rattle.lt_modes.specs.Serving.{ask_at, answer_by, answer_event, serve_local, serve_copy, hand_over_to, without_desk, leaving}
+use Rattle.lt_modes.specs.Serving.{ask_at, answer_by, answer_event, serve_local, serve_copy, hand_over_to, without_desk, leaving, is_gone}
 use Rattle.lt_modes.specs.Freezing.{freeze_at, frozen_by, targets, number_after}
-use Rattle.lt_modes.specs.SetMove.{Way, Parks, Goes, body_of, sent_on, route, learn, tell_of, finish, take_body, ask_of, take}
+use Rattle.lt_modes.specs.SetMove.{Way, Parks, Goes, body_of, sent_on, route, learn, tell_of, finish, take_body, ask_of, take, withdrawn, withdraw}
 use Rattle.lt_spec.specs.Holdings.{owner_after}
 use Rattle.lt_spec.specs.World.{token_by, token_to}
 use Rattle.lt_model.proofs.Effects.{route_ways}
@@ -89,6 +90,10 @@ answer_quiet s set ask owner = by_choice ask.gives_up
     by_choice None = refl
     by_choice (Some mode) = refl
 
+end_quiet : (s set : ℕ) (ask : Ask) (gone : Bool) (owner : Link) → owner_after s owner (if gone then Void ask.client set ask.mode else answer_event set ask) ≡ owner
+end_quiet s set ask true owner = refl
+end_quiet s set ask false owner = answer_quiet s set ask owner
+
 -- an ask or a tell is routed
 routed_quiet : (s set : ℕ) (stamp : Stamp) (marked : Bool) (item : Parked) (t : SetState) → filter_map (token_to s) (route set stamp marked item t).posts ≡ []
 routed_quiet s set stamp marked item t = route_ways (λ (m : Made). filter_map (token_to s) m.posts ≡ []) set stamp marked item t (λ desk e. refl) (λ away w e. by_way w)
@@ -147,7 +152,7 @@ token_ends set stamp = record {
   where
     served : (t : SetState) (k s : ℕ) (own : Bool)
         → TokenTold s (if own then serve_local set k t else serve_copy set stamp k (ask_at t k) t).events (if own then serve_local set k t else serve_copy set stamp k (ask_at t k) t).posts
-    served t k s true = quiet_told s (serve_local set k t) (answer_quiet s set (ask_at t k)) refl
+    served t k s true = quiet_told s (serve_local set k t) (end_quiet s set (ask_at t k) (is_gone t (ask_at t k).client)) refl
     served t k s false = quiet_told s (serve_copy set stamp k (ask_at t k) t) (λ owner. refl) (no_token s set (ask_at t k).node stamp t (CopyBody (ask_at t k)) refl [] refl)
 
     frozen : (t : SetState) (s : ℕ) (o : Option Desk) → TokenTold s (freeze_at set stamp t o).events (freeze_at set stamp t o).posts
@@ -177,8 +182,18 @@ act_tokens set stamp client = record {
       let routed = route set stamp false (ParkedAsk ask) (record t { pending = t.pending ++ ask ∷ [] }) in
       then_told s (Wait client set mode ∷ []) routed.events [] routed.posts (inl (record { said = λ owner. refl; sent = refl }))
       (routed_told set stamp false (ParkedAsk ask) (record t { pending = t.pending ++ ask ∷ [] }) s);
+  retakes = λ mode t s. inl (record { said = λ owner. refl; sent = refl });
+  withheld = λ mode t s. inl (record { said = λ owner. refl; sent = refl });
   ended = λ t m a s. then_told s m.events (finish set stamp m.state).events m.posts (finish set stamp m.state).posts (a s) (finish_tokens set stamp m.state s);
 }
+
+pub withdraw_tokens : (set : ℕ) (stamp : Stamp) (client other : ℕ) (t : SetState) → tokens_told t (withdraw set stamp client other t)
+withdraw_tokens set stamp client other t s =
+    let m = withdrawn set client other t in
+    then_told s m.events (finish set stamp m.state).events m.posts (finish set stamp m.state).posts
+    (withdraws_ways (λ (made : Made). TokenTold s made.events made.posts) set client other t
+    (λ waiting. inl (record { said = λ owner. refl; sent = refl })) (λ idle. inl (record { said = λ owner. refl; sent = refl })))
+    (finish_tokens set stamp m.state s)
 
 pub take_tokens : (stamp : Stamp) (letter : Letter) (t : SetState) → tokens_told t (take stamp letter t)
 take_tokens stamp letter t =
@@ -192,6 +207,6 @@ take_tokens stamp letter t =
     arrived : (body : Body) (s : ℕ) → TokenTold s (take_body letter.set stamp body u).events (take_body letter.set stamp body u).posts
     arrived (AskBody ask marked) s = routed_told letter.set stamp marked (ParkedAsk ask) u s
     arrived (TellBody tell) s = routed_told letter.set stamp false (ParkedTell tell) u s
-    arrived (CopyBody ask) s = quiet_told s (take_body letter.set stamp (CopyBody ask) u) (answer_quiet s letter.set ask) refl
+    arrived (CopyBody ask) s = quiet_told s (take_body letter.set stamp (CopyBody ask) u) (end_quiet s letter.set ask (is_gone u ask.client)) refl
     arrived (TokenBody desk) s = none_told s
     arrived (FreezeBody number modes) s = none_told s

@@ -9,7 +9,7 @@ use Rattle.lt_modes.specs.Script.{ScriptData}
 use Rattle.lt_modes.specs.declared.stamp.Stamp.{Stamp}
 use Rattle.lt_modes.specs.declared.parts.Link.{Link}
 use Rattle.lt_modes.specs.declared.command.Command.{Command}
-use Rattle.lt_modes.specs.declared.command.Command.TheVariants.{Lock, Unlock, Try, Change, DropAll}
+use Rattle.lt_modes.specs.declared.command.Command.TheVariants.{Lock, Unlock, Try, Change, DropAll, Withdraw}
 use Rattle.lt_modes.specs.declared.moves.Step.TheVariants.{Act, Take}
 use Rattle.lt_modes.specs.State.{SetState, Body, Letter, Made, Post}
 use Rattle.lt_modes.specs.SetMove.{finish, drop, dropped}
@@ -28,7 +28,7 @@ use Rattle.lt_model.proofs.TryEffects.{command_rules}
 use Rattle.lt_model.proofs.NodeEffects.{after_node}
 use Rattle.lt_law_invariant.proofs.SoundStates.{kept_stays}
 use Rattle.lt_law_lines.specs.LineLaws.{IsLastMove, LinesTellOwners}
-use Rattle.lt_law_lines.proofs.OwnerRules.{TokenTold, none_told, then_told, tokens_told, finish_tokens, act_tokens, take_tokens}
+use Rattle.lt_law_lines.proofs.OwnerRules.{TokenTold, none_told, then_told, tokens_told, finish_tokens, act_tokens, take_tokens, withdraw_tokens}
 use Rattle.lt_law_lines.proofs.WaitMoves.{Told, IsFree}
 use Rattle.lt_law_lines.proofs.WaitSteps.{MoveTold, move_told}
 use Rattle.lt_law_lines.proofs.HeldMoves.{NodeFollows, held_at, step_follows}
@@ -78,6 +78,7 @@ obey_tokens script stamp client (Some (Lock s mode)) n = (command_rules s stamp 
 obey_tokens script stamp client (Some (Try s mode)) n = (command_rules s stamp client tokens_told (act_tokens s stamp client)).tries mode (n.set s)
 obey_tokens script stamp client (Some (Unlock s mode)) n = (command_rules s stamp client tokens_told (act_tokens s stamp client)).unlocks mode (n.set s)
 obey_tokens script stamp client (Some (Change s gives_up mode)) n = (command_rules s stamp client tokens_told (act_tokens s stamp client)).changes gives_up mode (n.set s)
+obey_tokens script stamp client (Some (Withdraw other s)) n = withdraw_tokens s stamp client other (n.set s)
 obey_tokens script stamp client (Some (DropAll other s)) n = by_waits (node_waits script n other)
   where
     by_waits : (waiting : Bool) → NodeTokens (drop_all waiting stamp client other s (related script s) n)
@@ -153,8 +154,8 @@ WaitsTold script lines w = (c : ℕ) → c < length script.clients → Told (len
 
 -- a node has no asks of clients of other nodes
 foreign_free : (script : ScriptData) (w : World) (q c : ℕ) → Homes script w → home script c ≢ q → IsFree (length script.sets) (w.node q).set c
-foreign_free script w q c homes away s below ask there own =
-    let at_home = All-contains (IsAskOf script q) (state_at w s q).pending ask (homes.states q s).pending there in
+foreign_free script w q c homes away s below ask live own =
+    let at_home = All-contains (IsAskOf script q) (state_at w s q).pending ask (homes.states q s).pending live.0 in
     away (ap (home script) (sym own) ∙ at_home.0.home ∙ at_home.1)
 
 waits_after : (script : ScriptData) (w : World) (lines : List Event) (q : ℕ) (step : Step) → IsWhole script → WorldInvariant script w → Homes script w → IsTrue (is_enabled script w q step)
@@ -180,7 +181,7 @@ waits_after script w lines q step whole kept homes enabled h c known =
 nothing_waits : (script : ScriptData) → WaitsTold script [] (start script)
 nothing_waits script c known = record {
   says = λ k e. cc;
-  told = λ s below ask there own. absurd (omega (arith, there.1));
+  told = λ s below ask live own. absurd (omega (arith, live.0.1));
 }
 
 pub waits_in_runs : (script : ScriptData) (run : List Logged) → IsWhole script → IsRun script run → (k : ℕ) → WaitsTold script (lines_of (take k run)) (world_after script (take k run))

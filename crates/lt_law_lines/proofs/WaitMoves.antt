@@ -1,5 +1,6 @@
 -- The lines of a node's move tell who waits at the node.
-use Rattle.std.proofs.Common.{◌≡◌, ◌≢◌, ℕ, ◌<◌, inl, inr, List, [], ◌∷◌, ◌++◌, Option, Some, None, refl, sym, ap, subst, ◌∙◌, ◌⊎◌, Contains, fold}
+use Rattle.lt_modes.specs.Serving.{is_gone}
+use Rattle.std.proofs.Common.{◌≡◌, ◌≢◌, ℕ, ◌<◌, inl, inr, List, [], ◌∷◌, ◌++◌, Option, Some, None, refl, sym, ap, subst, ◌∙◌, ◌⊎◌, Contains, fold, false}
 use Rattle.std.specs.List.{AllByRecursion}
 use Rattle.std.proofs.lemmas.Bool.{cases_eq}
 use Rattle.std.proofs.lemmas.List.Sums.{fold-append}
@@ -12,21 +13,21 @@ use Rattle.lt_lists.proofs.Puts.{put-same, put-other}
 use Rattle.lt_spec.specs.Holdings.{Holding, holding, wanted_after}
 use Rattle.lt_spec.specs.NodeMove.{NodeState, touched, each_touched}
 use Rattle.lt_model.proofs.NodeEffects.{IsOnce}
-use Rattle.lt_law_lines.proofs.WaitRules.{Unsaid, Answered, Answers}
+use Rattle.lt_law_lines.proofs.WaitRules.{Unsaid, Answered, Answers, IsLive}
 use Rattle.lt_law_lines.proofs.WaitActs.{NoneOf, StaysIdle, NowWaits, ActSays}
 
--- an unanswered ask of the client wants the mode
+-- an unanswered ask of the client, which it didn't give up, wants the mode
 abbrev pub HasAsk : SetState → ℕ → Mode → Type 0
-HasAsk t c mode = (ask : Ask) × Contains t.pending ask × (ask.client ≡ c) × (ask.mode ≡ mode)
+HasAsk t c mode = (ask : Ask) × Contains t.pending ask × (ask.client ≡ c) × (ask.mode ≡ mode) × (is_gone t c ≡ false)
 
 -- what is said of the client is what its unanswered ask wants, of these sets
 pub record Told (count : ℕ) (sets : ℕ → SetState) (c : ℕ) (lock : Option Holding) : Type 0 where
   pub says : (k : Holding) → lock ≡ Some k → (k.client ≡ c) × (k.set < count) × HasAsk (sets k.set) c k.mode
-  pub told : (s : ℕ) → s < count → (ask : Ask) → Contains (sets s).pending ask → ask.client ≡ c → lock ≡ Some (holding c s ask.mode)
+  pub told : (s : ℕ) → s < count → (ask : Ask) → IsLive (sets s) c ask → ask.client ≡ c → lock ≡ Some (holding c s ask.mode)
 
 -- the client has no unanswered ask in these sets
 abbrev pub IsFree : ℕ → (ℕ → SetState) → ℕ → Type 0
-IsFree count sets c = (s : ℕ) → s < count → NoneOf c (sets s).pending
+IsFree count sets c = (s : ℕ) → s < count → NoneOf c (sets s)
 
 -- the lines tell what has changed for the client, and say nothing of one that waits neither before nor after
 pub record Follows (count : ℕ) (before after : ℕ → SetState) (c : ℕ) (lines : List Event) : Type 0 where
@@ -62,21 +63,21 @@ pub nothing_said : (count : ℕ) (sets : ℕ → SetState) (c : ℕ) (lock : Opt
 nothing_said count sets c None h free = refl
 nothing_said count sets c (Some k) h free =
     let found = h.says k refl in
-    absurd (free k.set found.1 found.2.0 found.2.1 found.2.2)
+    absurd (free k.set found.1 found.2.0 (found.2.1, found.2.4) found.2.2)
 
 -- an ask in a set that was put there, or in another one
-put_cases : {A : Type 0} (sets : ℕ → SetState) (s : ℕ) (now : SetState) (x : ℕ) (ask : Ask) → Contains (put sets s now x).pending ask
-    → (x ≡ s → Contains now.pending ask → A) → (x ≢ s → Contains (sets x).pending ask → A) → A
-put_cases sets s now x ask there here aside = elim (cases_eq x s) [
-  | inl e ↦ here e (subst (λ (t : SetState). Contains t.pending ask) (ap (put sets s now) e ∙ put-same sets s now) there)
-  | inr d ↦ aside d (subst (λ (t : SetState). Contains t.pending ask) (put-other sets s now x d) there)
+put_cases : {A : Type 0} (sets : ℕ → SetState) (s : ℕ) (now : SetState) (x c : ℕ) (ask : Ask) → IsLive (put sets s now x) c ask
+    → (x ≡ s → IsLive now c ask → A) → (x ≢ s → IsLive (sets x) c ask → A) → A
+put_cases sets s now x c ask there here aside = elim (cases_eq x s) [
+  | inl e ↦ here e (subst (λ (t : SetState). IsLive t c ask) (ap (put sets s now) e ∙ put-same sets s now) there)
+  | inr d ↦ aside d (subst (λ (t : SetState). IsLive t c ask) (put-other sets s now x d) there)
 ]
 
-put_here : (sets : ℕ → SetState) (s : ℕ) (now : SetState) (x : ℕ) (ask : Ask) → x ≡ s → Contains now.pending ask → Contains (put sets s now x).pending ask
-put_here sets s now x ask e there = subst (λ (t : SetState). Contains t.pending ask) (sym (ap (put sets s now) e ∙ put-same sets s now)) there
+put_here : (sets : ℕ → SetState) (s : ℕ) (now : SetState) (x c : ℕ) (ask : Ask) → x ≡ s → IsLive now c ask → IsLive (put sets s now x) c ask
+put_here sets s now x c ask e there = subst (λ (t : SetState). IsLive t c ask) (sym (ap (put sets s now) e ∙ put-same sets s now)) there
 
-put_aside : (sets : ℕ → SetState) (s : ℕ) (now : SetState) (x : ℕ) (ask : Ask) → x ≢ s → Contains (sets x).pending ask → Contains (put sets s now x).pending ask
-put_aside sets s now x ask d there = subst (λ (t : SetState). Contains t.pending ask) (sym (put-other sets s now x d)) there
+put_aside : (sets : ℕ → SetState) (s : ℕ) (now : SetState) (x c : ℕ) (ask : Ask) → x ≢ s → IsLive (sets x) c ask → IsLive (put sets s now x) c ask
+put_aside sets s now x c ask d there = subst (λ (t : SetState). IsLive t c ask) (sym (put-other sets s now x d)) there
 
 -- a rule on one set, for a client of which it says nothing or whose ask it answers
 pub put_follows : (count : ℕ) (sets : ℕ → SetState) (s : ℕ) (m : Made) (c : ℕ) → s < count → Unsaid c (sets s) m ⊎ Answered c (sets s) m
@@ -85,25 +86,26 @@ put_follows count sets s m c inside (inl u) = record {
   told = λ lock h. record {
     says = λ k e.
         let before = h.says k (sym (u.said lock) ∙ e) in
-        (before.0, before.1, (before.2.0, kept k.set before.2.0 before.2.2 before.2.1, before.2.2, before.2.3));
+        let still = kept k.set before.2.0 before.2.2 (before.2.1, before.2.4) in
+        (before.0, before.1, (before.2.0, still.0, before.2.2, before.2.3, still.1));
     told = λ x below ask there own. u.said lock ∙ h.told x below ask (older x ask own there) own;
   };
   free = λ h. (λ x below ask there own. h x below ask (older x ask own there) own, u.said);
 }
   where
-    kept : (x : ℕ) (ask : Ask) → ask.client ≡ c → Contains (sets x).pending ask → Contains (put sets s m.state x).pending ask
+    kept : (x : ℕ) (ask : Ask) → ask.client ≡ c → IsLive (sets x) c ask → IsLive (put sets s m.state x) c ask
     kept x ask own there = elim (cases_eq x s) [
-      | inl e ↦ put_here sets s m.state x ask e (u.stays ask own (subst (λ (k : ℕ). Contains (sets k).pending ask) e there))
-      | inr d ↦ put_aside sets s m.state x ask d there
+      | inl e ↦ put_here sets s m.state x c ask e (u.stays ask own (subst (λ (k : ℕ). IsLive (sets k) c ask) e there))
+      | inr d ↦ put_aside sets s m.state x c ask d there
     ]
 
-    older : (x : ℕ) (ask : Ask) → ask.client ≡ c → Contains (put sets s m.state x).pending ask → Contains (sets x).pending ask
-    older x ask own there = put_cases sets s m.state x ask there
-        (λ e now. subst (λ (k : ℕ). Contains (sets k).pending ask) (sym e) (u.older ask own now)) (λ d now. now)
+    older : (x : ℕ) (ask : Ask) → ask.client ≡ c → IsLive (put sets s m.state x) c ask → IsLive (sets x) c ask
+    older x ask own there = put_cases sets s m.state x c ask there
+        (λ e now. subst (λ (k : ℕ). IsLive (sets k) c ask) (sym e) (u.older ask own now)) (λ d now. now)
 put_follows count sets s m c inside (inr a) = record {
   told = λ lock h. record {
     says = λ k e. nothing_some (fold (wanted_after c) lock m.events) k (a.said lock) e;
-    told = λ x below ask there own. put_cases sets s m.state x ask there
+    told = λ x below ask there own. put_cases sets s m.state x c ask there
         (λ e now. absurd (a.none ask now own))
         (λ d now. absurd (d (ap (λ (k : Holding). k.set) (same_lock lock (holding c x ask.mode) (holding c s a.asked.0.mode) (h.told x below ask now own) (h.told s inside a.asked.0 a.asked.1 a.asked.2)))));
   };
@@ -119,11 +121,11 @@ put_told count sets s m client inside free act lock h =
     by_cases : StaysIdle client m ⊎ NowWaits client s m → Told count (put sets s m.state) client (fold (wanted_after client) None m.events)
     by_cases (inl idle) = record {
       says = λ k e. nothing_some (fold (wanted_after client) None m.events) k idle.said e;
-      told = λ x below ask there own. put_cases sets s m.state x ask there (λ e now. absurd (idle.none ask now own)) (λ d now. absurd (free x below ask now own));
+      told = λ x below ask there own. put_cases sets s m.state x client ask there (λ e now. absurd (idle.none ask now own)) (λ d now. absurd (free x below ask now own));
     }
     by_cases (inr waits) = record {
       says = λ k e. says_this k (sym waits.said ∙ e);
-      told = λ x below ask there own. put_cases sets s m.state x ask there
+      told = λ x below ask there own. put_cases sets s m.state x client ask there
           (λ e now. waits.said ∙ ap (λ (mode : Mode). Some (holding client s mode)) (sym (waits.only ask now own)) ∙ ap (λ (k : ℕ). Some (holding client k ask.mode)) (sym e))
           (λ d now. absurd (free x below ask now own));
     }
@@ -132,7 +134,10 @@ put_told count sets s m client inside free act lock h =
         says_this k e =
             let is : holding client s waits.mode ≡ k = same_lock (Some k) (holding client s waits.mode) k (sym e) refl in
             subst (λ (x : Holding). (x.client ≡ client) × (x.set < count) × HasAsk (put sets s m.state x.set) client x.mode) is
-            (refl, inside, (waits.asked.0, put_here sets s m.state s waits.asked.0 refl waits.asked.1, waits.asked.2, waits.asked.3))
+            (refl, inside, (waits.asked.0, here.0, waits.asked.2, waits.asked.3, here.1))
+          where
+            here : IsLive (put sets s m.state s) client waits.asked.0
+            here = put_here sets s m.state s client waits.asked.0 refl waits.asked.1
 
 -- a rule on each of several sets that differ
 pub each_follows : (count : ℕ) (rule : ℕ → SetState → Made) (c : ℕ) (sets : List ℕ) → ((s : ℕ) → IsOnce s sets ⊎ AllByRecursion (λ k. k ≢ s) sets) → AllByRecursion (λ s. s < count) sets

@@ -143,7 +143,7 @@ asks_have_place script parts is_script joined q client part is_part can =
     let known = and_parts _ _ enabled in
     let at_home = and_parts _ (is_runnable script w client) known.1 in
     let place = asks_placed script _ is_script run.is_run client (ltb-true client _ known.0) at_home.1 in
-    subst (λ (n : NodeState). IsTrue (leaves_asks script n)) (ap w.node (eqb-true (home script client) q at_home.0) ∙ run.node q part is_part) place
+    subst (λ (n : NodeState). IsTrue (leaves_asks script n client)) (ap w.node (eqb-true (home script client) q at_home.0) ∙ run.node q part is_part) place
 
 -- a sum of so many small terms
 few_terms : (n : ℕ) (f : ℕ → ℕ) → ((k : ℕ) → f k ≤ 36028797018963968) → sum_below n f ≤ n * 36028797018963968

@@ -44,7 +44,7 @@ DropsWithin = (script : ScriptData) (parts : List Part) → IsScript script → 
 -- and where a client of it can act, there is a place for a further ask in each set
 abbrev pub AsksHavePlace : Type 0
 AsksHavePlace = (script : ScriptData) (parts : List Part) → IsScript script → Joined script parts
-    → (q client : ℕ) (part : Part) → slice_get parts q ≡ Some part → IsTrue (can_act script q part.last client) → IsTrue (leaves_asks script part.last)
+    → (q client : ℕ) (part : Part) → slice_get parts q ≡ Some part → IsTrue (can_act script q part.last client) → IsTrue (leaves_asks script part.last client)
 
 -- no node made more moves than one of a service may
 abbrev pub FewMoves : List Part → Type 0

@@ -14,7 +14,7 @@ use Rattle.lt_modes.specs.declared.command.Command.{Command}
 use Rattle.lt_modes.specs.declared.command.Command.TheVariants.{Unlock, Change, DropAll}
 use Rattle.lt_modes.specs.declared.event.Event.TheVariants.{Unlock as UnlockLine, NotHeld, Change as ChangeLine}
 use Rattle.lt_modes.specs.Script.{ScriptData}
-use Rattle.lt_modes.specs.SetMove.{answers, given, ask_of, asked, unlocked, change_held, changed, dropped}
+use Rattle.lt_modes.specs.SetMove.{answers, given, ask_of, asked_or_not, unlocked, change_held, changed, dropped}
 use Rattle.lt_lists.proofs.Members.{contains_cases}
 use Rattle.lt_lists.proofs.Sums.{none_found, sum_by-zero}
 use Rattle.lt_spec.specs.NodeMove.{is_related}
@@ -102,7 +102,7 @@ unlocked_loans script client s mode t none some = by_test (count_of t.held clien
 
     by_test : (unheld : Bool) → (count_of t.held client mode == 0) ≡ unheld
         → ActLoans script client s (Unlock s mode) t (if unheld then answers (NotHeld client s mode) t else answers (UnlockLine client s mode) (record t { held = take_lock t.held client mode })).state
-    by_test true e = act_stays script client s (Unlock s mode) t t none refl refl
+    by_test true e = act_stays script client s (Unlock s mode) t t none refl refl refl
         (λ m. omega (arith, nothing m (none_total t.held client mode some e) (is_key client m client mode) refl, ap (counts m) (key_is client client s m mode)))
     by_test false e = record {
       others = λ c m d. (omega arith, omega (arith, rows c m, ap (λ (b : Bool). if b then total t.held c m - 1 else total t.held c m) (not_his c client m mode d)));
@@ -134,7 +134,7 @@ changed_loans script client s stamp gives_up mode t none some covered = by_count
 
     by_test : (count_of t.held client gives_up == 0) ≡ false → (can : Bool) → can_grant stamp.node t client mode ≡ can
         → ActLoans script client s (Change s gives_up mode) t
-        (if can then answers (ChangeLine client s gives_up mode) (given client mode (Some gives_up) t) else asked s stamp (ask_of stamp client mode (Some gives_up) t) t).state
+        (if can then answers (ChangeLine client s gives_up mode) (given client mode (Some gives_up) t) else asked_or_not s stamp (ask_of stamp client mode (Some gives_up) t) t).state
     by_test held false e = absurd (false≢true (sym e ∙ weaker_granted stamp.node t client gives_up mode covered (some_one (count_of t.held client gives_up) held)))
       where
         some_one : (n : ℕ) → (n == 0) ≡ false → 1 ≤ n
@@ -164,7 +164,7 @@ changed_loans script client s stamp gives_up mode t none some covered = by_count
 
     by_count : (unheld : Bool) → (count_of t.held client gives_up == 0) ≡ unheld
         → ActLoans script client s (Change s gives_up mode) t (if unheld then answers (NotHeld client s gives_up) t else change_held s stamp client gives_up mode t).state
-    by_count true e = act_stays script client s (Change s gives_up mode) t t none refl refl
+    by_count true e = act_stays script client s (Change s gives_up mode) t t none refl refl refl
         (λ m. omega (arith, nothing m (none_total t.held client gives_up some e) (is_key client m client mode) (is_key client m client gives_up) refl, keys m))
     by_count false e = by_test e (can_grant stamp.node t client mode) refl
 
@@ -205,7 +205,7 @@ dropped_loans script client s other set t none = record {
 -- a set that a command doesn't touch
 pub aside_loans : (script : ScriptData) (client s : ℕ) (command : Command) (t : SetState) → IsIdle client t
     → ((mode : Mode) (n : ℕ) → n ≤ count_after script (holding client s mode) n (best_answer client command)) → ActLoans script client s command t t
-aside_loans script client s command t none counts = act_stays script client s command t t none refl refl (λ m. counts m (total t.held client m))
+aside_loans script client s command t none counts = act_stays script client s command t t none refl refl refl (λ m. counts m (total t.held client m))
 
 -- what the commands count elsewhere
 pub unlock_aside : (script : ScriptData) (client s set : ℕ) (mode m : Mode) (n : ℕ) → s ≢ set → n ≤ (if same_holding (holding client s m) (holding client set mode) then n - 1 else n)

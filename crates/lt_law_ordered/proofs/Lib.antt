@@ -5,3 +5,4 @@ pub mod NodeLoans
 pub mod MayHold
 pub mod LoanMoves
 pub mod OrderedRest
+pub mod Releasing

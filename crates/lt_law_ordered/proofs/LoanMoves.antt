@@ -1,19 +1,19 @@
 -- Each move keeps that clients hold no more than they may.
-use Rattle.std.proofs.Common.{◌≡◌, ℕ, zero, suc, ◌+◌, ◌<◌, ◌≤◌, inl, inr, List, [], ◌∷◌, length, Option, Some, None, Bool, true, false, refl, sym, ap, subst, arith, take, ◌∙◌, ◌==◌, not, nat_lt, IsTrue, slice_get, ltb-true, lt-ltb}
+use Rattle.std.proofs.Common.{◌≡◌, ℕ, zero, suc, ◌+◌, ◌<◌, ◌≤◌, inl, inr, List, [], ◌∷◌, length, Option, Some, None, Bool, true, false, refl, sym, ap, subst, arith, take, ◌∙◌, ◌==◌, ◌||◌, not, nat_lt, IsTrue, slice_get, ltb-true, lt-ltb}
 use Rattle.std.proofs.lemmas.Bool.{cases_eq, and_parts}
 use Rattle.lt_modes.specs.declared.mode.Mode.{Mode}
 use Rattle.lt_modes.specs.declared.stamp.Stamp.{Stamp}
 use Rattle.lt_modes.specs.declared.command.Command.{Command}
-use Rattle.lt_modes.specs.declared.command.Command.TheVariants.{Lock, Unlock, Try, Change, DropAll}
+use Rattle.lt_modes.specs.declared.command.Command.TheVariants.{Lock, Unlock, Try, Change, DropAll, Withdraw}
 use Rattle.lt_modes.specs.declared.moves.Step.{Step}
 use Rattle.lt_modes.specs.declared.moves.Step.TheVariants.{Act, Take}
 use Rattle.lt_modes.specs.State.{Made, SetState, Letter}
 use Rattle.lt_modes.specs.Script.{ScriptData}
 use Rattle.lt_modes.specs.SetMove.{finish, drop}
 use Rattle.lt_lists.proofs.Puts.{put-same, put-other}
-use Rattle.lt_spec.specs.NodeMove.{home, commands_of, related, NodeState, node_waits, has_command, next_command, act_stamp, at_clock, one_made, node_act, node_take, touched, each_touched, drop_all, obey, IsWhole}
+use Rattle.lt_spec.specs.NodeMove.{home, commands_of, related, NodeState, node_waits, has_command, next_command, act_stamp, at_clock, one_made, node_act, node_take, touched, each_touched, drop_all, obey, IsWhole, withdraws_itself}
 use Rattle.lt_spec.specs.Holdings.{Holding, holding, times_held}
-use Rattle.lt_spec.specs.World.{Logged, World, start, is_enabled, is_waiting, is_some_letter, take_front, node_move, after, world_after, IsRun}
+use Rattle.lt_spec.specs.World.{Logged, World, start, is_enabled, is_waiting, is_free_to_act, is_some_letter, take_front, node_move, after, world_after, IsRun}
 use Rattle.lt_model.specs.Invariant.{WorldInvariant}
 use Rattle.lt_model.proofs.HomesMove.{IsMaker, maker, next_targets}
 use Rattle.lt_model.proofs.PathsMove.{kept_stands, has_mail_parts}
@@ -90,6 +90,7 @@ obey_made script stamp client (Lock s mode) n c = refl
 obey_made script stamp client (Try s mode) n c = refl
 obey_made script stamp client (Unlock s mode) n c = refl
 obey_made script stamp client (Change s gives_up mode) n c = refl
+obey_made script stamp client (Withdraw other s) n c = refl
 obey_made script stamp client (DropAll other s) n c = by_waits (node_waits script n other)
   where
     by_waits : (waiting : Bool) → (drop_all waiting stamp client other s (related script s) n).node.made c ≡ n.made c
@@ -119,12 +120,21 @@ act_within script w q client whole steady h enabled c known within = by_command 
     not_true true e = cc
     not_true false e = refl
 
-    ready : (node_waits script n client ≡ false) × (has_command script n client ≡ true)
+    alone : (first second : Bool) → second ≡ false → (first || second) ≡ true → first ≡ true
+    alone true second e f = refl
+    alone false true e f = cc
+    alone false false e f = cc
+
+    -- it waits for nothing, or gives up what it waits for; and it has a command
+    ready : (withdraws_itself n client (next_command script n client) ≡ false → node_waits script n client ≡ false) × (has_command script n client ≡ true)
     ready =
         let first = and_parts (nat_lt client (length script.clients)) _ enabled in
         let second = and_parts (home script client == q) _ first.1 in
-        let third = and_parts (not (is_waiting script w client)) _ second.1 in (
-          ap (λ (x : ℕ). node_waits script (w.node x) client) (sym own.own) ∙ not_true (is_waiting script w client) third.0,
+        let third = and_parts (is_free_to_act script w client) _ second.1 in (
+          λ other.
+              let here : withdraws_itself (w.node (home script client)) client (next_command script (w.node (home script client)) client) ≡ false =
+              ap (λ (x : ℕ). withdraws_itself (w.node x) client (next_command script (w.node x) client)) own.own ∙ other in
+              ap (λ (x : ℕ). node_waits script (w.node x) client) (sym own.own) ∙ not_true (is_waiting script w client) (alone (not (is_waiting script w client)) _ here third.0),
           ap (λ (x : ℕ). has_command script (w.node x) client) (sym own.own) ∙ third.1,
         )
 
@@ -150,7 +160,8 @@ act_within script w q client whole steady h enabled c known within = by_command 
         later = (obey script (act_stamp q n) client (Some command) begins).node
 
         acts : (s : ℕ) → s < length script.sets → ActLoans script client s command (n.set s) (later.set s)
-        acts = act_loans script w q client command (λ s under. kept_stands script w s (h.sets s under)) below (sound_clients script w q h below) ready.0
+        acts = act_loans script w q client command (λ s under. kept_stands script w s (h.sets s under)) below (sound_clients script w q h below)
+            (λ other. ready.0 (ap (withdraws_itself n client) e ∙ other))
             (next_targets script n client command whole e) (steady client (n.made client) command own.known e)
 
 take_within : (script : ScriptData) (w : World) (p q : ℕ) → WorldInvariant script w → IsTrue (is_enabled script w q (Take p))

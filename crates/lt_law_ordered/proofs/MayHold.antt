@@ -3,7 +3,7 @@ use Rattle.std.proofs.Common.{◌≡◌, ℕ, zero, suc, ◌+◌, ◌-◌, ◌<�
 use Rattle.std.proofs.lemmas.Bool.{and_parts, false≢true, and_from}
 use Rattle.std.proofs.lemmas.List.Sums.{sum_by-cons}
 use Rattle.lt_modes.specs.declared.command.Command.{Command}
-use Rattle.lt_modes.specs.declared.command.Command.TheVariants.{Lock, Try, Unlock, Change, DropAll}
+use Rattle.lt_modes.specs.declared.command.Command.TheVariants.{Lock, Try, Unlock, Change, DropAll, Withdraw}
 use Rattle.lt_modes.specs.Script.{ScriptData}
 use Rattle.lt_spec.specs.NodeMove.{commands_of}
 use Rattle.lt_spec.specs.Holdings.{Holding, holding, same_holding, is_dropped, times_held}
@@ -59,6 +59,7 @@ count_grows script client key n m (DropAll other s) steady h = by_same (is_dropp
     by_same : (same : Bool) → (if same then 0 else n) ≤ (if same then 0 else m)
     by_same true = omega arith
     by_same false = h
+count_grows script client key n m (Withdraw other s) steady h = h
 
 -- each command of a ranked client goes up
 goes_up_from : (script : ScriptData) (rank : ℕ → ℕ) (client : ℕ) (locks : List Holding) (commands : List Command) (k : ℕ) (command : Command)
@@ -102,6 +103,7 @@ ranked_steady script rank client k command h e = by_command command (ranked_goes
     by_command (Unlock s mode) g = g
     by_command (Change s gives_up mode) g = g
     by_command (DropAll other s) g = g
+    by_command (Withdraw other s) g = g
 
 -- a lock that counts is of a smaller rank
 pub ranked_lock : (rank : ℕ → ℕ) (s : ℕ) (locks : List Holding) (key : Holding) → are_ranked_below rank s locks ≡ true → 1 ≤ times_held locks key → rank key.set < rank s
@@ -131,6 +133,7 @@ ordered_from script client locks (command ∷ rest) h =
     by_command (Unlock s mode) g = refl
     by_command (Change s gives_up mode) g = absurd (false≢true g)
     by_command (DropAll other s) g = refl
+    by_command (Withdraw other s) g = refl
 
 pub ordered_ranked : (script : ScriptData) → IsOrdered script → IsRanked script (λ s. s)
 ordered_ranked script h client known = ordered_from script client [] (commands_of script client) (h client known)
@@ -150,6 +153,7 @@ alone_from script client locks (command ∷ rest) h =
     by_command (Unlock s mode) held g = g
     by_command (Change s gives_up mode) held g = g
     by_command (DropAll other s) held g = g
+    by_command (Withdraw other s) held g = g
 
 pub alone_ranked : (script : ScriptData) → NeverAsksHolding script → IsRanked script (λ s. 0)
 alone_ranked script h client known = alone_from script client [] (commands_of script client) (h client known)

@@ -1,16 +1,15 @@
 -- At rest nobody waits, where each client waits only for sets of greater ranks.
-use Rattle.std.proofs.Common.{◌≡◌, ℕ, zero, suc, ◌+◌, ◌<◌, ◌≤◌, List, [], ◌∷◌, length, Some, Bool, true, false, refl, sym, ap, subst, arith, take, ◌∙◌, inl, inr, ◌==◌, ◌&&◌, not, if◌then◌else◌, Contains, IsTrue, slice_get, fold, eq-eqb, eqb-true, ltb-false}
-use Rattle.std.proofs.lemmas.Bool.{and_parts, and_from}
+use Rattle.std.proofs.Common.{◌≡◌, ℕ, zero, suc, ◌+◌, ◌<◌, ◌≤◌, List, [], ◌∷◌, length, Some, Bool, true, false, refl, sym, ap, subst, arith, take, ◌∙◌, ◌==◌, ◌&&◌, not, if◌then◌else◌, Contains, IsTrue, slice_get, eq-eqb, eqb-true, ltb-false}
+use Rattle.std.proofs.lemmas.Bool.{and_parts, and_from, or_left}
 use Rattle.std.proofs.lemmas.List.Elements.{All-contains}
-use Rattle.std.specs.List.{list_all}
+use Rattle.std.specs.List.{list_any}
 use Rattle.lt_modes.specs.declared.mode.Mode.{Mode}
 use Rattle.lt_modes.specs.declared.ask.Ask.{Ask}
 use Rattle.lt_modes.specs.declared.command.Command.TheVariants.{Lock}
 use Rattle.lt_modes.specs.Modes.{same_mode}
 use Rattle.lt_modes.specs.Script.{ScriptData}
-use Rattle.lt_modes.specs.Serving.{queue_of, waits}
+use Rattle.lt_modes.specs.Serving.{queue_of, waits, is_gone}
 use Rattle.lt_modes.proofs.ModeAlgebra.{has-itself}
-use Rattle.lt_modes.specs.declared.command.Command.{Command}
 use Rattle.lt_lists.specs.Below.{any_below, sum_below}
 use Rattle.lt_lists.proofs.Members.{list_any-which, nothing_in}
 use Rattle.lt_lists.proofs.Searches.{any_below_none}
@@ -19,7 +18,7 @@ use Rattle.lt_spec.specs.NodeMove.{home, commands_of, NodeState, IsWhole}
 use Rattle.lt_spec.specs.Facts.{state_at, IsFirstWaiter, LeadsBy, IsLedToQueue}
 use Rattle.lt_spec.specs.Holdings.{Holding, holding, same_holding, holdings, lines_of, times_held}
 use Rattle.lt_spec.specs.World.{World, world_after, made_by, is_waiting, is_runnable, is_at_rest, anyone_waits}
-use Rattle.lt_spec.specs.Script.{may_hold, may_hold_after, holds_none}
+use Rattle.lt_spec.specs.Script.{may_hold}
 use Rattle.lt_law_accounts.proofs.RowTotals.{total}
 use Rattle.lt_model.specs.Homes.{Homes, IsRowAtHome}
 use Rattle.lt_model.specs.Invariant.{WorldInvariant}
@@ -33,8 +32,7 @@ use Rattle.lt_law_lines.proofs.OwnerRuns.{held_in_runs}
 use Rattle.lt_law_lines.proofs.LineCounts.{same_holding-true, same_holding-itself}
 use Rattle.lt_law_waiting.proofs.KeptAsks.{any_below_which}
 use Rattle.lt_law_waiting.proofs.WaitsAtRest.{row_counts}
-use Rattle.lt_law_waiting.proofs.Explained.{waiters_are_explained}
-use Rattle.lt_law_ordered.specs.OrderedLaws.{is_ranked_from, IsRanked, OrderedFinish, OrderedRelease, RankedFinish, RankedRelease, AloneFinish, RankedHold, RankedWait, is_steady, IsReleasing, StuckByRing}
+use Rattle.lt_law_ordered.specs.OrderedLaws.{is_ranked_from, IsRanked, OrderedFinish, OrderedRelease, RankedFinish, RankedRelease, AloneFinish, RankedHold, RankedWait}
 use Rattle.lt_law_ordered.proofs.Loans.{is_for, asks_for}
 use Rattle.lt_law_ordered.proofs.LoanMoves.{KeepsWithin, AllWithin, AreSteady, within_in_runs}
 use Rattle.lt_law_ordered.proofs.MayHold.{may_hold_more, may_count, ranked_goes_up, ranked_none, ranked_steady, ranked_lock, ordered_ranked, alone_ranked}
@@ -74,7 +72,7 @@ pub made_all : (script : ScriptData) (w : World) (c : ℕ) → IsTrue (is_at_res
 made_all script w c rest known waits_not =
     let parts = and_parts (not (any_below (length script.clients) (is_runnable script w))) _ rest in
     let still = any_below_none (length script.clients) (is_runnable script w) (not_true _ parts.0) c known in
-    omega (arith, ltb-false (made_by script w c) (length (commands_of script c)) (second_false _ _ (ap not waits_not) still))
+    omega (arith, ltb-false (made_by script w c) (length (commands_of script c)) (second_false _ _ (or_left (not (is_waiting script w c)) _ (ap not waits_not)) still))
   where
     not_true : (b : Bool) → not b ≡ true → b ≡ false
     not_true true e = cc
@@ -90,9 +88,9 @@ ended_none : (script : ScriptData) (rank : ℕ → ℕ) (w : World) (c s : ℕ) 
 ended_none script rank w c s mode ranked within rest known in_sets waits_not =
     omega (arith, within.loans s mode in_sets, ap (λ (l : List Holding). times_held l (holding c s mode)) (ranked_none script rank c (made_by script w c) ranked (made_all script w c rest known waits_not)))
 
--- an ask of the client is one for its mode
-asks_some : (asks : List Ask) (ask : Ask) (c : ℕ) → Contains asks ask → ask.client ≡ c → (λ (a : Ask). is_for c ask.mode a) ask ≡ true
-asks_some asks ask c there own = and_from _ _ (eq-eqb c ask.client (sym own)) (has-itself ask.mode)
+-- an ask of the client that wasn't given up is a live one for its mode
+asks_some : (gone : Bool) (ask : Ask) (c : ℕ) → not gone ≡ true → ask.client ≡ c → is_for gone c ask.mode ask ≡ true
+asks_some gone ask c live own = and_from _ _ live (and_from _ _ (eq-eqb c ask.client (sym own)) (has-itself ask.mode))
 
 -- a set in which an ask is unanswered has a first waiter
 first_of : (script : ScriptData) (w : World) (s : ℕ) (ask : Ask) (chain : List Ask) → LeadsBy script w s ask chain → (first : Ask) × IsFirstWaiter script w s first
@@ -140,7 +138,8 @@ waits_higher script w rank kept homes within ranked rest s x ask in_sets below t
     by_waits false e = absurd (omega (arith, holds, ended_none script rank w d s barred.row.mode (ranked d row.client) (within d row.client) rest row.client in_sets e))
     by_waits true e =
         let found = any_below_which (length script.sets) (λ k. waits (state_at w k (home script d)) d) e in
-        let other = list_any-which (λ (a : Ask). a.client == d) (state_at w found.0 (home script d)).pending found.2 in
+        let live = and_parts (list_any (λ (a : Ask). a.client == d) (state_at w found.0 (home script d)).pending) _ found.2 in
+        let other = list_any-which (λ (a : Ask). a.client == d) (state_at w found.0 (home script d)).pending live.0 in
         let own : other.0.client ≡ d = eqb-true other.0.client d other.2 in
         record {
           client = d;
@@ -151,7 +150,8 @@ waits_higher script w rank kept homes within ranked rest s x ask in_sets below t
           there = other.1;
           own = own;
           higher = waits_above script rank (w.node (home script d)) d found.0 s other.0.mode barred.row.mode (ranked d row.client) (within d row.client) found.1 in_sets
-              (counted_some (is_for d other.0.mode) (state_at w found.0 (home script d)).pending other.0 other.1 (asks_some (state_at w found.0 (home script d)).pending other.0 d other.1 own)) holds;
+              (counted_some (is_for (is_gone (state_at w found.0 (home script d)) d) d other.0.mode) (state_at w found.0 (home script d)).pending other.0 other.1
+              (asks_some (is_gone (state_at w found.0 (home script d)) d) other.0 d live.1 own)) holds;
         }
 
 -- so none waits
@@ -172,7 +172,8 @@ nobody script w rank whole kept homes within ranked rest = by_test (anyone_waits
     by_test true e =
         let client = any_below_which (length script.clients) (is_waiting script w) e in
         let set = any_below_which (length script.sets) (λ s. waits (state_at w s (home script client.0)) client.0) client.2 in
-        let ask = list_any-which (λ (a : Ask). a.client == client.0) (state_at w set.0 (home script client.0)).pending set.2 in
+        let live = and_parts (list_any (λ (a : Ask). a.client == client.0) (state_at w set.0 (home script client.0)).pending) _ set.2 in
+        let ask = list_any-which (λ (a : Ask). a.client == client.0) (state_at w set.0 (home script client.0)).pending live.0 in
         absurd (none_waits script w rank whole kept homes within ranked rest (suc (sum_below (length script.sets) rank)) set.0 (home script client.0) ask.0 set.1 (whole.homes client.0 client.1) ask.1 (omega arith))
 
 ranked_are_steady : (script : ScriptData) (rank : ℕ → ℕ) → IsRanked script rank → AreSteady script
@@ -197,7 +198,8 @@ ranked_hold script run rank whole is_run ranked k client s mode known in_sets =
 pub ranked_wait : RankedWait
 ranked_wait script run rank whole is_run ranked k client s t mode other known in_sets also waits holds =
     waits_above script rank (w.node (home script client)) client s t mode other (ranked client known) (within_in_runs script run whole is_run (ranked_are_steady script rank ranked) k client known) in_sets also
-    (counted_some (is_for client mode) (state_at w s (home script client)).pending waits.0 waits.1 (and_from _ _ (eq-eqb client waits.0.client (sym waits.2)) (ap (same_mode mode) waits.3 ∙ has-itself mode)))
+    (counted_some (is_for (is_gone (state_at w s (home script client)) client) client mode) (state_at w s (home script client)).pending waits.0 waits.1
+    (and_from _ _ (ap not waits.4) (and_from _ _ (eq-eqb client waits.0.client (sym waits.2)) (ap (same_mode mode) waits.3 ∙ has-itself mode))))
     (omega (arith, holds, (held_in_runs script run whole is_run k).own (holding client t other) also))
   where
     w : World
@@ -217,51 +219,3 @@ ordered_release script run whole is_run ordered k rest = ranked_release script r
 
 pub alone_finish : AloneFinish
 alone_finish script run whole is_run alone k rest = ranked_finish script run (λ s. 0) whole is_run (alone_ranked script alone) k rest
-
--- Where all clients release what they may hold, only a ring keeps a client waiting.
-
-some_one : (a b : Command) → Some a ≡ Some b → a ≡ b
-some_one a b e = cc
-
-steady_at : (commands : List Command) (k : ℕ) (command : Command) → list_all is_steady commands ≡ true → slice_get commands k ≡ Some command → is_steady command ≡ true
-steady_at [] k command h e = cc
-steady_at (first ∷ rest) zero command h e = subst (λ (c : Command). is_steady c ≡ true) (some_one first command e) (and_parts (is_steady first) _ h).0
-steady_at (first ∷ rest) (suc k) command h e = steady_at rest k command (and_parts (is_steady first) _ h).1 e
-
-releasing_steady : (script : ScriptData) → IsReleasing script → AreSteady script
-releasing_steady script h c k command known e =
-    steady_at (commands_of script c) k command (and_parts (list_all is_steady (commands_of script c)) _ (h c known)).0 e
-
-all_taken : (commands : List Command) (k : ℕ) → length commands ≤ k → take k commands ≡ take (length commands) commands
-all_taken [] zero h = refl
-all_taken [] (suc k) h = refl
-all_taken (first ∷ rest) zero h = absurd (omega (arith, h))
-all_taken (first ∷ rest) (suc k) h = ap (λ (l : List Command). first ∷ l) (all_taken rest k (omega (arith, h)))
-
-none_is : (locks : List Holding) → holds_none locks ≡ true → locks ≡ []
-none_is [] e = refl
-none_is (lock ∷ rest) e = cc
-
-pub stuck_by_ring : StuckByRing
-stuck_by_ring script run whole is_run releasing k rest = (
-  λ someone. elim ((waiters_are_explained script run whole is_run k rest).0 someone) [
-    | inl ring ↦ ring
-    | inr (waiter, last, waits, known, ended, holds) ↦
-        let w = world_after script (take k run) in
-        let parts = and_parts (list_all is_steady (commands_of script last)) _ (releasing last known) in
-        let all : length (commands_of script last) ≤ made_by script w last = omega (arith, ltb-false (made_by script w last) (length (commands_of script last)) ended.commands) in
-        let nothing : may_hold script last (made_by script w last) ≡ [] =
-        ap (λ (l : List Command). fold (may_hold_after script last) [] l) (all_taken (commands_of script last) (made_by script w last) all)
-        ∙ none_is (may_hold script last (length (commands_of script last))) parts.1 in
-        let named = (lines_kept_in_runs script run whole is_run k).named holds.lock holds.held in
-        let some = counted_some (same_holding holds.lock) (holdings script (lines_of (take k run))) holds.lock holds.held (same_holding-itself holds.lock) in
-        let client : holds.lock.client ≡ last = holds.holder in
-        let own = (held_in_runs script run whole is_run k).own holds.lock named.1 in
-        let within = (within_in_runs script run whole is_run (releasing_steady script releasing) k last known).loans holds.lock.set holds.lock.mode named.1 in
-        let same : total (state_at w holds.lock.set (home script holds.lock.client)).held holds.lock.client holds.lock.mode ≡ total (state_at w holds.lock.set (home script last)).held last holds.lock.mode =
-        ap (λ (x : ℕ). total (state_at w holds.lock.set (home script x)).held x holds.lock.mode) client in
-        let empty = ap (λ (l : List Holding). times_held l (holding last holds.lock.set holds.lock.mode)) nothing in
-        absurd (omega (arith, some, own, within, same, empty))
-  ],
-  λ ring. (waiters_are_explained script run whole is_run k rest).1 (inl ring),
-)

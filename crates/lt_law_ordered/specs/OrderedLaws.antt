@@ -1,5 +1,5 @@
 -- Wider classes of scripts in which nobody waits at rest, or clients wait only in a ring.
-use Rattle.std.specs.Prelude.{Bool, true, ◌&&◌, nat_lt, ℕ, List, [], ◌∷◌, length, IsTrue, ◌<◌, ◌≡◌, ◌↔◌, ◌≤◌, take, IsFalse}
+use Rattle.std.specs.Prelude.{Bool, true, ◌&&◌, nat_lt, ℕ, List, [], ◌∷◌, length, IsTrue, ◌<◌, ◌≡◌, ◌⊎◌, ◌↔◌, ◌≤◌, take, IsFalse}
 use Rattle.std.specs.List.{list_all}
 use Rattle.lt_modes.specs.declared.command.Command.{Command}
 use Rattle.lt_modes.specs.declared.command.Command.TheVariants.{Lock, Change}
@@ -9,8 +9,8 @@ use Rattle.lt_modes.specs.declared.mode.Mode.{Mode}
 use Rattle.lt_spec.specs.NodeMove.{commands_of, IsWhole}
 use Rattle.lt_spec.specs.Holdings.{Holding, holding, holdings, lines_of, times_held, WaitsFor}
 use Rattle.lt_spec.specs.Script.{may_hold_after, may_hold, holds_none, IsOrdered}
-use Rattle.lt_spec.specs.World.{Logged, world_after, made_by, IsRun, is_at_rest, anyone_waits}
-use Rattle.lt_spec.specs.Promised.{WaitInRing}
+use Rattle.lt_spec.specs.World.{Logged, world_after, made_by, IsRun, is_at_rest, anyone_waits, IsUnmarked}
+use Rattle.lt_spec.specs.Promised.{WaitInRing, WaitBehindVoid}
 
 -- the command is no change, or one to a mode that the old one covers
 abbrev pub is_steady : Command → Bool
@@ -21,8 +21,8 @@ is_steady other = true
 abbrev pub are_ranked_below : (ℕ → ℕ) → ℕ → List Holding → Bool
 are_ranked_below rank s locks = list_all (λ (lock : Holding). nat_lt (rank lock.set) (rank s)) locks
 
--- a client that may hold these locks waits only for a set with a greater rank than theirs: a `try` and an `unlock` never
--- wait, nor does a `drop`, be it of another client, nor a `change` to a mode that the old one covers
+-- a client that may hold these locks waits only for a set with a greater rank than theirs: a `try`, an `unlock` and a
+-- `withdraw` never wait, nor does a `drop`, be it of another client, nor a `change` to a mode that the old one covers
 abbrev pub goes_up : (ℕ → ℕ) → List Holding → Command → Bool
 goes_up rank locks (Lock s mode) = are_ranked_below rank s locks
 goes_up rank locks other = is_steady other
@@ -109,9 +109,16 @@ RankedWait = (script : ScriptData) (run : List Logged) (rank : ℕ → ℕ) → 
     → WaitsFor script (world_after script (take k run)) client s mode
     → 1 ≤ times_held (holdings script (lines_of (take k run))) (holding client t other) → rank t < rank s
 
--- in a script whose clients release all that they may hold, in whichever order they ask, somebody waits at rest if and only
--- if clients wait in a ring
+-- in a script whose clients release all that they may hold, in whichever order they ask, somebody waits at rest, where no
+-- ask is given up, if and only if clients wait in a ring
 abbrev pub StuckByRing : Type 0
 StuckByRing = (script : ScriptData) (run : List Logged) → IsWhole script → IsRun script run → IsReleasing script → (k : ℕ)
-    → IsTrue (is_at_rest script (world_after script (take k run)))
+    → IsTrue (is_at_rest script (world_after script (take k run))) → IsUnmarked (world_after script (take k run))
     → IsTrue (anyone_waits script (world_after script (take k run))) ↔ WaitInRing script (world_after script (take k run))
+
+-- and where asks may be given up, if and only if clients wait in a ring, or a client waits behind a void ask
+abbrev pub StuckByRingOrVoid : Type 0
+StuckByRingOrVoid = (script : ScriptData) (run : List Logged) → IsWhole script → IsRun script run → IsReleasing script → (k : ℕ)
+    → IsTrue (is_at_rest script (world_after script (take k run)))
+    → IsTrue (anyone_waits script (world_after script (take k run)))
+    ↔ (WaitInRing script (world_after script (take k run)) ⊎ WaitBehindVoid script (world_after script (take k run)))

@@ -1,7 +1,7 @@
 -- Which client is the first whose commands don't ask for sets in order, in small scripts.
 use Rattle.std.specs.Prelude.{◌≡◌, Some, None, [], ◌∷◌, codes}
 use Rattle.lt_modes.specs.declared.mode.Mode.TheVariants.{Read, Upgrade, Write}
-use Rattle.lt_modes.specs.declared.command.Command.TheVariants.{Lock, Try, Unlock, Change, DropAll}
+use Rattle.lt_modes.specs.declared.command.Command.TheVariants.{Lock, Try, Unlock, Change, DropAll, Withdraw}
 use Rattle.lt_modes.specs.Script.{ScriptData}
 use Rattle.lt_law_examples.specs.Worked.{declared_set, declared_client}
 use Rattle.lt_spec.specs.Script.{first_bad}
@@ -145,3 +145,39 @@ drop_of_another = record {
 
 abbrev pub DropOfAnotherRow : Type 0
 DropOfAnotherRow = first_bad drop_of_another ≡ Some 1
+
+-- Waits are given up: a client's own, while it holds a lock, and another one's.
+abbrev pub waits_given_up : ScriptData
+waits_given_up = record {
+  version = 3;
+  nodes = 2;
+  sets = declared_set (codes "s") 0 ∷ declared_set (codes "r") 1 ∷ [];
+  clients = declared_client (codes "a") 1 ∷ declared_client (codes "b") 1 ∷ [];
+  commands =
+      (0, Lock 0 Read) ∷
+      (0, Lock 1 Write) ∷
+      (0, Withdraw 0 1) ∷
+      (0, Unlock 1 Write) ∷
+      (0, Unlock 0 Read) ∷
+      (1, Withdraw 0 0) ∷
+      [];
+}
+
+abbrev pub WaitsGivenUpRow : Type 0
+WaitsGivenUpRow = first_bad waits_given_up ≡ None
+
+-- What may have been got before the wait was given up is to be released.
+abbrev pub given_up_and_kept : ScriptData
+given_up_and_kept = record {
+  version = 3;
+  nodes = 1;
+  sets = declared_set (codes "s") 0 ∷ [];
+  clients = declared_client (codes "a") 0 ∷ [];
+  commands =
+      (0, Lock 0 Write) ∷
+      (0, Withdraw 0 0) ∷
+      [];
+}
+
+abbrev pub GivenUpAndKeptRow : Type 0
+GivenUpAndKeptRow = first_bad given_up_and_kept ≡ Some 0

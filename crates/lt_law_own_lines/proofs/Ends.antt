@@ -10,7 +10,7 @@ use Rattle.lt_modes.specs.declared.ask.Ask.{Ask}
 use Rattle.lt_modes.specs.Modes.{held_modes, take_lock, Modes}
 use Rattle.lt_modes.specs.State.{SetState, Desk, Entry, FreezeBody, ParkedAsk, ParkedTell, Post, post_of, entry_of, no_ask, Parked, has_stamp, without, without_at, entered, place}
 use Rattle.lt_modes.specs.Freezing.{cons_if, places_from, freeze, freeze_at, frozen_by, frozen_entry, is_target, targets, number_after}
-use Rattle.lt_modes.specs.Serving.{queue_of, queue_of_desk, put_queue, owed_at, owing, ask_at, next_service, next_draw, serve_one, serve_local, serve_copy, hand_over_to, answer_event, answer_by}
+use Rattle.lt_modes.specs.Serving.{queue_of, queue_of_desk, put_queue, owed_at, owing, ask_at, next_service, next_draw, serve_one, serve_local, serve_copy, hand_over_to, answer_event, answer_by, without_gone as left_gone}
 use Rattle.lt_modes.specs.SetMove.{tell_of, route, answers, given, ask_of, asked, dropped, dealt}
 use Rattle.lt_modes.specs.declared.event.Event.TheVariants.{Wait}
 use Rattle.lt_modes.specs.declared.event.Event.{Event}
@@ -185,8 +185,10 @@ named_acts nodes set stamp here = record {
   releases = λ client mode t posts holds h.
       (same_names nodes stamp.node t (record t { held = take_lock t.held client mode }) refl refl refl refl h.0, h.1);
   drops = λ client t posts h. (same_names nodes stamp.node t (dropped client t) refl refl refl refl h.0, h.1);
-  asks = λ client mode t posts can h. asks_named nodes set stamp here client mode None t posts h;
-  change_asks = λ client gives_up mode t posts holds can h. asks_named nodes set stamp here client mode (Some gives_up) t posts h;
+  withdraws = λ other t posts waiting h. (same_names nodes stamp.node t (record t { gone = other ∷ t.gone }) refl refl refl refl h.0, h.1);
+  retakes = λ ask t posts gone same h. (same_names nodes stamp.node t (record t { gone = left_gone t.gone ask.client }) refl refl refl refl h.0, h.1);
+  asks = λ client mode t posts can free h. asks_named nodes set stamp here client mode None t posts h;
+  change_asks = λ client gives_up mode t posts holds can free h. asks_named nodes set stamp here client mode (Some gives_up) t posts h;
 }
 
 -- Which client made each ask, and who waits where one is answered or more are made.
@@ -236,7 +238,7 @@ waits_without maker asks stamp other h differ = by_place (position (has_stamp st
         let made : maker stamp ≡ own.client = ap maker (sym (has_stamp-true stamp own found.1)) ∙ h k no_ask found.0 in
         any_removed _ asks k found.0 (ne_eqb own.client other (λ same. differ (made ∙ same)))
 
-answer_client : (set : ℕ) (ask : Ask) → line_client (answer_event set ask) ≡ Some ask.client
+pub answer_client : (set : ℕ) (ask : Ask) → line_client (answer_event set ask) ≡ Some ask.client
 answer_client set ask = by_choice ask.gives_up
   where
     by_choice : (gives_up : Option Mode) → line_client (answer_by set ask gives_up) ≡ Some ask.client
@@ -245,11 +247,10 @@ answer_client set ask = by_choice ask.gives_up
 
 -- the client whose ask is answered is named
 pub answered_leaves : (maker : Maker) (set other : ℕ) (ask : Ask) (asks : List Ask) → All (IsMadeBy maker) asks → IsMadeBy maker ask
-    → OthersLines other (answer_event set ask ∷ [])
+    → (ask.client ≢ other)
     → list_any (λ (own : Ask). own.client == other) (without asks ask.stamp) ≡ list_any (λ (own : Ask). own.client == other) asks
-answered_leaves maker set other ask asks h made lines =
-    waits_without maker asks ask.stamp other h
-    (λ same. lines.0 (answer_client set ask ∙ ap (λ (c : ℕ). Some c) (sym made ∙ same)))
+answered_leaves maker set other ask asks h made differ =
+    waits_without maker asks ask.stamp other h (λ same. differ (sym made ∙ same))
 
 enter_made : (P : Ask → Type 0) (queue : List Ask) (ask : Ask) → All P queue → P ask → All P (entered queue ask)
 enter_made P queue ask h own =

@@ -9,7 +9,7 @@ use Rattle.lt_lists.proofs.Puts.{put-same, put-other}
 use Rattle.lt_modes.specs.declared.stamp.Stamp.{Stamp}
 use Rattle.lt_modes.specs.declared.ask.Ask.{Ask}
 use Rattle.lt_modes.specs.declared.command.Command.{Command}
-use Rattle.lt_modes.specs.declared.command.Command.TheVariants.{Lock, Unlock, Try, Change, DropAll}
+use Rattle.lt_modes.specs.declared.command.Command.TheVariants.{Lock, Unlock, Try, Change, DropAll, Withdraw}
 use Rattle.lt_modes.specs.Script.{ScriptData}
 use Rattle.lt_modes.specs.State.{SetState, Body, AskBody, TellBody, CopyBody, TokenBody, FreezeBody, ParkedAsk, ParkedTell, first_entry, first_state, first_desk, Made, silent}
 use Rattle.lt_modes.specs.Fits.{Numbers, head_fits, body_fits, is_at_home, numbers_of}
@@ -64,6 +64,8 @@ obey_reached nodes script stamp here client (Some (Unlock s mode)) n h =
     touched_reached nodes stamp.node s n _ h ((commands nodes s stamp here).unlocks client mode (n.set s) [] (h s, tt))
 obey_reached nodes script stamp here client (Some (Change s gives_up mode)) n h =
     touched_reached nodes stamp.node s n _ h ((commands nodes s stamp here).changes client gives_up mode (n.set s) [] (h s, tt))
+obey_reached nodes script stamp here client (Some (Withdraw other s)) n h =
+    touched_reached nodes stamp.node s n _ h ((commands nodes s stamp here).withdraws client other (n.set s) [] (h s, tt))
 obey_reached nodes script stamp here client (Some (DropAll other s)) n h = by_test (node_waits script n other)
   where
     by_test : (waiting : Bool) → Reached nodes stamp.node (drop_all waiting stamp client other s (related script s) n)

@@ -1,4 +1,5 @@
 -- The effects of a move show lines of clients of the node that moves.
+use Rattle.lt_model.proofs.Voids.{withdraws_ways}
 use Rattle.std.proofs.Common.{◌≡◌, ℕ, ◌<◌, List, [], ◌∷◌, ◌++◌, length, map, Option, Some, None, Bool, true, false, refl, ◌∙◌, ◌+◌, inl, inr, sym, subst, arith, ◌==◌, not, if◌then◌else◌, Contains, eqb-true}
 use Rattle.std.specs.List.{AllByRecursion}
 use Rattle.std.proofs.lemmas.Bool.{cases_eq}
@@ -7,15 +8,15 @@ use Rattle.lt_modes.specs.declared.mode.Mode.{Mode}
 use Rattle.lt_modes.specs.declared.stamp.Stamp.{Stamp}
 use Rattle.lt_modes.specs.declared.ask.Ask.{Ask}
 use Rattle.lt_modes.specs.declared.event.Event.{Event}
-use Rattle.lt_modes.specs.declared.event.Event.TheVariants.{Freeze}
+use Rattle.lt_modes.specs.declared.event.Event.TheVariants.{Freeze, Void}
 use Rattle.lt_modes.specs.Modes.{Modes, is_of, held_modes}
 use Rattle.lt_modes.specs.Script.{ScriptData}
 use Rattle.lt_modes.specs.State.{SetState, Desk, Body, AskBody, TellBody, CopyBody, TokenBody, FreezeBody, Letter, Parked, ParkedAsk, ParkedTell, Made, then_do, no_ask}
-use Rattle.lt_modes.specs.Serving.{queue_of, answer_event, answer_by, ask_at, serve_one, serve_local, serve_copy, hand_over_to}
+use Rattle.lt_modes.specs.Serving.{queue_of, answer_event, answer_by, ask_at, serve_one, serve_local, serve_copy, hand_over_to, is_gone}
 use Rattle.lt_modes.specs.Freezing.{freeze, freeze_at, frozen_by, targets}
-use Rattle.lt_modes.specs.SetMove.{Way, Parks, Goes, learn, sent_on, route, tell_of, finish, take_body, arrive, ask_of, dropped, take, drop}
+use Rattle.lt_modes.specs.SetMove.{Way, Parks, Goes, learn, sent_on, route, tell_of, finish, take_body, arrive, ask_of, dropped, take, drop, withdrawn, withdraw}
 use Rattle.lt_modes.specs.declared.command.Command.{Command}
-use Rattle.lt_modes.specs.declared.command.Command.TheVariants.{Lock, Unlock, Try, Change, DropAll}
+use Rattle.lt_modes.specs.declared.command.Command.TheVariants.{Lock, Unlock, Try, Change, DropAll, Withdraw}
 use Rattle.lt_modes.specs.declared.moves.Step.TheVariants.{Act, Take}
 use Rattle.lt_lists.proofs.AllLemmas.{all_append}
 use Rattle.lt_lists.specs.Below.{put}
@@ -52,6 +53,11 @@ answer_own script q set ask own = by_choice ask.gives_up
     by_choice None = own
     by_choice (Some mode) = own
 
+end_own : (script : ScriptData) (q set : ℕ) (ask : Ask) (gone : Bool) → home script ask.client ≡ q
+    → IsOwnLine script q (if gone then Void ask.client set ask.mode else answer_event set ask)
+end_own script q set ask true own = own
+end_own script q set ask false own = answer_own script q set ask own
+
 -- asks and tells go their way without a line
 route_own : (script : ScriptData) (q set : ℕ) (stamp : Stamp) (marked : Bool) (item : Parked) (t : SetState)
     → AreOwnLines script q (route set stamp marked item t).events
@@ -71,7 +77,7 @@ serves_own script set stamp t k within h = by_test ((ask_at t k).node == stamp.n
 
     by_test : (here : Bool) → ((ask_at t k).node == stamp.node) ≡ here
         → AreOwnLines script stamp.node (if here then serve_local set k t else serve_copy set stamp k (ask_at t k) t).events
-    by_test true e = (answer_own script stamp.node set (ask_at t k) (own.home ∙ eqb-true (ask_at t k).node stamp.node e), tt)
+    by_test true e = (end_own script stamp.node set (ask_at t k) (is_gone t (ask_at t k).client) (own.home ∙ eqb-true (ask_at t k).node stamp.node e), tt)
     by_test false e = (tt, tt)
 
 freezes_own : (script : ScriptData) (q set : ℕ) (stamp : Stamp) (t : SetState) → AreOwnLines script q (freeze set stamp t).events
@@ -119,6 +125,8 @@ own_acts script set stamp client in_sets known own in_nodes =
       asks = λ mode gives_up t h.
           let ask = ask_of stamp client mode gives_up t in
           ((homes.asks mode gives_up t h).state, (own, route_own script stamp.node set stamp false (ParkedAsk ask) (record t { pending = t.pending ++ ask ∷ [] })));
+      retakes = λ mode t h. ((homes.retakes mode t h).state, (own, tt));
+      withheld = λ mode t h. ((homes.withheld mode t h).state, (own, tt));
       ended = λ t m a. joined_own script stamp.node t m (finish set stamp) a
           (finish_rule set stamp (own_lines script stamp.node) (own_ends script set stamp in_sets in_nodes) m.state);
     }
@@ -135,7 +143,7 @@ arrives_own script stamp letter in_sets own t h =
     by_body : (body : Body) → IsBodyAtHome script stamp.node body → (u : SetState) → AreOwnLines script stamp.node (take_body letter.set stamp body u).events
     by_body (AskBody ask marked) at u = route_own script stamp.node letter.set stamp marked (ParkedAsk ask) u
     by_body (TellBody tell) at u = route_own script stamp.node letter.set stamp false (ParkedTell tell) u
-    by_body (CopyBody ask) at u = (answer_own script stamp.node letter.set ask (at.0.home ∙ at.1), tt)
+    by_body (CopyBody ask) at u = (end_own script stamp.node letter.set ask (is_gone u ask.client) (at.0.home ∙ at.1), tt)
     by_body (TokenBody desk) at u = tt
     by_body (FreezeBody number modes) at u = tt
 
@@ -145,6 +153,14 @@ take_own script stamp letter in_sets own in_nodes t =
     take_rule stamp letter (own_lines script stamp.node) (own_lines script stamp.node)
     (λ u m. joined_own script stamp.node u m (finish letter.set stamp)) (own_ends script letter.set stamp in_sets in_nodes) t
     (arrives_own script stamp letter in_sets own t)
+
+pub withdraw_own : (script : ScriptData) (set : ℕ) (stamp : Stamp) (client other : ℕ) → set < length script.sets → stamp.node < script.nodes
+    → home script client ≡ stamp.node → home script other ≡ stamp.node → (t : SetState) → own_lines script stamp.node t (withdraw set stamp client other t)
+withdraw_own script set stamp client other in_sets in_nodes own named t =
+    joined_own script stamp.node t (withdrawn set client other t) (finish set stamp)
+    (λ h. withdraws_ways (λ (m : Made). IsStateAtHome script stamp.node m.state × AreOwnLines script stamp.node m.events) set client other t
+    (λ waiting. (record { rows = h.rows; pending = h.pending; parked = h.parked; queue = h.queue }, (named, (own, tt)))) (λ idle. (h, (own, tt))))
+    (finish_own script set stamp in_sets in_nodes (withdrawn set client other t).state)
 
 pub drop_own : (script : ScriptData) (set : ℕ) (stamp : Stamp) (other : ℕ) → set < length script.sets → stamp.node < script.nodes
     → (t : SetState) → own_lines script stamp.node t (drop set stamp other t)
@@ -197,6 +213,8 @@ obey_own script stamp client (Unlock s mode) n known own in_nodes targets h =
     ((command_rules s stamp client _ (own_acts script s stamp client targets known own in_nodes)).unlocks mode (n.set s) (h s)).1
 obey_own script stamp client (Change s gives_up mode) n known own in_nodes targets h =
     ((command_rules s stamp client _ (own_acts script s stamp client targets known own in_nodes)).changes gives_up mode (n.set s) (h s)).1
+obey_own script stamp client (Withdraw other s) n known own in_nodes targets h =
+    (withdraw_own script s stamp client other targets.0 in_nodes own (targets.2 ∙ own) (n.set s) (h s)).1
 obey_own script stamp client (DropAll other s) n known own in_nodes targets h =
     drop_all_own script stamp client other s n (node_waits script n other) own in_nodes h
 

@@ -3,7 +3,7 @@ use Rattle.std.proofs.Common.{◌≡◌, ℕ, List, [], ◌∷◌, ◌++◌, Boo
 use Rattle.std.specs.List.{AllByRecursion}
 use Rattle.std.proofs.lemmas.List.Elements.{All-from_recursion}
 use Rattle.lt_modes.specs.declared.event.Event.{Event}
-use Rattle.lt_modes.specs.declared.event.Event.TheVariants.{Grant, Wait, Try, Unlock, NotHeld, Change, DropAll, Busy, Copy, Freeze, Token}
+use Rattle.lt_modes.specs.declared.event.Event.TheVariants.{Grant, Wait, Try, Unlock, NotHeld, Change, DropAll, Busy, Copy, Freeze, Token, Withdraw, Withdrawn, Void, Withheld}
 use Rattle.lt_modes.specs.Script.{ScriptData}
 use Rattle.lt_spec.specs.NodeMove.{home, IsWhole}
 use Rattle.lt_spec.specs.Holdings.{lines_of}
@@ -58,6 +58,10 @@ not_reply script q client line own away = by_line line own
     by_line (Change c s gives_up mode) e = not_same c e
     by_line (DropAll c other s count) e = not_same c e
     by_line (Busy c other s) e = not_same c e
+    by_line (Withdraw c other s got) e = not_same c e
+    by_line (Withdrawn c s mode) e = not_same c e
+    by_line (Void c s mode) e = refl
+    by_line (Withheld c s mode) e = not_same c e
     by_line (Copy s to c mode) e = refl
     by_line (Freeze s to number modes) e = refl
     by_line (Token s to epoch) e = refl

@@ -1,20 +1,25 @@
 -- The effects of a move on a set leave a client that no line names waiting as before.
-use Rattle.std.proofs.Common.{◌≡◌, ℕ, ◌<◌, [], ◌∷◌, ◌++◌, length, Option, Some, None, Bool, true, false, refl, ap, subst, ◌∙◌, ◌==◌, ◌&&◌, not, nat_lt, if◌then◌else◌, All, remove, eqb-true, ne_eqb}
+use Rattle.lt_modes.specs.declared.event.Event.{Event}
+use Rattle.lt_spec.specs.World.{line_client}
+use Rattle.std.specs.List.{list_any}
+use Rattle.lt_model.proofs.Voids.{withdraws_ways}
+use Rattle.lt_modes.specs.declared.event.Event.TheVariants.{Void}
+use Rattle.std.proofs.Common.{◌≡◌, ℕ, ◌<◌, [], ◌∷◌, ◌++◌, length, Option, Some, None, Bool, true, false, refl, ap, subst, ◌∙◌, ◌==◌, ◌&&◌, not, nat_lt, if◌then◌else◌, All, remove, eqb-true, ne_eqb, List, ◌≢◌, ◌||◌, sym}
 use Rattle.std.proofs.lemmas.List.Elements.{All-push, All-nil, recursion_from_All}
 use Rattle.lt_modes.specs.declared.mode.Mode.{Mode}
 use Rattle.lt_modes.specs.declared.stamp.Stamp.{Stamp}
 use Rattle.lt_modes.specs.declared.ask.Ask.{Ask}
 use Rattle.lt_modes.specs.declared.parts.Link.{Link}
 use Rattle.lt_modes.specs.Modes.{excludes_itself, held_modes}
-use Rattle.lt_modes.specs.State.{SetState, Desk, Body, AskBody, TellBody, CopyBody, TokenBody, FreezeBody, Letter, Parked, ParkedAsk, ParkedTell, Made, silent, then_do, no_ask}
-use Rattle.lt_modes.specs.Serving.{queue_of, queue_of_desk, put_queue, owed_at, ask_at, serve_one, serve_local, serve_copy, waits, hand_over_to}
+use Rattle.lt_modes.specs.State.{SetState, Desk, Body, AskBody, TellBody, CopyBody, TokenBody, FreezeBody, Letter, Parked, ParkedAsk, ParkedTell, Made, silent, then_do, no_ask, without}
+use Rattle.lt_modes.specs.Serving.{queue_of, queue_of_desk, put_queue, owed_at, ask_at, serve_one, serve_local, serve_copy, waits, hand_over_to, is_gone, without_gone as left_gone, answer_event}
 use Rattle.lt_modes.specs.Freezing.{freeze, freeze_at}
-use Rattle.lt_modes.specs.SetMove.{Way, Parks, Goes, learn, reversed, sent_on, route, tell_of, finish, take_body, arrive, ask_of, asked, dropped, take, drop}
+use Rattle.lt_modes.specs.SetMove.{Way, Parks, Goes, learn, reversed, sent_on, route, tell_of, finish, take_body, arrive, ask_of, asked, dropped, take, drop, withdrawn, withdraw}
 use Rattle.lt_lists.proofs.AllLemmas.{all_front, all_back, remove_all}
 use Rattle.lt_model.proofs.Effects.{route_ways}
 use Rattle.lt_model.proofs.HomesRows.{without_home}
 use Rattle.lt_model.proofs.TryEffects.{Between, EndRules, ActRules, finish_rule, take_rule}
-use Rattle.lt_law_own_lines.proofs.Ends.{Maker, IsMadeBy, IsOwnMadeBy, IsParkedMadeBy, AreMadeBy, OthersLines, answered_leaves, dealt_made, all_dealt_made, any_pushed}
+use Rattle.lt_law_own_lines.proofs.Ends.{Maker, IsMadeBy, IsOwnMadeBy, IsParkedMadeBy, AreMadeBy, OthersLines, answered_leaves, dealt_made, all_dealt_made, any_pushed, answer_client}
 
 -- so it stays, and a client that no line names waits as before
 pub record Leaves (maker : Maker) (q other : ℕ) (t : SetState) (m : Made) : Type 0 where
@@ -68,6 +73,30 @@ route_leaves maker q other set stamp marked item own t h =
     goes (Goes to mark) =
         let turned = reversed_leaves maker q other stamp.node item t h in record { made = turned.0; waiting = λ lines. turned.1 }
 
+-- the marks of the others stay
+gone_stays : (gone : List ℕ) (client c : ℕ) → c ≢ client → list_any (λ other. other == c) (left_gone gone client) ≡ list_any (λ other. other == c) gone
+gone_stays [] client c d = refl
+gone_stays (x ∷ rest) client c d = by_test (x == client) refl (gone_stays rest client c d)
+  where
+    by_test : (own : Bool) → (x == client) ≡ own → list_any (λ other. other == c) (left_gone rest client) ≡ list_any (λ other. other == c) rest
+        → list_any (λ other. other == c) (if not own then x ∷ left_gone rest client else left_gone rest client) ≡ ((x == c) || list_any (λ other. other == c) rest)
+    by_test true e again = again ∙ sym (ap (λ (b : Bool). b || list_any (λ other. other == c) rest) (ne_eqb x c (λ f. d (sym f ∙ eqb-true x client e))))
+    by_test false e again = ap (λ (b : Bool). (x == c) || b) again
+
+end_client : (set : ℕ) (ask : Ask) (gone : Bool) → line_client (if gone then Void ask.client set ask.mode else answer_event set ask) ≡ Some ask.client
+end_client set ask true = refl
+end_client set ask false = answer_client set ask
+
+-- an ask that leaves, given up or not, leaves others waiting as before
+ended_leaves : (maker : Maker) (set other : ℕ) (t : SetState) (ask : Ask) (gone : Bool) → All (IsMadeBy maker) t.pending → IsMadeBy maker ask
+    → OthersLines other ((if gone then Void ask.client set ask.mode else answer_event set ask) ∷ [])
+    → (list_any (λ (own : Ask). own.client == other) (without t.pending ask.stamp) && not (list_any (λ x. x == other) (left_gone t.gone ask.client))) ≡ waits t other
+ended_leaves maker set other t ask gone h made lines =
+    let differ : ask.client ≢ other = λ same. lines.0 (end_client set ask gone ∙ ap (λ (c : ℕ). Some c) same) in
+    let asks = answered_leaves maker set other ask t.pending h made differ in
+    let marks = gone_stays t.gone ask.client other (λ same. differ (sym same)) in
+    λ i. asks i && not (marks i)
+
 serves_leaves : (maker : Maker) (other set : ℕ) (stamp : Stamp) (t : SetState) (k : ℕ) → k < length (queue_of t)
     → leaves maker stamp.node other t (serve_one set stamp k t)
 serves_leaves maker other set stamp t k within h = by_test ((ask_at t k).node == stamp.node) refl
@@ -93,7 +122,7 @@ serves_leaves maker other set stamp t k within h = by_test ((ask_at t k).node ==
         parked = h.parked;
         queue = put_made t.desk h.queue;
       };
-      waiting = answered_leaves maker set other ask t.pending h.pending (h.queue k no_ask within (eqb-true ask.node stamp.node e));
+      waiting = ended_leaves maker set other t ask (is_gone t ask.client) h.pending (h.queue k no_ask within (eqb-true ask.node stamp.node e));
     }
     by_test false e = record {
       made = record { pending = h.pending; parked = h.parked; queue = owed_made t.desk h.queue };
@@ -142,6 +171,19 @@ drop_leaves maker other set stamp client t h =
     let ended = finish_leaves maker other set stamp (dropped client t) (record { pending = h.pending; parked = h.parked; queue = h.queue }) in
     record { made = ended.made; waiting = ended.waiting }
 
+pub withdraw_leaves : (maker : Maker) (other set : ℕ) (stamp : Stamp) (client whose : ℕ) (t : SetState)
+    → leaves maker stamp.node other t (withdraw set stamp client whose t)
+withdraw_leaves maker other set stamp client whose t =
+    joined_leaves maker stamp.node other t (withdrawn set client whose t) (finish set stamp)
+    (λ h. withdraws_ways (Leaves maker stamp.node other t) set client whose t
+    (λ waiting. record {
+      made = record { pending = h.pending; parked = h.parked; queue = h.queue };
+      waiting = λ lines. ap (λ (b : Bool). list_any (λ (own : Ask). own.client == other) t.pending && not (b || is_gone t other))
+          (ne_eqb whose other (λ same. lines.0 (ap (λ (c : ℕ). Some c) same)));
+    })
+    (λ idle. record { made = h; waiting = λ lines. refl }))
+    (finish_leaves maker other set stamp (withdrawn set client whose t).state)
+
 asks_leaves : (maker : Maker) (other set : ℕ) (stamp : Stamp) (client : ℕ) → maker stamp ≡ client → (mode : Mode) (gives_up : Option Mode) (t : SetState)
     → leaves maker stamp.node other t (asked set stamp (ask_of stamp client mode gives_up t) t)
 asks_leaves maker other set stamp client by mode gives_up t h =
@@ -153,7 +195,7 @@ asks_leaves maker other set stamp client by mode gives_up t h =
       made = routed.made;
       waiting = λ lines.
           routed.waiting lines.1
-          ∙ any_pushed (λ (own : Ask). own.client == other) t.pending ask (ne_eqb client other (λ same. lines.0 (ap (λ (c : ℕ). Some c) same)));
+          ∙ ap (λ (b : Bool). b && not (is_gone t other)) (any_pushed (λ (own : Ask). own.client == other) t.pending ask (ne_eqb client other (λ same. lines.0 (ap (λ (c : ℕ). Some c) same))));
     }
 
 pub leaving_acts : (maker : Maker) (other set : ℕ) (stamp : Stamp) (client : ℕ) → maker stamp ≡ client
@@ -166,6 +208,12 @@ leaving_acts maker other set stamp client by = record {
   changes = λ gives_up mode t h. record { made = record { pending = h.pending; parked = h.parked; queue = h.queue }; waiting = λ lines. refl };
   releases = λ mode t h. record { made = record { pending = h.pending; parked = h.parked; queue = h.queue }; waiting = λ lines. refl };
   asks = asks_leaves maker other set stamp client by;
+  retakes = λ mode t h. record {
+    made = record { pending = h.pending; parked = h.parked; queue = h.queue };
+    waiting = λ lines. ap (λ (b : Bool). list_any (λ (own : Ask). own.client == other) t.pending && not b)
+        (gone_stays t.gone client other (λ same. lines.0 (ap (λ (c : ℕ). Some c) (sym same))));
+  };
+  withheld = λ mode t h. record { made = h; waiting = λ lines. refl };
   ended = λ t m a. joined_leaves maker stamp.node other t m (finish set stamp) a (finish_leaves maker other set stamp m.state);
 }
 
@@ -204,7 +252,7 @@ arrives_leaves maker other stamp letter own t h =
         parked = hu.parked;
         queue = hu.queue;
       };
-      waiting = answered_leaves maker letter.set other ask u.pending hu.pending by;
+      waiting = ended_leaves maker letter.set other u ask (is_gone u ask.client) hu.pending by;
     }
     by_body (TokenBody desk) by u hu = record {
       made = record {

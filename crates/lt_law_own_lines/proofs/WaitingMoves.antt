@@ -7,7 +7,7 @@ use Rattle.std.proofs.lemmas.List.Sums.{AllPass-from_list_all}
 use Rattle.lt_modes.specs.declared.stamp.Stamp.{Stamp}
 use Rattle.lt_modes.specs.declared.ask.Ask.{Ask}
 use Rattle.lt_modes.specs.declared.command.Command.{Command}
-use Rattle.lt_modes.specs.declared.command.Command.TheVariants.{Lock, Unlock, Try, Change, DropAll}
+use Rattle.lt_modes.specs.declared.command.Command.TheVariants.{Lock, Unlock, Try, Change, DropAll, Withdraw}
 use Rattle.lt_modes.specs.Script.{ScriptData}
 use Rattle.lt_modes.specs.State.{SetState, Body, AskBody, TellBody, CopyBody, TokenBody, FreezeBody, Parked, ParkedAsk, ParkedTell, Made, has_stamp}
 use Rattle.lt_modes.specs.Fits.{Numbers, ask_if, parked_asks, asks_here, is_at_home, is_pending, is_known, are_apart, body_fits}
@@ -23,7 +23,7 @@ use Rattle.lt_law_accounts.proofs.Asks.{has_stamp-true, has_stamp-own, same_ask-
 use Rattle.lt_model.proofs.TryEffects.{command_rules, CommandRules}
 use Rattle.lt_law_own_lines.specs.WaitingLaws.{OwnAsksKnown, WaitingInCommands, WaitingInTakes, WaitingInActs, WaitingInNodeTakes, KnownWhereSound}
 use Rattle.lt_law_own_lines.proofs.Ends.{Maker, IsMadeBy, IsOwnMadeBy, IsParkedMadeBy, AreMadeBy, OthersLines}
-use Rattle.lt_law_own_lines.proofs.WaitingEffects.{BringsMadeBy, Leaves, leaves, leaving_acts, finish_leaves, drop_leaves, take_leaves}
+use Rattle.lt_law_own_lines.proofs.WaitingEffects.{BringsMadeBy, Leaves, leaves, leaving_acts, finish_leaves, drop_leaves, take_leaves, withdraw_leaves}
 
 -- the client of the first ask with the stamp
 abbrev named : List Ask → Maker
@@ -119,6 +119,8 @@ waiting_in_commands set stamp s known = record {
       ((rules client other).changes gives_up mode s (made_by stamp client s known)).waiting (recursion_from_All _ _ lines);
   drops = λ client other lines.
       (drop_leaves (maker_of stamp client s.pending) other set stamp client s (made_by stamp client s known)).waiting (recursion_from_All _ _ lines);
+  withdraws = λ client whose other lines.
+      (withdraw_leaves (maker_of stamp client s.pending) other set stamp client whose s (made_by stamp client s known)).waiting (recursion_from_All _ _ lines);
   finishes = λ other lines. (finish_leaves (maker_of stamp 0 s.pending) other set stamp s (made_by stamp 0 s known)).waiting (recursion_from_All _ _ lines);
 }
   where
@@ -201,6 +203,8 @@ obey_leaves script makers stamp client other command n by h = by_command command
         touched_leaves script makers stamp.node other s n _ h (λ within. (rules s).unlocks mode (n.set s) (h s within))
     by_command (Some (Change s gives_up mode)) =
         touched_leaves script makers stamp.node other s n _ h (λ within. (rules s).changes gives_up mode (n.set s) (h s within))
+    by_command (Some (Withdraw whose s)) =
+        touched_leaves script makers stamp.node other s n _ h (λ within. withdraw_leaves (makers s) other s stamp client whose (n.set s) (h s within))
     by_command (Some (DropAll dropped s)) =
         drop_all_leaves script makers stamp client dropped other s n (node_waits script n dropped) h
 

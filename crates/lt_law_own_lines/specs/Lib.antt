@@ -1,2 +1,3 @@
 pub mod OwnLaws
 pub mod WaitingLaws
+pub mod OldLaws

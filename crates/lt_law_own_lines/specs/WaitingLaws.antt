@@ -10,7 +10,7 @@ use Rattle.lt_modes.specs.declared.stamp.Stamp.{Stamp}
 use Rattle.lt_modes.specs.declared.ask.Ask.{Ask}
 use Rattle.lt_modes.specs.declared.event.Event.{Event}
 use Rattle.lt_modes.specs.Sound.{SoundSet}
-use Rattle.lt_modes.specs.SetMove.{finish, lock, try, unlock, change, drop, take}
+use Rattle.lt_modes.specs.SetMove.{finish, lock, try, unlock, change, drop, take, withdraw}
 use Rattle.lt_spec.specs.NodeMove.{NodeState, NodeMade, node_act, node_take, node_waits, act_stamp, take_stamp}
 use Rattle.lt_spec.specs.World.{start, line_client}
 use Rattle.lt_model.specs.Invariant.{IsNamed, IsParkedNamed}
@@ -75,6 +75,7 @@ pub record CommandsLeaveOthers (set : ℕ) (stamp : Stamp) (s : SetState) : Type
   pub unlocks : (client : ℕ) (mode : Mode) → OthersWaitAsBefore s (unlock set stamp client mode s)
   pub changes : (client : ℕ) (gives_up mode : Mode) → OthersWaitAsBefore s (change set stamp client gives_up mode s)
   pub drops : (client : ℕ) → OthersWaitAsBefore s (drop set stamp client s)
+  pub withdraws : (client whose : ℕ) → OthersWaitAsBefore s (withdraw set stamp client whose s)
   pub finishes : OthersWaitAsBefore s (finish set stamp s)
 
 abbrev pub WaitingInCommands : Type 0

@@ -1,5 +1,6 @@
 ghost use Rattle.lt_law_own_lines.specs.OwnLaws.{OwnLinesOfMoves, OwnLinesInRuns, RepliesAtHome, RepliesOfLog, RepliesSoFar, RepliesGrow};
 ghost use Rattle.lt_law_own_lines.specs.WaitingLaws.{WaitingInCommands, WaitingInTakes, WaitingInActs, WaitingInNodeTakes, KnownWhereSound, NamesAtStart, ActsReachPeers, TakesReachPeers};
+ghost use Rattle.lt_law_own_lines.specs.OldLaws.{UnmarkedInRuns, OldLinesInRuns};
 
 /// The lines that name a client as the one that acts or is answered stand in moves of that client's own node: in each
 /// enabled move of a world that is at home, and so in each run; and so the replies to a client in a run are those in the
@@ -30,4 +31,11 @@ pub fn law_peers()
     ensures start { NamesAtStart }
     ensures acts { ActsReachPeers }
     ensures takes { TakesReachPeers }
+{}
+
+/// Where no command of the script gives up a wait, no set has the mark of an ask that was given up, whatever the order of the
+/// moves, and each line is one of the older formats.
+pub fn law_old_lines()
+    ensures unmarked { UnmarkedInRuns }
+    ensures lines { OldLinesInRuns }
 {}

@@ -5,4 +5,4 @@
 
 mod laws;
 
-pub use laws::{law_own_lines, law_peers, law_waiting_lines};
+pub use laws::{law_old_lines, law_own_lines, law_peers, law_waiting_lines};

@@ -106,7 +106,7 @@ unfolding conflicts
 waits_excluded = record {
   wait_untold = λ p.
       untold 2 0 Write _ refl
-      (((p.moments 3).waits 2 0 Write (omega arith) (omega arith)).1 (new_ask 2 Write (stamp 3 0), (1, omega arith, refl), refl, refl));
+      (((p.moments 3).waits 2 0 Write (omega arith) (omega arith)).1 (new_ask 2 Write (stamp 3 0), (1, omega arith, refl), refl, refl, refl));
   wait_told_early = λ p.
       let waiter = ((p.moments 2).waits 2 0 Write (omega arith) (omega arith)).0 (Grant 0 0 Write ∷ Wait 1 0 Write ∷ [], [], refl, tt) in
       omega (arith, waiter.2, ap (λ (ask : Ask). ask.client) (only_one (new_ask 1 Write (stamp 2 0)) waiter.0 waiter.1));
@@ -118,7 +118,7 @@ waits_excluded = record {
       omega (arith, waiter.1.1);
   answer_told = λ p.
       untold 1 0 Write _ refl
-      (((p.moments 3).waits 1 0 Write (omega arith) (omega arith)).1 (new_ask 1 Write (stamp 2 0), (0, omega arith, refl), refl, refl));
+      (((p.moments 3).waits 1 0 Write (omega arith) (omega arith)).1 (new_ask 1 Write (stamp 2 0), (0, omega arith, refl), refl, refl, refl));
   nobody_told = λ p.
       let told = (p.moments 2).somebody.0 refl in
       untold told.0 told.1 told.2 _ (nobody_wants told.0) told.5;
@@ -194,8 +194,8 @@ standing_excluded = record {
 pub turns_excluded : TurnsExcluded
 unfolding conflicts
 turns_excluded = record {
-  before_writer = λ turn. false≢true (sym (turn 0 (omega arith)));
-  before_first = λ turn. false≢true (sym (turn 0 (omega arith)));
-  each = λ script w q step s serves j k service within at before.
-      subst IsInTurn at (serves.in_turn j service within) k before;
+  before_writer = λ turn. false≢true (sym (turn 0 (omega arith) refl));
+  before_first = λ turn. false≢true (sym (turn 0 (omega arith) refl));
+  each = λ script w q step s serves j k service within at before live.
+      subst IsInTurn at (serves.in_turn j service within) k before live;
 }

@@ -17,7 +17,7 @@ use Rattle.lt_journal.specs.Split.{input_parts}
 use Rattle.lt_law_journals.specs.Checking.{checked, checked_input, counted_from, journal_in, lines_before}
 use Rattle.lt_waits.specs.Serves.{waits_text}
 use Rattle.lt_law_examples.specs.Worked.{declared_set, declared_client, act}
-use Rattle.lt_law_pinned.specs.Reports.{no_nodes_fault, writers_apart, writers_report, both_change, wrong_grant}
+use Rattle.lt_law_pinned.specs.Reports.{void_script, void_moves, no_nodes_fault, writers_apart, writers_report, both_change, wrong_grant}
 
 pub nothing_read : read_of (take (input_parts []).script []) ≡ Err no_nodes_fault
 unfolding reading.script_body reading.read_from text.lines text.cut_at reading.line_step text.words split.after_first_line
@@ -145,3 +145,7 @@ apart_text = refl
 pub change_text : waits_text change_script (waits_report change_script (world_after change_script change_moves)) ≡ codes "waits a b\nwaits b a\ncycle a b\n"
 unfolding conflicts
 change_text = refl
+
+pub void_is_told : waits_text void_script (waits_report void_script (world_after void_script void_moves)) ≡ codes "no cycle\nvoid c b\n"
+unfolding conflicts
+void_is_told = refl

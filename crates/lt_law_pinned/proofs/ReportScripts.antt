@@ -5,7 +5,7 @@ use Rattle.lt_modes.specs.declared.mode.Mode.TheVariants.{Read, Write}
 use Rattle.lt_modes.specs.declared.command.Command.{Command}
 use Rattle.lt_modes.specs.declared.command.Command.TheVariants.{Lock, Change}
 use Rattle.lt_modes.specs.Script.{ScriptData}
-use Rattle.lt_spec.specs.Script.{IsScript, IsRequest, HasModesOf}
+use Rattle.lt_spec.specs.Script.{IsScript, IsRequest, IsOfVersion}
 use Rattle.lt_script.proofs.ScriptLemmas.{set_added, client_added, command_added}
 use Rattle.lt_law_examples.specs.Worked.{declared_set, declared_client}
 use Rattle.lt_law_pinned.proofs.ReportInputs.{apart_script, change_script}
@@ -34,7 +34,7 @@ bare_is nodes some few = record {
   loads = λ node. omega arith;
   few_commands = omega arith;
   requests = All-nil (IsRequest [] []);
-  modes = All-nil (λ (request : ℕ × Command). HasModesOf 1 request.1);
+  modes = All-nil (λ (request : ℕ × Command). IsOfVersion 1 request.1);
 }
 
 abbrev with_set : ℕ → ScriptData

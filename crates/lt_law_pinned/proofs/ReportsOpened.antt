@@ -21,7 +21,7 @@ use Rattle.lt_waits.specs.Answers.{outcome_of}
 use Rattle.lt_waits.specs.Serves.{waits_text, IsReportOf, IsUnfit}
 use Rattle.lt_law_pinned.specs.PlainCalls.{PlainCall, ReadsPlain, PlainlyTold}
 use Rattle.lt_law_pinned.specs.Reports.{ReportCodesAre, ReportTextsAre, IsReportCall, Reports, ReportsTold, no_nodes_fault, writers_apart, writers_report, both_change, wrong_grant}
-use Rattle.lt_law_pinned.proofs.ReportInputs.{InputIs, apart_script, writer_moves, change_script, change_moves, nothing_read, apart_is, change_is, wrong_is, apart_text, change_text}
+use Rattle.lt_law_pinned.proofs.ReportInputs.{InputIs, apart_script, writer_moves, change_script, change_moves, nothing_read, apart_is, change_is, wrong_is, apart_text, change_text, void_is_told}
 use Rattle.lt_law_pinned.proofs.ReportScripts.{apart_is_script, change_is_script}
 use Rattle.lt_law_pinned.proofs.PlainCallsOpened.{plainly_told, part_so, appended, one_text, five_text, seven_text}
 
@@ -131,6 +131,7 @@ pub reports_told : ReportsTold
 reports_told = record {
   ends_text = reports writers_apart apart_script writer_moves writers_report apart_is_script apart_is apart_text;
   cycle_text = reports both_change change_script change_moves (codes "waits a b\nwaits b a\ncycle a b\n") change_is_script change_is change_text;
+  void_text = void_is_told;
   part = λ c old new h held.
       let fault = h.0.serves.write_fault (ap outcome_of h.1) in
       let report = subst (λ (left : Option (List ℕ)). IsReportOf left fault.0) h.0.input fault.1 in
@@ -162,6 +163,13 @@ reports_told = record {
             rings = r.explained.rings;
             ends = r.explained.ends;
             all = r.explained.all;
+            voids = r.explained.voids;
+            unmarked = λ unmarked.
+                let plain = r.explained.unmarked unmarked in
+                record { some = plain.some; ends = plain.ends; all = plain.all; no_void = plain.no_void };
+            old = λ older.
+                let plain = r.explained.old older in
+                record { some = plain.some; ends = plain.ends; all = plain.all; no_void = plain.no_void };
           };
         },
       );

@@ -10,7 +10,7 @@ use Rattle.lt_script.specs.Printing as printing
 use Rattle.lt_script.specs.Reading.{read_of}
 use Rattle.lt_script.specs.Reading as reading
 use Rattle.lt_journal.specs.declared.line.Line.{Line}
-use Rattle.lt_journal.specs.declared.line.Line.TheVariants.{Version, Move as MoveLine, Event as EventLine, Held, Waiting, Owner, End}
+use Rattle.lt_journal.specs.declared.line.Line.TheVariants.{Version2, Move as MoveLine, Event as EventLine, Held, Waiting, Owner, End}
 use Rattle.lt_journal.specs.RunLines.{run_lines, entry_lines, text_of, lines_text}
 use Rattle.lt_law_pinned.specs.Whole.{whole, whole_text, spread_text, whole_journal, freezing_move, WholeIs}
 use Rattle.lt_law_pinned.proofs.Numbers.{zero_text, one_text, two_text, three_text, four_text, five_text, six_text, seven_text, eight_text, nine_text, ten_text, eleven_text, twelve_text, thirteen_text, nineteen_text}
@@ -18,7 +18,7 @@ use Rattle.lt_law_pinned.proofs.Numbers.{zero_text, one_text, two_text, three_te
 -- the lines of the journal, one by one
 abbrev whole_lines : List Line
 whole_lines =
-    Version ∷
+    Version2 ∷
     MoveLine 1 0 (Act 0) ∷
     EventLine (Grant 0 0 IntentionWrite) ∷
     MoveLine 1 1 (Act 1) ∷

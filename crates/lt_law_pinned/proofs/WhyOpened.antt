@@ -1,5 +1,5 @@
 -- Each field of what is said of an answer to the word `why`.
-use Rattle.std.proofs.Common.{◌≡◌, ◌⊎◌, ◌++◌, ◌∷◌, ℕ, List, [], Ok, Err, Option, Some, None, false, IsTrue, inl, inr, is_some, length, refl, sym, ap, subst, ◌∙◌, take}
+use Rattle.std.proofs.Common.{◌≡◌, ◌⊎◌, ◌++◌, ◌∷◌, ℕ, List, [], Ok, Err, Option, Some, None, false, IsTrue, inl, inr, codes, is_some, length, refl, sym, ap, subst, ◌∙◌, take}
 use Rattle.std.proofs.lemmas.Bool.{false≢true}
 use Rattle.std.specs.Io.KnownBytes.{Appends}
 use Rattle.lt_io.specs.Streams.{AppendsPart, SourceState}
@@ -25,7 +25,7 @@ use Rattle.lt_waits.specs.Reasons.{waits_by_lock}
 use Rattle.lt_waits.specs.Shortest.{IsRingNamed}
 use Rattle.lt_waits.specs.Why.{NamesRing, why_text}
 use Rattle.lt_law_pinned.specs.PlainCalls.{SinkTells, PlainCall, EndsIn, ReadsPlain, PlainlyTold}
-use Rattle.lt_law_pinned.specs.Reports.{no_nodes_fault, writers_apart, both_change, wrong_grant}
+use Rattle.lt_law_pinned.specs.Reports.{no_nodes_fault, writers_apart, both_change, void_script, void_moves, wrong_grant}
 use Rattle.lt_law_pinned.specs.WhyCalls.{WhyWordsAre, IsWhyCall, WhyTold, writer_why, first_why, second_why, behind_why, four_script, four_wait}
 use Rattle.lt_law_pinned.proofs.ReportInputs.{InputIs, apart_script, writer_moves, change_script, change_moves, nothing_read, apart_is, change_is, wrong_is}
 use Rattle.lt_law_pinned.proofs.ReportScripts.{apart_is_script, change_is_script}
@@ -146,6 +146,10 @@ behind_said : why_text four_script four_wait (Some (0 ∷ 1 ∷ [])) ≡ behind_
 unfolding conflicts
 behind_said = refl
 
+void_said : why_text void_script void_moves None ≡ codes "no ring\nc wants s read, behind an ask that b gave up\n"
+unfolding conflicts
+void_said = refl
+
 -- why an input is refused
 unfit_in : (c : PlainCall Answer) (bytes : List ℕ) (answer : Answer)
     → ReadsPlain IsWhyCall outcome_of bytes c → c.answer ≡ answer → IsRefused (outcome_of answer) → IsUnfit (Some bytes) answer
@@ -177,6 +181,7 @@ why_told = record {
         | inr second ↦ inr (all ∙ ap (λ (t : List ℕ). old ++ t) second)
       ];
   behind = behind_said;
+  void = void_said;
   part = λ c old new h held.
       let fault = h.0.serves.1.write_fault (ap outcome_of h.1) in
       let why = subst (λ (left : Option (List ℕ)). IsWhyOf left fault.0) h.0.input fault.1 in
@@ -210,6 +215,7 @@ why_told = record {
           some = λ clients is. some_named w.script w.run w.ring w.names clients is;
           told = appended c.sink.held c.sink_after.held old new done.0 held.0 held.1 done.2
               ∙ ap (λ (t : List ℕ). old ++ t) w.told;
+          no_void = w.old;
         },
       );
 }

@@ -1,4 +1,5 @@
--- What an answer of live sessions says of the words, the source and the sink, and of how the run ends, for small inputs.
+-- What an answer of live sessions says of the words, the source and the sink, and of how the run ends, for small
+-- inputs.
 use Rattle.std.specs.Prelude.{◌≡◌, ◌≢◌, ◌≤◌, ◌⊎◌, ℕ, List, [], ◌∷◌, Option, Some, codes, ◌<◌, ◌/◌, Bool, true, false, ◌++◌, None, length, take, replicate, count_by}
 use Rattle.lt_modes.specs.declared.mode.Mode.TheVariants.{Write, Read}
 use Rattle.lt_modes.specs.declared.command.Command.TheVariants.{Lock, Unlock}
@@ -156,8 +157,8 @@ pub record LiveEndsTold : Type 0 where
   pub ordered : (c : LiveCall) → ReadsBytes one_lock c → IsUntroubled c → c.answer.status ≡ Done
   pub never_stuck : (c : LiveCall) → ReadsBytes one_lock c → c.answer.status ≢ Stuck
 
--- What an answer of live sessions says of its run, of the replies and of the journal, for small inputs; and which clients have too
--- many commands.
+-- What an answer of live sessions says of its run, of the replies and of the journal, for small inputs; and which
+-- clients have too many commands.
 
 -- with this answer the run is one of the two writers that ended so
 abbrev pub LiveEndIs : Status → Bool → Type 0
@@ -178,7 +179,8 @@ pub record JournalPart (run : List Logged) (old new : List ℕ) : Type 0 where
   pub less : size < length (text_of two_writers_script run None)
   pub text : new ≡ old ++ take size (text_of two_writers_script run None)
 
--- a run of some script in which no node made more than 2^30 moves and none can make another, and no client had more than its share
+-- a run of some script in which no node made more than 2^30 moves and none can make another, and no client had more
+-- than its share
 pub record IsLiveRun (script : ScriptData) (run : List Logged) : Type 0 where
   pub is_run : IsRun script run
   pub promised : Promised script run

@@ -1,4 +1,5 @@
--- What the answers say that come before a run, those of `check` and `make`, and what each says of the source and the sink, in literals.
+-- What the answers say that come before a run, those of `check` and `make`, and what each says of the source and the
+-- sink, in literals.
 use Rattle.std.specs.Prelude.{◌≡◌, ◌<◌, ◌≤◌, false, ℕ, List, [], ◌∷◌, ◌++◌, Option, Some, None, codes, ◌≢◌, length, ◌⊎◌, ◌+◌}
 use Rattle.lt_modes.specs.declared.mode.Mode.TheVariants.{Read}
 use Rattle.lt_modes.specs.declared.command.Command.TheVariants.{Lock, Unlock}
@@ -100,7 +101,8 @@ pub record CountsSay : Type 0 where
   pub written : (now : ℕ) → SaysOfSink (outcome_of Done) 0 now → now ≡ 0
   pub write_fault : (now : ℕ) → SaysOfSink (outcome_of WriteFault) 0 now → now ≡ 1
 
--- What the answers say where something fails, before which answers nothing is written, and which answers come where nothing fails.
+-- What the answers say where something fails, before which answers nothing is written, and which answers come where
+-- nothing fails.
 
 pub record FailuresSay : Type 0 where
   pub no_memory : SaysNothing SimFirst NoMemory one_lock
@@ -120,7 +122,8 @@ pub record UnwrittenSays : Type 0 where
 abbrev pub read_whole : List ℕ → SourceState
 read_whole input = record { left = Some []; given = length input; faults = 0; ends = 1 }
 
--- a command that runs the script with one lock is done, where the script was read to its end, no write failed and memory was there
+-- a command that runs the script with one lock is done, where the script was read to its end, no write failed and
+-- memory was there
 abbrev pub IsDone : Command → Type 0
 IsDone command = (answer : Status) (run : List Logged) (old new : List ℕ)
     → IsComplete (Some command) answer (fresh_source (Some one_lock)) (read_whole one_lock) 0 0

@@ -1,20 +1,24 @@
 -- What an answer of the program that reports who waits for whom says, for small inputs; its exit statuses and texts.
-use Rattle.std.specs.Prelude.{◌≡◌, ◌<◌, ◌==◌, ◌++◌, ◌∷◌, [], ℕ, List, Contains, IsTrue, length, codes}
+use Rattle.std.specs.Prelude.{◌≡◌, ◌≢◌, ◌⊎◌, ◌↔◌, ◌<◌, ◌==◌, ◌++◌, ◌∷◌, [], ℕ, List, Contains, IsTrue, length, codes}
 use Rattle.std.specs.List.{IsDistinct}
+use Rattle.lt_modes.specs.declared.mode.Mode.TheVariants.{Read, Write}
+use Rattle.lt_modes.specs.declared.command.Command.TheVariants.{Lock, Withdraw}
 use Rattle.lt_modes.specs.Script.{ScriptData}
 use Rattle.lt_io.specs.Streams.{SourceState}
 use Rattle.lt_call.specs.Outcomes.{exit_code}
 use Rattle.lt_script.specs.declared.fault.Fault.TheVariants as faults
 use Rattle.lt_script.specs.declared.fault.ScriptFault.{ScriptFault}
 use Rattle.lt_spec.specs.Promised.{HasEnded, HoldsUp, WaitInRing}
-use Rattle.lt_spec.specs.Holdings.{lines_of, waits_for}
-use Rattle.lt_spec.specs.World.{Logged, World, world_after, is_at_rest, is_waiting, IsRun}
-use Rattle.lt_spec.specs.Rings.{CycleLine, EndsLine, waits_lines, waits_report, AreBelow, IsRing}
+use Rattle.lt_spec.specs.Holdings.{lines_of, waits_for, waits_behind_void}
+use Rattle.lt_spec.specs.World.{Logged, World, world_after, is_at_rest, is_waiting, IsRun, IsUnmarked}
+use Rattle.lt_spec.specs.Rings.{CycleLine, EndsLine, VoidLine, waits_lines, void_lines, report, waits_report, AreBelow, IsRing}
+use Rattle.lt_spec.specs.FixedOrder.{first_run}
 use Rattle.lt_checker.specs.declared.limits.TheConstants.{MAX_JOURNAL}
 use Rattle.lt_waits.specs.declared.answer.Answer.{Answer}
 use Rattle.lt_waits.specs.declared.answer.Answer.TheVariants.{Done, Usage, Refused, TooLong, ReadFault, WriteFault, NoMemory, BadJournal}
 use Rattle.lt_waits.specs.Answers.{outcome_of, answer_text}
 use Rattle.lt_waits.specs.Serves.{waits_text, ServesReport}
+use Rattle.lt_law_examples.specs.Worked.{declared_set, declared_client}
 use Rattle.lt_law_pinned.specs.PlainCalls.{SinkTells, PlainCall, AnswersSo, SinkHolds, IsPartWritten}
 
 -- the fault of a script of nothing
@@ -77,31 +81,77 @@ wrong_grant =
     codes "nodes 2\nset s\nclient a at 0\nclient b at 0\na lock s write\nb lock s write\njournal\n"
     ++ codes "move 1 0 act a\ngrant a s read\n"
 
+-- a client reads; another one at another node asks to write, and gives that up; a third one there asks to read
+abbrev pub void_script : ScriptData
+void_script = record {
+  version = 3;
+  nodes = 2;
+  sets = declared_set (codes "s") 0 ∷ [];
+  clients =
+      declared_client (codes "a") 0 ∷
+      declared_client (codes "b") 1 ∷
+      declared_client (codes "c") 1 ∷
+      [];
+  commands = (0, Lock 0 Read) ∷ (1, Lock 0 Write) ∷ (2, Lock 0 Read) ∷ (1, Withdraw 1 0) ∷ [];
+}
+
+-- its run in the fixed order
+abbrev pub void_moves : List Logged
+void_moves = first_run void_script 12
+
 -- where the report of this input is done, this text was appended
 abbrev pub Reports : List ℕ → List ℕ → Type 0
 Reports input text =
     (c : PlainCall Answer) (old new : List ℕ) → Answered input Done c → SinkHolds old new c → new ≡ old ++ text
 
--- what the report at the end of a run of some script tells of the world in which it ended at rest
-pub record ReportTells (script : ScriptData) (run : List Logged) (w : World) : Type 0 where
+-- the same where no ask is given up
+pub record ReportTellsUnmarked (script : ScriptData) (run : List Logged) (w : World) : Type 0 where
   -- each client that waits waits for some client
   pub some : (client : ℕ) → client < length script.clients → IsTrue (is_waiting script w client)
       → (other : ℕ) × (other < length script.clients) × IsTrue (waits_for script w client other)
-  -- a line `cycle` is a ring, and names no client twice
-  pub cycles : (ring : List ℕ) → Contains (waits_report script w) (CycleLine ring)
-      → AreBelow (length script.clients) ring × IsRing (waits_for script w) ring × IsDistinct (λ a b. a == b) ring
-  -- if some clients wait in a ring, one such line is the last
-  pub rings : WaitInRing script w
-      → (ring : List ℕ)
-      × (waits_report script w ≡ waits_lines (length script.clients) (waits_for script w) ++ CycleLine ring ∷ [])
   -- a line `ends` names a client that waits, and one that has ended and holds up one that waits
   pub ends : (client last : ℕ) → Contains (waits_report script w) (EndsLine client last)
       → IsTrue (is_waiting script w client) × HasEnded script w last
       × (waiter : ℕ) × (waiter < length script.clients) × HoldsUp script (lines_of run) w waiter last
-  -- else each client that waits has such a line
+  -- if no clients wait in a ring, each client that waits has such a line
   pub all : (client : ℕ) → client < length script.clients → (WaitInRing script w → ⊥)
       → IsTrue (is_waiting script w client)
       → (last : ℕ) × Contains (waits_report script w) (EndsLine client last)
+  -- there is no line `void`
+  pub no_void : waits_report script w ≡ report (length script.clients) (waits_for script w)
+
+-- what the report at the end of a run of some script tells of the world in which it ended at rest
+pub record ReportTells (script : ScriptData) (run : List Logged) (w : World) : Type 0 where
+  -- each client that waits waits for some client, or behind a void ask
+  pub some : (client : ℕ) → client < length script.clients → IsTrue (is_waiting script w client)
+      → (other : ℕ) × (other < length script.clients)
+      × (IsTrue (waits_for script w client other) ⊎ IsTrue (waits_behind_void script w client other))
+  -- a line `cycle` is a ring, and names no client twice
+  pub cycles : (ring : List ℕ) → Contains (waits_report script w) (CycleLine ring)
+      → AreBelow (length script.clients) ring × IsRing (waits_for script w) ring × IsDistinct (λ a b. a == b) ring
+  -- if some clients wait in a ring, one such line is the last before the lines `void`
+  pub rings : WaitInRing script w
+      → (ring : List ℕ)
+      × (waits_report script w ≡ (waits_lines (length script.clients) (waits_for script w) ++ CycleLine ring ∷ [])
+      ++ void_lines (length script.clients) (waits_behind_void script w))
+  -- a line `ends` names a client that waits, and one with a line `void`, or one that has ended and holds up one that
+  -- waits
+  pub ends : (client last : ℕ) → Contains (waits_report script w) (EndsLine client last)
+      → IsTrue (is_waiting script w client)
+      × (((other : ℕ) × Contains (waits_report script w) (VoidLine last other))
+      ⊎ (HasEnded script w last
+      × (waiter : ℕ) × (waiter < length script.clients) × HoldsUp script (lines_of run) w waiter last))
+  -- if no clients wait in a ring, each client that waits has such a line, or a line `void`
+  pub all : (client : ℕ) → client < length script.clients → (WaitInRing script w → ⊥)
+      → IsTrue (is_waiting script w client)
+      → (other : ℕ) × (Contains (waits_report script w) (EndsLine client other)
+      ⊎ Contains (waits_report script w) (VoidLine client other))
+  -- the lines `void` tell who waits behind void asks
+  pub voids : (client other : ℕ) → Contains (waits_report script w) (VoidLine client other)
+      ↔ ((client < length script.clients) × (other < length script.clients)
+      × IsTrue (waits_behind_void script w client other))
+  pub unmarked : IsUnmarked w → ReportTellsUnmarked script run w
+  pub old : script.version ≢ 3 → ReportTellsUnmarked script run w
 
 -- a run that ended at rest, and its report was appended
 pub record ReportedRun (script : ScriptData) (run : List Logged) (old new : List ℕ) : Type 0 where
@@ -113,6 +163,8 @@ pub record ReportedRun (script : ScriptData) (run : List Logged) (old new : List
 pub record ReportsTold : Type 0 where
   pub ends_text : Reports writers_apart writers_report
   pub cycle_text : Reports both_change (codes "waits a b\nwaits b a\ncycle a b\n")
+  pub void_text : waits_text void_script (waits_report void_script (world_after void_script void_moves))
+      ≡ codes "no cycle\nvoid c b\n"
   pub part : (c : PlainCall Answer) (old new : List ℕ) → Answered writers_apart WriteFault c → SinkHolds old new c
       → IsPartWritten writers_report old new
   -- why there is no report

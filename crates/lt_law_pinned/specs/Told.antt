@@ -24,8 +24,8 @@ use Rattle.lt_serve.specs.TopCall.{Did, greatest_script}
 use Rattle.lt_serve.specs.declared.serving.TheConstants.{USUAL}
 use Rattle.lt_law_pinned.specs.Worlds.{made_text}
 
--- what an answer to the command says of its run, where a node makes up to so many moves, the input is these bytes, or isn't known,
--- and of the sink nothing is known
+-- what an answer to the command says of its run, where a node makes up to so many moves, the input is these bytes, or
+-- isn't known, and of the sink nothing is known
 abbrev pub SaysOf : ℕ → Command → Status → Option (List ℕ) → List Logged → Type 0
 SaysOf moves command status input run = Did moves (Some command) status input run None None
 
@@ -128,7 +128,8 @@ one_and_two = unlocks 1 0 ∷ unlocks 1 1 ∷ unlocks 2 1 ∷ []
 abbrev pub last_twice : List Logged
 last_twice = act 1 15 0 [] ∷ act 2 15 0 [] ∷ []
 
--- where a node makes one move, no run is told in which one made two: neither a run that ended, nor one that was cut at another node
+-- where a node makes one move, no run is told in which one made two: neither a run that ended, nor one that was cut
+-- at another node
 pub record WithinTold : Type 0 where
   pub run_done : IsNeverTold 1 Run Done (Some two_nodes) four_moves
   pub run_stuck : IsNeverTold 1 Run Stuck (Some two_writers) both_moves
@@ -137,8 +138,8 @@ pub record WithinTold : Type 0 where
   pub soak_stuck : (seed : ℕ) → IsNeverTold 1 (Soak seed) Stuck None last_twice
   pub soak_cut : (seed : ℕ) → IsNeverTold 1 (Soak seed) (Cut 0) None last_twice
 
--- no run on threads is told as cut at one node while the other could move and had made no move; and where a run of the greatest
--- script is told so, each node that could move had made as many moves as it may
+-- no run on threads is told as cut at one node while the other could move and had made no move; and where a run of
+-- the greatest script is told so, each node that could move had made as many moves as it may
 pub record FarTold : Type 0 where
   pub run_second : IsNeverTold 1 Run (Cut 0) (Some two_nodes) (unlocks 1 0 ∷ [])
   pub run_first : IsNeverTold 1 Run (Cut 1) (Some two_nodes) (unlocks 1 1 ∷ [])

@@ -96,7 +96,8 @@ somebody_told = record {
   run = act 1 0 0 (Grant 0 0 Write ∷ Wait 1 0 Write ∷ []) ∷ [];
 }
 
--- Runs in which a `try` is told wrongly. A further line of the same move makes up for it, so that the lines tell what is held.
+-- Runs in which a `try` is told wrongly. A further line of the same move makes up for it, so that the lines tell what
+-- is held.
 
 -- two clients of one node that try to read, or one writes and the other one tries
 abbrev pub two_readers : ScriptData
@@ -139,8 +140,8 @@ refused_beside = record {
   run = act 1 0 0 (Tried 0 0 Read true ∷ Tried 1 0 IntentionRead false ∷ []) ∷ [];
 }
 
--- Runs that end where no move is left, with a first waiter in whose way nobody is. A client that the script doesn't have keeps
--- the lock for which it waits, and no line tells it.
+-- Runs that end where no move is left, with a first waiter in whose way nobody is. A client that the script doesn't
+-- have keeps the lock for which it waits, and no line tells it.
 
 -- two clients of one node; a third one has commands, and isn't declared
 abbrev pub undeclared : ScriptData

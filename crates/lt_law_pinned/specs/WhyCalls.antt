@@ -1,5 +1,5 @@
 -- What an answer to the word `why` says of small inputs, and which ring of clients it may name.
-use Rattle.std.specs.Prelude.{◌≡◌, ◌⊎◌, ◌==◌, ◌&&◌, ◌||◌, ◌++◌, ◌∷◌, [], ℕ, List, true, false, Option, Some, None, IsTrue, codes, length}
+use Rattle.std.specs.Prelude.{◌≡◌, ◌≢◌, ◌⊎◌, ◌==◌, ◌&&◌, ◌||◌, ◌++◌, ◌∷◌, [], ℕ, List, true, false, Option, Some, None, IsTrue, codes, length}
 use Rattle.lt_io.specs.Streams.{SourceState}
 use Rattle.lt_modes.specs.declared.mode.Mode.TheVariants.{Read, Write}
 use Rattle.lt_modes.specs.declared.command.Command.TheVariants.{Lock}
@@ -16,11 +16,11 @@ use Rattle.lt_waits.specs.Answers.{outcome_of}
 use Rattle.lt_waits.specs.Reasons.{waits_by_lock}
 use Rattle.lt_waits.specs.Serves.{ServesWhy}
 use Rattle.lt_waits.specs.Shortest.{IsRingNamed}
-use Rattle.lt_waits.specs.Why.{why_text}
+use Rattle.lt_waits.specs.Why.{void_text, why_text}
 use Rattle.lt_waits.specs.Words.{asks_why}
 use Rattle.lt_law_examples.specs.Worked.{declared_set, declared_client, act}
 use Rattle.lt_law_pinned.specs.PlainCalls.{SinkTells, PlainCall, AnswersSo, SinkHolds, IsPartWritten}
-use Rattle.lt_law_pinned.specs.Reports.{no_nodes_fault, writers_apart, both_change, wrong_grant}
+use Rattle.lt_law_pinned.specs.Reports.{no_nodes_fault, writers_apart, both_change, void_script, void_moves, wrong_grant}
 
 -- the word `why` alone asks why
 pub record WhyWordsAre : Type 0 where
@@ -75,8 +75,8 @@ first_why = codes "ring\na wants s write, which b holds by read\nb wants s write
 abbrev pub second_why : List ℕ
 second_why = codes "ring\nb wants s write, which a holds by read\na wants s write, which b holds by read\n"
 
--- each of two clients holds what the other one wants, and two more clients wait behind them: both behind the first in the
--- queue, and one of them for a lock of the second, too
+-- each of two clients holds what the other one wants, and two more clients wait behind them: both behind the first in
+-- the queue, and one of them for a lock of the second, too
 abbrev pub four_script : ScriptData
 four_script = record {
   version = 1;
@@ -115,6 +115,7 @@ pub record WhyRun (script : ScriptData) (run : List Logged) (old new : List ℕ)
       → IsRingNamed (length script.clients) (waits_by_lock script run)
       (waits_for script (world_after script run)) clients
   pub told : new ≡ old ++ why_text script run ring
+  pub no_void : script.version ≢ 3 → void_text script run ≡ []
 
 pub record WhyTold : Type 0 where
   pub no_ring : (c : PlainCall Answer) (old new : List ℕ) → WhyAnswered writers_apart Done c → SinkHolds old new c
@@ -122,6 +123,8 @@ pub record WhyTold : Type 0 where
   pub ring : (c : PlainCall Answer) (old new : List ℕ) → WhyAnswered both_change Done c → SinkHolds old new c
       → (new ≡ old ++ first_why) ⊎ (new ≡ old ++ second_why)
   pub behind : why_text four_script four_wait (Some (0 ∷ 1 ∷ [])) ≡ behind_why
+  pub void : why_text void_script void_moves None
+      ≡ codes "no ring\nc wants s read, behind an ask that b gave up\n"
   pub part : (c : PlainCall Answer) (old new : List ℕ) → WhyAnswered writers_apart WriteFault c → SinkHolds old new c
       → IsPartWritten writer_why old new
   -- why nothing is said

@@ -11,7 +11,7 @@ use Rattle.lt_modes.specs.declared.moves.Step.{Step}
 use Rattle.lt_modes.specs.State.{Desk, SetState, Body, Letter, Parked, AskBody, CopyBody, TokenBody, ParkedAsk}
 use Rattle.lt_modes.specs.Freezing.{can_grant, frozen_by}
 use Rattle.lt_modes.specs.Modes.{conflicts}
-use Rattle.lt_modes.specs.Serving.{ask_at}
+use Rattle.lt_modes.specs.Serving.{ask_at, is_gone}
 use Rattle.lt_spec.specs.Holdings.{WaitsFor, lines_of, HasOpenWait, IsBarredByLines}
 use Rattle.lt_spec.specs.NodeMove.{home}
 use Rattle.lt_spec.specs.Facts.{state_at, IsLedToQueue, token_count, place_count, IsFirstWaiter}
@@ -216,7 +216,8 @@ pub record CountsExcluded : Type 0 where
 pub record StandingExcluded : Type 0 where
   -- the second ask of the queue isn't first
   pub second : IsFirstWaiter two_nodes (alike (at_desk (reader ∷ writer ∷ [])) []) 0 writer → ⊥
-  -- an ask that is in no queue and isn't parked, one behind an ask that isn't taking, and one behind a younger ask aren't led
+  -- an ask that is in no queue and isn't parked, one behind an ask that isn't taking, and one behind a younger ask
+  -- aren't led
   pub nowhere : IsLedToQueue two_nodes (alike (parked_here [] (writer ∷ [])) []) 0 writer → ⊥
   pub behind_reader : IsLedToQueue two_nodes (alike (parked_here (ParkedAsk writer ∷ []) (old_reader ∷ [])) []) 0 writer → ⊥
   pub behind_younger : IsLedToQueue two_nodes (alike (parked_here (ParkedAsk writer ∷ []) (young_writer ∷ [])) []) 0 writer → ⊥
@@ -230,8 +231,9 @@ pub record TurnsExcluded : Type 0 where
   pub before_writer : IsInTurn (service_at (writer ∷ reader ∷ []) 1) → ⊥
   -- a writer that conflicts with the first ask alone
   pub before_first : IsInTurn (service_at (reader ∷ light_reader ∷ light_writer ∷ []) 2) → ⊥
-  -- a move that serves in turn has each ask of each service so
+  -- a move that serves in turn has each ask of each service so, unless it was given up
   pub each : (script : ScriptData) (w : World) (q : ℕ) (step : Step) (s : ℕ) → ServesInTurn script w q step s
       → (j k : ℕ) (service : Service) → j < length (services s (move_stamp w q step) (before_end script w q step s))
       → slice_index_or (services s (move_stamp w q step) (before_end script w q step s)) j service ≡ service → k < service.place
+      → is_gone service.state (ask_at service.state service.place).client ≡ false
       → IsFalse (conflicts (ask_at service.state service.place).mode (ask_at service.state k).mode)

@@ -1,17 +1,17 @@
 -- A client's next command where its list goes on.
-use Rattle.std.proofs.Common.{◌≡◌, ℕ, zero, suc, ◌+◌, ◌<◌, List, [], ◌∷◌, ◌++◌, true, Option, Some, None, refl, sym, ap, arith, ◌∙◌, length, slice_get, Bool, false, subst, ◌≢◌, ◌≤◌, inl, inr, ltb-true, lt-ltb, eqb-true, ne_eqb, length-append, append-nil, ◌&&◌, ◌==◌, not, nat_lt, if◌then◌else◌, filter_map}
+use Rattle.std.proofs.Common.{◌≡◌, ℕ, zero, suc, ◌+◌, ◌<◌, List, [], ◌∷◌, ◌++◌, true, Option, Some, None, refl, sym, ap, arith, ◌∙◌, length, slice_get, Bool, false, subst, ◌≢◌, ◌≤◌, inl, inr, ltb-true, lt-ltb, eqb-true, ne_eqb, length-append, append-nil, ◌&&◌, ◌==◌, not, nat_lt, if◌then◌else◌, filter_map, ◌||◌}
 use Rattle.std.proofs.lemmas.Bool.{and_parts, and_from, cases_eq}
 use Rattle.std.specs.List.{cons_option}
 use Rattle.std.proofs.lemmas.List.Elements.{filter_map-append}
 use mathlib.Core.List.{IsPrefix}
 use Rattle.lt_modes.specs.declared.stamp.Stamp.{Stamp}
 use Rattle.lt_modes.specs.declared.command.Command.{Command}
-use Rattle.lt_modes.specs.declared.command.Command.TheVariants.{Lock, Unlock, Try, Change, DropAll}
+use Rattle.lt_modes.specs.declared.command.Command.TheVariants.{Lock, Unlock, Try, Change, DropAll, Withdraw}
 use Rattle.lt_modes.specs.Script.{ScriptData}
 use Rattle.lt_modes.specs.declared.moves.Step.{Step}
 use Rattle.lt_modes.specs.declared.moves.Step.TheVariants.{Act, Take}
 use Rattle.lt_lists.specs.Below.{gather_below}
-use Rattle.lt_spec.specs.NodeMove.{commands_of, NodeState, has_command, next_command, act_stamp, one_made, at_clock, obey, node_act, with_commands, command_if, home, NodeMade, node_waits, AnyClient, IsHomeAt, GoOn, AreAt, share_of, joined_of}
+use Rattle.lt_spec.specs.NodeMove.{commands_of, NodeState, has_command, next_command, act_stamp, one_made, at_clock, obey, node_act, with_commands, command_if, home, NodeMade, node_waits, AnyClient, IsHomeAt, GoOn, AreAt, share_of, joined_of, is_free_at, withdraws_itself}
 use Rattle.lt_spec.specs.World.{Logged, World, start, is_enabled, is_runnable, node_move, move_stamp, opened, after_made, after, after_run, IsRunFrom}
 use Rattle.lt_spec.specs.FixedOrder.{Cause, OfClient, OfLetter, can_make_move, made_of, stamp_of, cause_step, letters_for, Plays}
 use Rattle.lt_law_plays.specs.AppendLaws.{PlaysGoOn, RunsGoOn, AppendedCommands, PlaysOfAppended, RunsOfAppended, PlaysSameAt, AreOwnCommands, ShareIsSame, SharedPlays, SharedCommands}
@@ -30,10 +30,12 @@ obey-same script commands stamp client (Some (Try s mode)) n = refl
 obey-same script commands stamp client (Some (Unlock s mode)) n = refl
 obey-same script commands stamp client (Some (Change s gives_up mode)) n = refl
 obey-same script commands stamp client (Some (DropAll other s)) n = refl
+obey-same script commands stamp client (Some (Withdraw other s)) n = refl
 
 -- the client has the same command to make, and what a node makes of it is the same
 pub record MakesSame (script : ScriptData) (commands : List (ℕ × Command)) (n : NodeState) (client : ℕ) : Type 0 where
   pub has : has_command (with_commands script commands) n client ≡ true
+  pub free : is_free_at script n client ≡ true → is_free_at (with_commands script commands) n client ≡ true
   pub made : (x : ℕ) → node_act (with_commands script commands) x client n ≡ node_act script x client n
 
 pub makes_same : (script : ScriptData) (commands : List (ℕ × Command)) (n : NodeState) (client : ℕ)
@@ -47,6 +49,7 @@ makes_same script commands n client more has =
     record {
       has = lt-ltb (n.made client) (length (commands_of (with_commands script commands) client))
           (omega (arith, below, count, length-append (commands_of script client) more.0));
+      free = λ may. ap (λ (o : Option Command). not (node_waits script n client) || withdraws_itself n client o) next ∙ may;
       made = λ x. ap (λ (o : Option Command). obey (with_commands script commands) (act_stamp x n) client o (one_made client (at_clock (n.clock + 1) n))) next
           ∙ obey-same script commands (act_stamp x n) client (next_command script n client) (one_made client (at_clock (n.clock + 1) n));
     }
@@ -62,13 +65,13 @@ same_move : (script : ScriptData) (commands : List (ℕ × Command)) (x : ℕ) �
     → (n : NodeState) (cause : Cause) → can_make_move script x n cause ≡ true → IsSameMove script commands x n cause
 same_move script commands x goes n (OfLetter p letter) can = record { can = can; made = refl }
 same_move script commands x goes n (OfClient client) can =
-    let known = and_parts (nat_lt client (length script.clients)) (home script client == x && (not (node_waits script n client) && has_command script n client)) can in
-    let here = and_parts (home script client == x) (not (node_waits script n client) && has_command script n client) known.1 in
-    let runs = and_parts (not (node_waits script n client)) (has_command script n client) here.1 in
+    let known = and_parts (nat_lt client (length script.clients)) (home script client == x && (is_free_at script n client && has_command script n client)) can in
+    let here = and_parts (home script client == x) (is_free_at script n client && has_command script n client) known.1 in
+    let runs = and_parts (is_free_at script n client) (has_command script n client) here.1 in
     let same = makes_same script commands n client (goes client (eqb-true (home script client) x here.0)) runs.1 in
     record {
       can = and_from (nat_lt client (length script.clients)) _ known.0
-          (and_from (home script client == x) _ here.0 (and_from (not (node_waits script n client)) _ runs.0 same.has));
+          (and_from (home script client == x) _ here.0 (and_from (is_free_at (with_commands script commands) n client) _ (same.free runs.0) same.has));
       made = same.made x;
     }
 
@@ -100,11 +103,11 @@ same_step script commands goes w q (Act client) enabled =
     let n : NodeState = w.node (home script client) in
     let known = and_parts (nat_lt client (length script.clients)) (home script client == q && is_runnable script w client) enabled in
     let here = and_parts (home script client == q) (is_runnable script w client) known.1 in
-    let runs = and_parts (not (node_waits script n client)) (has_command script n client) here.1 in
+    let runs = and_parts (is_free_at script n client) (has_command script n client) here.1 in
     let same = makes_same script commands n client (goes client tt) runs.1 in
     record {
       enabled = and_from (nat_lt client (length script.clients)) _ known.0
-          (and_from (home script client == q) _ here.0 (and_from (not (node_waits script n client)) _ runs.0 same.has));
+          (and_from (home script client == q) _ here.0 (and_from (is_free_at (with_commands script commands) n client) _ (same.free runs.0) same.has));
       made = subst (λ (x : ℕ). node_act (with_commands script commands) q client (w.node x) ≡ node_act script q client (w.node x))
           (eqb-true (home script client) q here.0) (same.made q);
     }

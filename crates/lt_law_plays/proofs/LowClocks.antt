@@ -4,7 +4,7 @@ use Rattle.std.proofs.lemmas.Bool.{and_from}
 use Rattle.std.proofs.lemmas.List.Elements.{All-contains, All-from_recursion}
 use Rattle.lt_modes.specs.Script.{ScriptData}
 use Rattle.lt_spec.specs.World.{Logged, World, start, is_some_letter, is_runnable, world_after}
-use Rattle.lt_spec.specs.NodeMove.{home, has_command, node_waits}
+use Rattle.lt_spec.specs.NodeMove.{home, has_command, node_waits, is_free_at}
 use Rattle.lt_spec.specs.Facts.{OnWay}
 use Rattle.lt_model.proofs.ClocksGrow.{clocks_in_runs}
 use Rattle.lt_model.proofs.HomesMove.{homes_in_runs}
@@ -34,19 +34,19 @@ letters_are_counted script l h p q letter among =
     omega (arith, here.2, clocks_are_counted script l h p)
 
 pub same_runnable : (script : ScriptData) (w : World) (q client : ℕ)
-    → home script client == q && is_runnable script w client ≡ (home script client == q && (not (node_waits script (w.node q) client) && has_command script (w.node q) client))
+    → home script client == q && is_runnable script w client ≡ (home script client == q && (is_free_at script (w.node q) client && has_command script (w.node q) client))
 same_runnable script w q client = by_test (home script client == q) (λ e. eqb-true (home script client) q e)
   where
     by_test : (t : Bool) → (t ≡ true → home script client ≡ q)
-        → t && is_runnable script w client ≡ (t && (not (node_waits script (w.node q) client) && has_command script (w.node q) client))
-    by_test true e = ap (λ x. not (node_waits script (w.node x) client) && has_command script (w.node x) client) (e refl)
+        → t && is_runnable script w client ≡ (t && (is_free_at script (w.node q) client && has_command script (w.node q) client))
+    by_test true e = ap (λ x. is_free_at script (w.node x) client && has_command script (w.node x) client) (e refl)
     by_test false e = refl
 
 pub enabled_is_seen : EnabledIsSeen
 enabled_is_seen script l run h is_merged = (
   (λ q client. ap (λ (t : Bool). nat_lt client (length script.clients) && t)
       (same_runnable script (world_after script run) q client
-      ∙ ap (λ (w : World). home script client == q && (not (node_waits script (w.node q) client) && has_command script (w.node q) client)) ends)),
+      ∙ ap (λ (w : World). home script client == q && (is_free_at script (w.node q) client && has_command script (w.node q) client)) ends)),
   (λ p q letter others front. ap (λ (t : Bool). nat_lt p script.nodes && (nat_lt q script.nodes && t))
       (ap (λ (t : Bool). not (p == q) && t) (ap is_some_letter (ap (λ (w : World). w.mail p q) ends ∙ front)) ∙ and_true (not (p == q)))),
 )

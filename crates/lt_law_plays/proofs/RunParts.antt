@@ -8,7 +8,7 @@ use Rattle.lt_modes.specs.declared.moves.Step.{Step}
 use Rattle.lt_lists.specs.Below.{put}
 use Rattle.lt_lists.proofs.Puts.{put-same, put-other}
 use Rattle.lt_spec.specs.World.{Logged, World, token_to, is_some_letter, is_enabled, take_front, front_stamp, put_mail, logged, after_made, after, start, after_run, IsRunFrom, is_of_node}
-use Rattle.lt_spec.specs.NodeMove.{home, has_command, node_waits, NodeState}
+use Rattle.lt_spec.specs.NodeMove.{home, has_command, node_waits, NodeState, is_free_at}
 use Rattle.lt_spec.specs.FixedOrder.{Cause, OfClient, OfLetter, can_make_move, made_of, cause_step, logged_of, used_by, letters_for, Plays}
 use Rattle.lt_merge.proofs.MergedLists.{filter_yes, filter_no}
 use Rattle.lt_law_plays.proofs.PlayLemmas.{IsFromOther, from_other, plays_same}
@@ -37,7 +37,7 @@ pub record IsStep (script : ScriptData) (w : World) (q : ℕ) (cause : Cause) (l
 
 client_enabled : (script : ScriptData) (w : World) (q client : ℕ) → IsTrue (can_make_move script q (w.node q) (OfClient client)) → IsTrue (is_enabled script w q (Act client))
 client_enabled script w q client can =
-    let runs : ℕ → Bool = λ x. not (node_waits script (w.node x) client) && has_command script (w.node x) client in
+    let runs : ℕ → Bool = λ x. is_free_at script (w.node x) client && has_command script (w.node x) client in
     let first = and_parts (nat_lt client (length script.clients)) (home script client == q && runs q) can in
     let second = and_parts (home script client == q) (runs q) first.1 in
     and_from (nat_lt client (length script.clients)) (home script client == q && runs (home script client)) first.0
@@ -102,7 +102,7 @@ record HasCause (script : ScriptData) (w : World) (q : ℕ) (step : Step) : Type
 
 has_cause : (script : ScriptData) (w : World) (q : ℕ) (step : Step) → IsTrue (is_enabled script w q step) → HasCause script w q step
 has_cause script w q (Act client) enabled =
-    let runs : ℕ → Bool = λ x. not (node_waits script (w.node x) client) && has_command script (w.node x) client in
+    let runs : ℕ → Bool = λ x. is_free_at script (w.node x) client && has_command script (w.node x) client in
     let first = and_parts (nat_lt client (length script.clients)) (home script client == q && runs (home script client)) enabled in
     let second = and_parts (home script client == q) (runs (home script client)) first.1 in
     record {

@@ -1,5 +1,7 @@
 mod ReplyRules
 mod ReplyActs
+mod ReplyRows
+mod ReplyWithdraws
 mod ReplyMoves
 mod ReplyCommands
 mod ReplySteps

@@ -1,5 +1,5 @@
 -- The replies in the lines of a node's move keep the turn of the client's commands.
-use Rattle.std.proofs.Common.{◌≡◌, ◌≢◌, ℕ, zero, suc, ◌+◌, ◌<◌, inl, inr, List, [], ◌∷◌, ◌++◌, length, Some, refl, sym, ap, subst, arith, ◌∙◌, ◌⊎◌, Contains, slice_get, append-nil, append_assoc}
+use Rattle.std.proofs.Common.{◌≡◌, ◌≢◌, ℕ, zero, suc, ◌+◌, ◌<◌, inl, inr, List, [], ◌∷◌, ◌++◌, length, Some, refl, sym, ap, subst, arith, ◌∙◌, ◌⊎◌, slice_get, append-nil, append_assoc}
 use Rattle.std.specs.List.{AllByRecursion}
 use Rattle.std.proofs.lemmas.Bool.{cases_eq}
 use Rattle.std.proofs.lemmas.List.{length_push}
@@ -8,33 +8,36 @@ use Rattle.lt_modes.specs.declared.ask.Ask.{Ask}
 use Rattle.lt_modes.specs.declared.command.Command.{Command}
 use Rattle.lt_modes.specs.declared.event.Event.{Event}
 use Rattle.lt_modes.specs.State.{SetState, Made}
-use Rattle.lt_modes.specs.Serving.{answer_event}
 use Rattle.lt_lists.specs.Below.{put}
 use Rattle.lt_lists.proofs.Puts.{put-same, put-other}
 use Rattle.lt_spec.specs.NodeMove.{NodeState, touched, each_touched}
 use Rattle.lt_model.proofs.NodeEffects.{IsOnce}
+use Rattle.lt_law_lines.proofs.WaitRules.{IsLive}
+use Rattle.lt_law_lines.proofs.WaitActs.{NoneOf}
 use Rattle.lt_law_lines.proofs.WaitMoves.{IsFree}
 use Rattle.lt_spec.specs.World.{replies_of}
 use Rattle.lt_law_own_lines.proofs.OwnRuns.{replies_append}
-use Rattle.lt_spec.specs.Script.{AnswersCommand, AnswersAt, AnswersInTurn}
+use Rattle.lt_spec.specs.Script.{AnswersAt, AnswersInTurn}
+use Rattle.lt_law_replies.specs.ReplyLaws.{EndsAsk}
 use Rattle.lt_law_replies.proofs.ReplyRules.{NoReply, OneReply, Replies, AllReplies}
 use Rattle.lt_law_replies.proofs.ReplyActs.{Answered, Asks, ActReplies}
+use Rattle.lt_law_replies.proofs.ReplyWithdraws.{EndsItself}
 
 -- the client waits for nothing in these sets, and each command that it has made has its reply
 pub record IsDone (count : ℕ) (sets : ℕ → SetState) (c made : ℕ) (replies : List Event) : Type 0 where
   pub free : IsFree count sets c
   pub all : length replies ≡ made
 
--- an ask of the client is unanswered, in one set, and what answers it answers the last command, the only one with no reply
+-- an ask of the client is unanswered, in one set, and what ends it answers the last command, the only one with no reply
 pub record IsOpen (count : ℕ) (sets : ℕ → SetState) (c : ℕ) (commands : List Command) (made : ℕ) (replies : List Event) : Type 0 where
   pub at : ℕ
   pub inside : at < count
   pub ask : Ask
-  pub there : Contains (sets at).pending ask
+  pub there : IsLive (sets at) c ask
   pub own : ask.client ≡ c
   pub all_but_one : length replies + 1 ≡ made
-  pub only : (s : ℕ) → s < count → (other : Ask) → Contains (sets s).pending other → other.client ≡ c
-      → (s ≡ at) × AnswersAt c commands (length replies) (answer_event s other)
+  pub only : (s : ℕ) → s < count → (other : Ask) → IsLive (sets s) c other → other.client ≡ c
+      → (s ≡ at) × ((line : Event) → EndsAsk s other line → AnswersAt c commands (length replies) line)
 
 -- the replies so far answer the commands in turn, and those made are all answered, or all but the one that waits
 pub record InTurn (count : ℕ) (sets : ℕ → SetState) (c : ℕ) (commands : List Command) (made : ℕ) (replies : List Event) : Type 0 where
@@ -76,15 +79,15 @@ then_follows count f g h c first later one two commands made replies before =
     (two commands made (replies ++ replies_of c first) (one commands made replies before))
 
 -- an ask in a set that was put there, or in another one
-put_cases : {A : Type 0} (sets : ℕ → SetState) (s : ℕ) (now : SetState) (x : ℕ) (ask : Ask) → Contains (put sets s now x).pending ask
-    → (x ≡ s → Contains now.pending ask → A) → (x ≢ s → Contains (sets x).pending ask → A) → A
-put_cases sets s now x ask there here aside = elim (cases_eq x s) [
-  | inl e ↦ here e (subst (λ (t : SetState). Contains t.pending ask) (ap (put sets s now) e ∙ put-same sets s now) there)
-  | inr d ↦ aside d (subst (λ (t : SetState). Contains t.pending ask) (put-other sets s now x d) there)
+put_cases : {A : Type 0} (sets : ℕ → SetState) (s : ℕ) (now : SetState) (x c : ℕ) (ask : Ask) → IsLive (put sets s now x) c ask
+    → (x ≡ s → IsLive now c ask → A) → (x ≢ s → IsLive (sets x) c ask → A) → A
+put_cases sets s now x c ask live here aside = elim (cases_eq x s) [
+  | inl e ↦ here e (subst (λ (t : SetState). IsLive t c ask) (ap (put sets s now) e ∙ put-same sets s now) live)
+  | inr d ↦ aside d (subst (λ (t : SetState). IsLive t c ask) (put-other sets s now x d) live)
 ]
 
-put_here : (sets : ℕ → SetState) (s : ℕ) (now : SetState) (ask : Ask) → Contains now.pending ask → Contains (put sets s now s).pending ask
-put_here sets s now ask there = subst (λ (t : SetState). Contains t.pending ask) (sym (put-same sets s now)) there
+put_here : (sets : ℕ → SetState) (s : ℕ) (now : SetState) (c : ℕ) (ask : Ask) → IsLive now c ask → IsLive (put sets s now s) c ask
+put_here sets s now c ask live = subst (λ (t : SetState). IsLive t c ask) (sym (put-same sets s now)) live
 
 -- a rule on one set that leaves a client's asks
 put_silent : (count : ℕ) (sets : ℕ → SetState) (s : ℕ) (m : Made) (c : ℕ) → NoReply c (sets s) m → Follows count sets (put sets s m.state) c m.events
@@ -92,16 +95,16 @@ put_silent count sets s m c n commands made replies h =
     subst (InTurn count (put sets s m.state) c commands made) (sym (ap (λ (l : List Event). replies ++ l) n.said ∙ append-nil replies))
     (record { turn = h.turn; rest = by_rest h.rest })
   where
-    kept : (x : ℕ) (ask : Ask) → ask.client ≡ c → Contains (sets x).pending ask → Contains (put sets s m.state x).pending ask
-    kept x ask own there = elim (cases_eq x s) [
-      | inl e ↦ subst (λ (k : ℕ). Contains (put sets s m.state k).pending ask) (sym e)
-          (put_here sets s m.state ask (n.stays ask own (subst (λ (k : ℕ). Contains (sets k).pending ask) e there)))
-      | inr d ↦ subst (λ (t : SetState). Contains t.pending ask) (sym (put-other sets s m.state x d)) there
+    kept : (x : ℕ) (ask : Ask) → ask.client ≡ c → IsLive (sets x) c ask → IsLive (put sets s m.state x) c ask
+    kept x ask own live = elim (cases_eq x s) [
+      | inl e ↦ subst (λ (k : ℕ). IsLive (put sets s m.state k) c ask) (sym e)
+          (put_here sets s m.state c ask (n.stays ask own (subst (λ (k : ℕ). IsLive (sets k) c ask) e live)))
+      | inr d ↦ subst (λ (t : SetState). IsLive t c ask) (sym (put-other sets s m.state x d)) live
     ]
 
-    older : (x : ℕ) (ask : Ask) → ask.client ≡ c → Contains (put sets s m.state x).pending ask → Contains (sets x).pending ask
-    older x ask own there = put_cases sets s m.state x ask there
-        (λ e now. subst (λ (k : ℕ). Contains (sets k).pending ask) (sym e) (n.older ask own now)) (λ d now. now)
+    older : (x : ℕ) (ask : Ask) → ask.client ≡ c → IsLive (put sets s m.state x) c ask → IsLive (sets x) c ask
+    older x ask own live = put_cases sets s m.state x c ask live
+        (λ e now. subst (λ (k : ℕ). IsLive (sets k) c ask) (sym e) (n.older ask own now)) (λ d now. now)
 
     by_rest : IsDone count sets c made replies ⊎ IsOpen count sets c commands made replies
         → IsDone count (put sets s m.state) c made replies ⊎ IsOpen count (put sets s m.state) c commands made replies
@@ -116,28 +119,32 @@ put_silent count sets s m c n commands made replies h =
       only = λ x below other there own. waits.only x below other (older x other own there) own;
     })
 
--- a rule on one set that answers the client's ask
+-- an ask of the client in one set ends, with this line
+put_ends : (count : ℕ) (sets : ℕ → SetState) (s : ℕ) (now : SetState) (c : ℕ) (ask : Ask) (line : Event) → s < count → IsLive (sets s) c ask → ask.client ≡ c
+    → EndsAsk s ask line → NoneOf c now → (commands : List Command) (made : ℕ) (replies : List Event) → InTurn count sets c commands made replies
+    → AnswersInTurn c commands (replies ++ line ∷ []) × IsDone count (put sets s now) c made (replies ++ line ∷ [])
+put_ends count sets s now c ask line inside live own ends none commands made replies h = by_rest h.rest
+  where
+    by_rest : IsDone count sets c made replies ⊎ IsOpen count sets c commands made replies
+        → AnswersInTurn c commands (replies ++ line ∷ []) × IsDone count (put sets s now) c made (replies ++ line ∷ [])
+    by_rest (inl done) = absurd (done.free s inside ask live own)
+    by_rest (inr waits) =
+        let found = waits.only s inside ask live own in (
+          answers_more c commands replies line h.turn (found.1 line ends),
+          record {
+            free = λ x below other there mine. put_cases sets s now x c other there
+                (λ e here. none other here mine) (λ d here. d ((waits.only x below other here mine).0 ∙ sym found.0));
+            all = omega (arith, length_push replies line, waits.all_but_one);
+          },
+        )
+
+-- a rule on one set that ends the client's ask
 put_answer : (count : ℕ) (sets : ℕ → SetState) (s : ℕ) (m : Made) (c : ℕ) → s < count → OneReply c s (sets s) m
     → Follows count sets (put sets s m.state) c m.events
 put_answer count sets s m c inside o commands made replies h =
-    subst (InTurn count (put sets s m.state) c commands made) (sym (ap (λ (l : List Event). replies ++ l) o.said)) (by_rest h.rest)
-  where
-    line : Event
-    line = answer_event s o.ask
-
-    by_rest : IsDone count sets c made replies ⊎ IsOpen count sets c commands made replies
-        → InTurn count (put sets s m.state) c commands made (replies ++ line ∷ [])
-    by_rest (inl done) = absurd (done.free s inside o.ask o.asked o.own)
-    by_rest (inr waits) =
-        let found = waits.only s inside o.ask o.asked o.own in
-        record {
-          turn = answers_more c commands replies line h.turn found.1;
-          rest = inl (record {
-            free = λ x below ask there own. put_cases sets s m.state x ask there
-                (λ e now. o.none ask now own) (λ d now. d ((waits.only x below ask now own).0 ∙ sym found.0));
-            all = omega (arith, length_push replies line, waits.all_but_one);
-          });
-        }
+    let ended = put_ends count sets s m.state c o.ask o.line inside o.asked o.own o.ends o.none commands made replies h in
+    subst (InTurn count (put sets s m.state) c commands made) (sym (ap (λ (l : List Event). replies ++ l) o.said))
+    (record { turn = ended.0; rest = inl ended.1 })
 
 -- a rule on one set
 pub put_follows : (count : ℕ) (sets : ℕ → SetState) (s : ℕ) (m : Made) (c : ℕ) → s < count → Replies c s (sets s) m
@@ -180,7 +187,7 @@ act_follows count sets s m client command inside free act commands made replies 
     by_cases (inl a) =
         subst (InTurn count (put sets s m.state) client commands (made + 1)) (sym (ap (λ (l : List Event). replies ++ l) a.said))
         (one_more count (put sets s m.state) client commands made replies a.line h.turn (command, at, a.answers)
-        (λ x below ask there own. put_cases sets s m.state x ask there (λ e now. a.none ask now own) (λ d now. free x below ask now own)) all)
+        (λ x below ask there own. put_cases sets s m.state x client ask there (λ e now. a.none ask now own) (λ d now. free x below ask now own)) all)
     by_cases (inr a) =
         subst (InTurn count (put sets s m.state) client commands (made + 1)) (sym (ap (λ (l : List Event). replies ++ l) a.said ∙ append-nil replies))
         (record {
@@ -189,14 +196,26 @@ act_follows count sets s m client command inside free act commands made replies 
             at = s;
             inside = inside;
             ask = a.ask;
-            there = put_here sets s m.state a.ask a.there;
+            there = put_here sets s m.state client a.ask a.there;
             own = a.own;
             all_but_one = omega (arith, all);
-            only = λ x below other there own. put_cases sets s m.state x other there
-                (λ e now. (e, (command, at, subst (λ (k : ℕ). AnswersCommand client command (answer_event k other)) (sym e) (a.only other now own))))
+            only = λ x below other there own. put_cases sets s m.state x client other there
+                (λ e now. (e, λ line ends. (command, at, a.only other now own line (subst (λ (k : ℕ). EndsAsk k other line) e ends))))
                 (λ d now. absurd (free x below other now own));
           });
         })
+
+-- a command of a client that gives up what it waits for in this set: two replies, to the command that waits and to this one
+pub itself_follows : (count : ℕ) (sets : ℕ → SetState) (s : ℕ) (m : Made) (client : ℕ) (command : Command) → s < count
+    → EndsItself client s command (sets s) m → (commands : List Command) (made : ℕ) (replies : List Event) → slice_get commands made ≡ Some command
+    → InTurn count sets client commands made replies → InTurn count (put sets s m.state) client commands (made + 1) (replies ++ replies_of client m.events)
+itself_follows count sets s m client command inside gone commands made replies next h =
+    let ended = put_ends count sets s m.state client gone.ask gone.first inside gone.asked gone.own gone.ends gone.none commands made replies h in
+    let before = replies ++ gone.first ∷ [] in
+    subst (InTurn count (put sets s m.state) client commands (made + 1))
+    (append_assoc replies (gone.first ∷ []) (gone.second ∷ []) ∙ ap (λ (l : List Event). replies ++ l) (sym gone.said))
+    (one_more count (put sets s m.state) client commands made before gone.second ended.0
+    (command, ap (slice_get commands) ended.1.all ∙ next, gone.answers) ended.1.free ended.1.all)
 
 -- a rule on each of several sets that differ
 pub each_follows : (count : ℕ) (rule : ℕ → SetState → Made) (c : ℕ) (sets : List ℕ) → ((s : ℕ) → IsOnce s sets ⊎ AllByRecursion (λ k. k ≢ s) sets)

@@ -1,5 +1,6 @@
 -- The replies to each client of a run answer its commands in turn.
-use Rattle.std.proofs.Common.{◌≡◌, ◌≢◌, ℕ, zero, suc, ◌+◌, ◌<◌, inl, inr, List, [], ◌++◌, length, Bool, true, false, refl, sym, ap, subst, arith, take, take_all, ◌∙◌, ◌⊎◌, ◌||◌, ◌==◌, Contains, IsTrue, slice_index_or, eq-eqb, eqb-true, append-nil}
+use Rattle.std.proofs.Common.{◌≡◌, ◌≢◌, ℕ, zero, suc, ◌+◌, ◌<◌, inl, inr, List, [], ◌++◌, length, Bool, true, false, refl, sym, ap, subst, arith, take, take_all, ◌∙◌, ◌⊎◌, ◌||◌, ◌&&◌, not, ◌==◌, IsTrue, slice_index_or, eq-eqb, eqb-true, append-nil}
+use Rattle.std.specs.List.{list_any}
 use Rattle.std.proofs.lemmas.Bool.{cases_eq}
 use Rattle.std.proofs.lemmas.List.Elements.{Contains-get_or}
 use Rattle.std.proofs.lemmas.List.Folds.{list_any_none}
@@ -7,7 +8,7 @@ use Rattle.lt_modes.specs.declared.ask.Ask.{Ask}
 use Rattle.lt_modes.specs.declared.event.Event.{Event}
 use Rattle.lt_modes.specs.declared.moves.Step.{Step}
 use Rattle.lt_modes.specs.Script.{ScriptData}
-use Rattle.lt_modes.specs.Serving.{answer_event, waits}
+use Rattle.lt_modes.specs.Serving.{is_gone, waits}
 use Rattle.lt_lists.specs.Below.{any_below, one_if}
 use Rattle.lt_lists.proofs.Members.{list_any-at}
 use Rattle.lt_lists.proofs.Puts.{put-same, put-other}
@@ -19,6 +20,8 @@ use Rattle.lt_model.specs.Homes.{Homes}
 use Rattle.lt_model.specs.Invariant.{WorldInvariant}
 use Rattle.lt_model.proofs.NodeEffects.{after_node}
 use Rattle.lt_law_lines.proofs.OwnerRuns.{along_runs}
+use Rattle.lt_law_lines.proofs.WaitRules.{IsLive}
+use Rattle.lt_law_lines.proofs.WaitActs.{NoneOf}
 use Rattle.lt_law_lines.proofs.WaitMoves.{IsFree}
 use Rattle.lt_law_own_lines.proofs.OwnEffects.{own_lines_of_moves}
 use Rattle.lt_law_own_lines.proofs.OwnRuns.{replies_append, no_replies, replies_of_log}
@@ -63,7 +66,7 @@ turns_after script w lines q step whole kept homes enabled h c =
 first_turns : (script : ScriptData) → AllInTurn script [] (start script)
 first_turns script c = record {
   turn = λ k line e. cc;
-  rest = inl (record { free = λ s below ask there own. omega (arith, there.1); all = refl });
+  rest = inl (record { free = λ s below ask live own. omega (arith, live.0.1); all = refl });
 }
 
 in_turn : (script : ScriptData) (run : List Logged) → IsWhole script → IsRun script run → (k : ℕ)
@@ -83,15 +86,22 @@ log_in_turn script run log whole is_run client own =
 
 -- who has no ask doesn't wait
 none_waits : (script : ScriptData) (n : NodeState) (client : ℕ) → IsFree (length script.sets) n.set client → node_waits script n client ≡ false
-none_waits script n client free = below (length script.sets) (λ s inside. no_ask s (free s inside))
+none_waits script n client free = below (length script.sets) (λ s inside. no_ask s (is_gone (n.set s) client) refl (free s inside))
   where
     below : (count : ℕ) → ((s : ℕ) → s < count → waits (n.set s) client ≡ false) → any_below count (λ s. waits (n.set s) client) ≡ false
     below zero none = refl
     below (suc count) none = λ i. below count (λ s inside. none s (omega (arith, inside))) i || none count (omega arith) i
 
-    no_ask : (s : ℕ) → ((ask : Ask) → Contains (n.set s).pending ask → ask.client ≢ client) → waits (n.set s) client ≡ false
-    no_ask s none = list_any_none (λ (ask : Ask). ask.client == client) (n.set s).pending
-        (λ i d within. other (slice_index_or (n.set s).pending i d) (none (slice_index_or (n.set s).pending i d) (Contains-get_or (n.set s).pending i d within)))
+    no_ask : (s : ℕ) (gone : Bool) → is_gone (n.set s) client ≡ gone → NoneOf client (n.set s)
+        → (list_any (λ (ask : Ask). ask.client == client) (n.set s).pending && not gone) ≡ false
+    no_ask s true e none = none_of (list_any (λ (ask : Ask). ask.client == client) (n.set s).pending)
+      where
+        none_of : (some : Bool) → (some && false) ≡ false
+        none_of true = refl
+        none_of false = refl
+    no_ask s false e none = ap (λ (some : Bool). some && true) (list_any_none (λ (ask : Ask). ask.client == client) (n.set s).pending
+        (λ i d within. other (slice_index_or (n.set s).pending i d)
+        (none (slice_index_or (n.set s).pending i d) (Contains-get_or (n.set s).pending i d within, e))))
       where
         other : (ask : Ask) → ask.client ≢ client → (ask.client == client) ≡ false
         other ask differs = by_test (ask.client == client) refl
@@ -101,11 +111,13 @@ none_waits script n client free = below (length script.sets) (λ s inside. no_as
             by_test true e = absurd (differs (eqb-true ask.client client e))
 
 -- who has one waits
-some_waits : (script : ScriptData) (n : NodeState) (client s : ℕ) (ask : Ask) → s < length script.sets → Contains (n.set s).pending ask
+some_waits : (script : ScriptData) (n : NodeState) (client s : ℕ) (ask : Ask) → s < length script.sets → IsLive (n.set s) client ask
     → ask.client ≡ client → node_waits script n client ≡ true
-some_waits script n client s ask inside there own =
+some_waits script n client s ask inside live own =
     any_below_at (length script.sets) s (λ k. waits (n.set k) client) inside
-    (list_any-at (λ (a : Ask). a.client == client) (n.set s).pending ask there (eq-eqb ask.client client own))
+    ((λ i. list_any (λ (a : Ask). a.client == client) (n.set s).pending && not (live.1 i))
+    ∙ ap (λ (some : Bool). some && true)
+    (list_any-at (λ (a : Ask). a.client == client) (n.set s).pending ask live.0 (eq-eqb ask.client client own)))
 
 -- a client that waits has one reply less than it made commands
 counted : (script : ScriptData) (n : NodeState) (client : ℕ) (replies : List Event) → InTurnAt script replies n client
@@ -131,13 +143,13 @@ pub unanswered_wait : UnansweredWait
 unanswered_wait script run whole is_run k client = omega (arith, one_reply_each script run whole is_run k client)
 
 pub asks_answer_next : AsksAnswerNext
-asks_answer_next script run whole is_run k client s ask inside there own = by_rest (in_turn script run whole is_run k client).rest
+asks_answer_next script run whole is_run k client s ask inside there own live line ends = by_rest (in_turn script run whole is_run k client).rest
   where
     n : NodeState
     n = (world_after script (take k run)).node (home script client)
 
     by_rest : IsDone (length script.sets) n.set client (n.made client) (replies_of client (lines_of (take k run)))
         ⊎ IsOpen (length script.sets) n.set client (commands_of script client) (n.made client) (replies_of client (lines_of (take k run)))
-        → AnswersAt client (commands_of script client) (length (replies_of client (lines_of (take k run)))) (answer_event s ask)
-    by_rest (inl done) = absurd (done.free s inside ask there own)
-    by_rest (inr waits) = (waits.only s inside ask there own).1
+        → AnswersAt client (commands_of script client) (length (replies_of client (lines_of (take k run)))) line
+    by_rest (inl done) = absurd (done.free s inside ask (there, live) own)
+    by_rest (inr waits) = (waits.only s inside ask (there, live) own).1 line ends

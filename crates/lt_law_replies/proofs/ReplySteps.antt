@@ -1,26 +1,28 @@
 -- Each enabled move of a world that is kept answers the commands of the mover's clients in turn.
-use Rattle.std.proofs.Common.{◌≡◌, ◌≢◌, ℕ, zero, suc, ◌+◌, ◌<◌, inl, inr, List, [], ◌∷◌, ◌++◌, length, Option, Some, None, Bool, true, false, refl, sym, ap, subst, arith, ◌∙◌, ◌==◌, not, nat_lt, if◌then◌else◌, Contains, AllPairs, IsTrue, slice_get, drop as drop_front, ltb-true, lt-ltb}
+use Rattle.std.proofs.Common.{◌≡◌, ◌≢◌, ℕ, zero, suc, ◌+◌, ◌<◌, inl, inr, List, [], ◌∷◌, ◌++◌, length, Option, Some, None, Bool, true, false, refl, sym, ap, subst, arith, ◌∙◌, ◌==◌, not, nat_lt, if◌then◌else◌, Contains, AllPairs, IsTrue, ◌||◌, slice_get, drop as drop_front, ltb-true, lt-ltb}
+use Rattle.std.specs.List.{list_any}
 use Rattle.std.proofs.lemmas.Bool.{and_parts, cases_eq}
 use Rattle.std.proofs.lemmas.List.Elements.{All-contains}
 use Rattle.lt_modes.specs.declared.stamp.Stamp.{Stamp}
 use Rattle.lt_modes.specs.declared.ask.Ask.{Ask}
 use Rattle.lt_modes.specs.declared.command.Command.{Command}
-use Rattle.lt_modes.specs.declared.command.Command.TheVariants.{Lock, Unlock, Try, Change, DropAll}
+use Rattle.lt_modes.specs.declared.command.Command.TheVariants.{Lock, Unlock, Try, Change, DropAll, Withdraw}
 use Rattle.lt_modes.specs.declared.event.Event.{Event}
 use Rattle.lt_modes.specs.declared.moves.Step.{Step}
 use Rattle.lt_modes.specs.declared.moves.Step.TheVariants.{Act, Take}
 use Rattle.lt_modes.specs.Script.{ScriptData}
 use Rattle.lt_modes.specs.State.{SetState, Body, AskBody, TellBody, CopyBody, TokenBody, FreezeBody, Letter, ParkedAsk, ParkedTell, Made, silent, without}
+use Rattle.lt_modes.specs.Serving.{without_gone as left_gone}
 use Rattle.lt_modes.specs.SetMove.{learn, arrive, take_body, finish, drop, take as take_letter}
 use Rattle.lt_lists.proofs.Puts.{put-same, put-other}
-use Rattle.lt_spec.specs.NodeMove.{home, related, commands_of, NodeState, NodeMade, node_waits, has_command, next_command, act_stamp, take_stamp, at_clock, one_made, node_act, node_take, touched, each_touched, drop_all, obey, IsWhole}
-use Rattle.lt_spec.specs.World.{World, is_enabled, is_waiting, is_some_letter, put_mail, take_front, node_move, replies_of}
+use Rattle.lt_spec.specs.NodeMove.{home, related, commands_of, NodeState, NodeMade, node_waits, has_command, next_command, act_stamp, take_stamp, at_clock, one_made, node_act, node_take, touched, each_touched, drop_all, obey, withdraws_itself, IsWhole}
+use Rattle.lt_spec.specs.World.{World, is_enabled, is_waiting, is_free_to_act, is_some_letter, put_mail, take_front, node_move, replies_of}
 use Rattle.lt_model.specs.Invariant.{WorldInvariant, AsksStand}
 use Rattle.lt_model.proofs.StandingBegins.{copies_are_on_way, stands_arrived, elsewhere, unanswered, only_here}
 use Rattle.lt_model.proofs.HomesMove.{IsMaker, maker, next_targets}
 use Rattle.lt_model.proofs.PathsMove.{kept_stands, has_mail_parts, desk_somewhere}
 use Rattle.lt_law_invariant.proofs.OwnSteps.{route_same}
-use Rattle.lt_law_invariant.proofs.ClientEffects.{Clients}
+use Rattle.lt_law_invariant.proofs.ClientEffects.{Clients, route_gone}
 use Rattle.lt_law_invariant.proofs.ClientMoves.{at_first}
 use Rattle.lt_law_invariant.proofs.ClientsKept.{sound_clients, clients_arrived}
 use Rattle.lt_law_lines.proofs.LineRules.{route_says}
@@ -36,26 +38,31 @@ arrive_replies stamp letter t h waits apart = by_body letter.body refl
     u : SetState
     u = learn letter.link t
 
-    learnt : (newer : Bool) → (if newer then record t { firm = letter.link; hoped = None } else t).pending ≡ t.pending
-    learnt true = refl
-    learnt false = refl
+    learnt : (newer : Bool) → ((if newer then record t { firm = letter.link; hoped = None } else t).pending ≡ t.pending)
+        × ((if newer then record t { firm = letter.link; hoped = None } else t).gone ≡ t.gone)
+    learnt true = (refl, refl)
+    learnt false = (refl, refl)
 
     same : u.pending ≡ t.pending
-    same = learnt (nat_lt t.firm.epoch letter.link.epoch)
+    same = (learnt (nat_lt t.firm.epoch letter.link.epoch)).0
+
+    marks : u.gone ≡ t.gone
+    marks = (learnt (nat_lt t.firm.epoch letter.link.epoch)).1
 
     by_body : (body : Body) → letter.body ≡ body → AllReplies letter.set t (take_body letter.set stamp body u)
     by_body (AskBody ask marked) says = no_lines letter.set t _ (route_says letter.set stamp marked (ParkedAsk ask) u).0
-        ((route_same letter.set stamp marked (ParkedAsk ask) u).1.pending ∙ same)
+        ((route_same letter.set stamp marked (ParkedAsk ask) u).1.pending ∙ same) (route_gone letter.set stamp marked (ParkedAsk ask) u ∙ marks)
     by_body (TellBody tell) says = no_lines letter.set t _ (route_says letter.set stamp false (ParkedTell tell) u).0
-        ((route_same letter.set stamp false (ParkedTell tell) u).1.pending ∙ same)
-    by_body (CopyBody ask) says = answer_replies letter.set t (take_body letter.set stamp (CopyBody ask) u) ask refl
-        (ap (λ (l : List Ask). without l ask.stamp) same) (waits ask says) (h.one ask.client) apart
-    by_body (TokenBody desk) says = no_lines letter.set t (take_body letter.set stamp (TokenBody desk) u) refl same
+        ((route_same letter.set stamp false (ParkedTell tell) u).1.pending ∙ same) (route_gone letter.set stamp false (ParkedTell tell) u ∙ marks)
+    by_body (CopyBody ask) says = answer_replies letter.set t u (take_body letter.set stamp (CopyBody ask) u) ask refl
+        (ap (λ (g : List ℕ). list_any (λ other. other == ask.client) g) marks) (ap (λ (l : List Ask). without l ask.stamp) same)
+        (ap (λ (g : List ℕ). left_gone g ask.client) marks) (waits ask says) (h.one ask.client) apart
+    by_body (TokenBody desk) says = no_lines letter.set t (take_body letter.set stamp (TokenBody desk) u) refl same marks
     by_body (FreezeBody number modes) says = by_test (nat_lt u.number number)
       where
         by_test : (newer : Bool) → AllReplies letter.set t (silent (if newer then record u { frozen = modes; number = number } else u))
-        by_test true = no_lines letter.set t (silent (record u { frozen = modes; number = number })) refl same
-        by_test false = no_lines letter.set t (silent u) refl same
+        by_test true = no_lines letter.set t (silent (record u { frozen = modes; number = number })) refl same marks
+        by_test false = no_lines letter.set t (silent u) refl same marks
 
 -- with the replies of a move at node q, the commands of each client stay in turn there
 abbrev pub StaysInTurn : ScriptData → NodeState → NodeMade → Type 0
@@ -74,6 +81,7 @@ obey_made script stamp client (Lock s mode) n c = refl
 obey_made script stamp client (Try s mode) n c = refl
 obey_made script stamp client (Unlock s mode) n c = refl
 obey_made script stamp client (Change s gives_up mode) n c = refl
+obey_made script stamp client (Withdraw other s) n c = refl
 obey_made script stamp client (DropAll other s) n c = by_waits (node_waits script n other)
   where
     by_waits : (waiting : Bool) → (drop_all waiting stamp client other s (related script s) n).node.made c ≡ n.made c
@@ -103,12 +111,22 @@ act_stays script w q client whole h enabled = by_command (next_command script n 
     not_true true e = cc
     not_true false e = refl
 
-    ready : (node_waits script n client ≡ false) × (has_command script n client ≡ true)
+    alone : (first second : Bool) → second ≡ false → (first || second) ≡ true → first ≡ true
+    alone true second e f = refl
+    alone false true e f = cc
+    alone false false e f = cc
+
+    ready : (withdraws_itself n client (next_command script n client) ≡ false → node_waits script n client ≡ false)
+        × (has_command script n client ≡ true)
     ready =
         let first = and_parts (nat_lt client (length script.clients)) _ enabled in
         let second = and_parts (home script client == q) _ first.1 in
-        let third = and_parts (not (is_waiting script w client)) _ second.1 in (
-          ap (λ (x : ℕ). node_waits script (w.node x) client) (sym own.own) ∙ not_true (is_waiting script w client) third.0,
+        let third = and_parts (is_free_to_act script w client) _ second.1 in (
+          λ other.
+              let here : withdraws_itself (w.node (home script client)) client (next_command script (w.node (home script client)) client) ≡ false =
+              ap (λ (x : ℕ). withdraws_itself (w.node x) client (next_command script (w.node x) client)) own.own ∙ other in
+              ap (λ (x : ℕ). node_waits script (w.node x) client) (sym own.own)
+              ∙ not_true (is_waiting script w client) (alone (not (is_waiting script w client)) _ here third.0),
           ap (λ (x : ℕ). has_command script (w.node x) client) (sym own.own) ∙ third.1,
         )
 
@@ -131,7 +149,8 @@ act_stays script w q client whole h enabled = by_command (next_command script n 
         Goal c replies = InTurn (length script.sets) made.node.set c (commands_of script c) (made.node.made c) (replies ++ replies_of c made.events)
 
         acts : ActTurns script n client command made
-        acts = act_turns script w q client command (λ s under. kept_stands script w s (h.sets s under)) below (sound_clients script w q h below) ready.0
+        acts = act_turns script w q client command (λ s under. kept_stands script w s (h.sets s under)) below (sound_clients script w q h below)
+            (λ other. ready.0 (ap (withdraws_itself n client) e ∙ other))
             (next_targets script n client command whole e)
 
         mine : (replies : List Event) → InTurn (length script.sets) n.set client (commands_of script client) (n.made client) replies → Goal client replies

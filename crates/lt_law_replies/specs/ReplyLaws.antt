@@ -1,19 +1,19 @@
 -- That the replies to a client answer its commands, one each and in order, as laws.
-use Rattle.std.specs.Prelude.{◌≡◌, ◌<◌, ◌+◌, ℕ, List, length, take, filter, Contains, true, false, [], ◌∷◌}
+use Rattle.std.specs.Prelude.{◌≡◌, ◌⊎◌, ◌<◌, ◌+◌, ℕ, List, length, take, filter, Contains, Bool, true, false, codes, [], ◌∷◌}
 use Rattle.lt_modes.specs.declared.ask.Ask.{Ask}
 use Rattle.lt_modes.specs.Script.{ScriptData}
-use Rattle.lt_modes.specs.Serving.{answer_event}
+use Rattle.lt_modes.specs.Serving.{answer_event, is_gone}
 use Rattle.lt_modes.specs.declared.mode.Mode.TheVariants.{Read, Upgrade, IntentionWrite, Write}
-use Rattle.lt_modes.specs.declared.command.Command.TheVariants.{Change}
+use Rattle.lt_modes.specs.declared.command.Command.TheVariants.{Lock, Change, Withdraw}
 use Rattle.lt_modes.specs.declared.event.Event.{Event}
-use Rattle.lt_modes.specs.declared.event.Event.TheVariants.{Grant, Wait, Try as Tried, Unlock as Unlocked, NotHeld, Change as Changed, DropAll as Dropped, Busy}
+use Rattle.lt_modes.specs.declared.event.Event.TheVariants.{Grant, Wait, Try as Tried, Unlock as Unlocked, NotHeld, Change as Changed, DropAll as Dropped, Busy, Withdraw as WithdrawLine, Withdrawn, Withheld, Void}
 use Rattle.lt_lists.specs.Below.{one_if}
 use Rattle.lt_spec.specs.NodeMove.{home, commands_of, IsWhole}
 use Rattle.lt_spec.specs.Holdings.{lines_of}
 use Rattle.lt_spec.specs.World.{Logged, made_by, is_waiting, is_of_node, world_after, IsRun, replies_of}
 use Rattle.lt_spec.specs.Facts.{state_at}
 use Rattle.lt_spec.specs.Script.{AnswersAt, AnswersInTurn, unanswered_commands, AnswersCommand}
-use Rattle.lt_law_examples.specs.Worked.{Worked}
+use Rattle.lt_law_examples.specs.Worked.{Worked, IsWholeRun, declared_set, declared_client, act, holds, owner}
 use Rattle.lt_law_examples.specs.WorkedOneNode.{never_held, drop_in_family}
 use Rattle.lt_law_examples.specs.WorkedNodes.{try_at_home, change_after_reader}
 use Rattle.lt_law_examples.specs.WorldBusy.{busy_in_another_set}
@@ -42,24 +42,37 @@ UnansweredWait = (script : ScriptData) (run : List Logged) → IsWhole script �
     → unanswered_commands script (take k run) client
     ≡ one_if (is_waiting script (world_after script (take k run)) client)
 
--- and the line with which an unanswered ask of the client will be answered is an answer to that command, the next one
+-- the line ends the ask for its client: with the answer, or since what it waited for was given up
+abbrev pub EndsAsk : ℕ → Ask → Event → Type 0
+EndsAsk s ask line = (line ≡ answer_event s ask) ⊎ (line ≡ Withdrawn ask.client s ask.mode)
+
+-- and each line that may end an unanswered ask that the client didn't give up is an answer to that command, the next one
 abbrev pub AsksAnswerNext : Type 0
 AsksAnswerNext = (script : ScriptData) (run : List Logged) → IsWhole script → IsRun script run
     → (k client s : ℕ) (ask : Ask) → s < length script.sets
     → Contains (state_at (world_after script (take k run)) s (home script client)).pending ask
     → ask.client ≡ client
-    → AnswersAt client (commands_of script client) (length (replies_of client (lines_of (take k run))))
-    (answer_event s ask)
+    → is_gone (state_at (world_after script (take k run)) s (home script client)) client ≡ false
+    → (line : Event) → EndsAsk s ask line
+    → AnswersAt client (commands_of script client) (length (replies_of client (lines_of (take k run)))) line
 
 -- Lines that answer commands, and the replies in worked runs, as literals.
 
--- a `change` is answered by its own line or by `not_held` of the mode that it gives up; a `wait` answers nothing
+-- a `change` is answered by its own line, by `not_held` of the mode that it gives up, or by `withdrawn` or `withheld`; a `wait` and a
+-- `void` answer nothing, and a `withdraw` has an answer of its own
 abbrev pub AnswersToOne : Type 0
 AnswersToOne =
     AnswersCommand 3 (Change 1 Read Write) (Changed 3 1 Read Write)
     × AnswersCommand 3 (Change 1 Read Write) (NotHeld 3 1 Read)
+    × AnswersCommand 3 (Change 1 Read Write) (Withdrawn 3 1 Write)
+    × AnswersCommand 3 (Change 1 Read Write) (Withheld 3 1 Write)
+    × AnswersCommand 3 (Lock 1 Write) (Withdrawn 3 1 Write)
+    × AnswersCommand 3 (Withdraw 2 1) (WithdrawLine 3 2 1 true)
     × (AnswersCommand 3 (Change 1 Read Write) (NotHeld 3 1 Write) → ⊥)
     × (AnswersCommand 3 (Change 1 Read Write) (Wait 3 1 Write) → ⊥)
+    × (AnswersCommand 3 (Change 1 Read Write) (Withdrawn 3 1 Read) → ⊥)
+    × (AnswersCommand 3 (Lock 1 Write) (Void 3 1 Write) → ⊥)
+    × ((got : Bool) → AnswersCommand 3 (Lock 1 Write) (WithdrawLine 3 3 1 got) → ⊥)
 
 -- after the run these are the replies to the client, and so many of its commands are unanswered
 pub record Replied (row : Worked) (client : ℕ) (replies : List Event) (open_count : ℕ) : Type 0 where
@@ -94,3 +107,50 @@ LastUnanswered = Replied busy_in_another_set 4
     (Grant 4 0 Upgrade ∷ Dropped 4 4 1 0 ∷ Unlocked 4 0 Upgrade ∷
     Grant 4 0 IntentionWrite ∷ Unlocked 4 0 IntentionWrite ∷ [])
     1
+
+-- A client that waits is given up by another one, and later gives up itself: the one behind it goes on in the first of these moves.
+abbrev pub given_up_twice : Worked
+given_up_twice = record {
+  script = record {
+    version = 3;
+    nodes = 1;
+    sets = declared_set (codes "s") 0 ∷ [];
+    clients =
+        declared_client (codes "a") 0 ∷
+        declared_client (codes "b") 0 ∷
+        declared_client (codes "c") 0 ∷
+        declared_client (codes "d") 0 ∷
+        [];
+    commands =
+        (0, Lock 0 Read) ∷
+        (1, Lock 0 Write) ∷
+        (2, Lock 0 Read) ∷
+        (3, Withdraw 1 0) ∷
+        (1, Lock 0 Write) ∷
+        (1, Withdraw 1 0) ∷
+        (1, Withdraw 1 0) ∷
+        [];
+  };
+  run =
+      act 1 0 0 (Grant 0 0 Read ∷ []) ∷
+      act 2 0 1 (Wait 1 0 Write ∷ []) ∷
+      act 3 0 2 (Wait 2 0 Read ∷ []) ∷
+      act 4 0 3 (Withdrawn 1 0 Write ∷ WithdrawLine 3 1 0 true ∷ Void 1 0 Write ∷ Grant 2 0 Read ∷ []) ∷
+      act 5 0 1 (Wait 1 0 Write ∷ []) ∷
+      act 6 0 1 (Withdrawn 1 0 Write ∷ WithdrawLine 1 1 0 true ∷ Void 1 0 Write ∷ []) ∷
+      act 7 0 1 (WithdrawLine 1 1 0 false ∷ []) ∷
+      [];
+  held = holds 0 0 Read 1 ∷ holds 2 0 Read 1 ∷ [];
+  waiting = [];
+  owners = owner 0 0 ∷ [];
+}
+
+-- Who gives up itself gets two replies in one move: that to the command that waited, then that to the `withdraw`.
+abbrev pub GivenUpReplied : Type 0
+GivenUpReplied =
+    IsWholeRun given_up_twice
+    × Replied given_up_twice 1
+    (Withdrawn 1 0 Write ∷ Withdrawn 1 0 Write ∷ WithdrawLine 1 1 0 true ∷ WithdrawLine 1 1 0 false ∷ [])
+    0
+    × Replied given_up_twice 2 (Grant 2 0 Read ∷ []) 0
+    × Replied given_up_twice 3 (WithdrawLine 3 1 0 true ∷ []) 0

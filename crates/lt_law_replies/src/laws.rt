@@ -1,4 +1,4 @@
-ghost use Rattle.lt_law_replies.specs.ReplyLaws.{RepliesInTurn, LogInTurn, OneReplyEach, UnansweredWait, AsksAnswerNext, AnswersToOne, NothingHeld, DropsReplied, TriesReplied, ChangeReplied, LastUnanswered};
+ghost use Rattle.lt_law_replies.specs.ReplyLaws.{RepliesInTurn, LogInTurn, OneReplyEach, UnansweredWait, AsksAnswerNext, AnswersToOne, NothingHeld, DropsReplied, TriesReplied, ChangeReplied, LastUnanswered, GivenUpReplied};
 
 /// Each reply to a client answers the command at the same place among its commands, and each command that the client
 /// has made has its reply, but for the last one of a client that waits.
@@ -18,4 +18,5 @@ pub fn law_reply_rows()
     ensures tries { TriesReplied }
     ensures change { ChangeReplied }
     ensures last { LastUnanswered }
+    ensures given_up { GivenUpReplied }
 {}

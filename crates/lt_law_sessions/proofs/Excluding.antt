@@ -8,14 +8,14 @@ use Rattle.std.proofs.Math.Seq.{take-length}
 use Rattle.std.proofs.lemmas.List.Sums.{sum_by-cons}
 use mathlib.Core.List.{IsPrefix}
 use Rattle.lt_modes.specs.declared.command.Command.{Command}
-use Rattle.lt_modes.specs.declared.command.Command.TheVariants.{Lock, Try, Unlock, Change, DropAll}
+use Rattle.lt_modes.specs.declared.command.Command.TheVariants.{Lock, Try, Unlock, Change, DropAll, Withdraw}
 use Rattle.lt_modes.specs.declared.mode.Mode.{Mode}
 use Rattle.lt_modes.specs.Script.{ScriptData}
 use Rattle.lt_modes.specs.declared.event.Event.{Event}
 use Rattle.lt_modes.specs.Modes.{conflicts}
 use Rattle.lt_modes.proofs.ModeAlgebra.{conflicts-sym}
 use Rattle.lt_spec.specs.Holdings.{Holding, holding, same_holding, holdings, lines_of, times_held, agree, IsLawful}
-use Rattle.lt_spec.specs.Script.{IsScript, IsRequest, AnswersInTurn}
+use Rattle.lt_spec.specs.Script.{IsScript, IsRequest, AnswersAt, AnswersInTurn}
 use Rattle.lt_spec.specs.NodeMove.{command_if, commands_of, with_commands}
 use Rattle.lt_spec.specs.World.{Logged, replies_of}
 use Rattle.lt_script.proofs.RoundTrips.{get_in_front}
@@ -24,15 +24,15 @@ use Rattle.lt_law_lines.proofs.LineCounts.{same_holding-itself, lines_count, cou
 use Rattle.lt_law_lines.proofs.KeptLines.{holdings_are_lawful}
 use Rattle.lt_law_replies.proofs.ReplyRuns.{replies_in_turn}
 use Rattle.lt_live.specs.declared.reply.Reply.{Reply}
-use Rattle.lt_live.specs.declared.reply.Reply.TheVariants.{Granted}
+use Rattle.lt_live.specs.declared.reply.Reply.TheVariants.{Granted, True, Changed}
 use Rattle.lt_live.specs.declared.ends.Session.{Session}
 use Rattle.lt_live.specs.Seats.{reply_to, replies_in}
 use Rattle.lt_live.specs.Words.{submitted, polled}
 use Rattle.lt_live.specs.Live.{IsServedRun}
 use Rattle.lt_live.proofs.Finished.{replies_of_lines}
-use Rattle.lt_law_sessions.specs.SessionLaws.{may_take_away, gives, has_after, GrantedIsHad, HadUnlessTaken, StillHolds, StillIsHeld, SessionsExclude}
-use Rattle.lt_law_sessions.proofs.LineEffects.{takes, not_taken, line_given, held_after}
-use Rattle.lt_law_sessions.proofs.GivenLocks.{GivenAt, given_at}
+use Rattle.lt_law_sessions.specs.SessionLaws.{may_take_away, leaves_locks, took_away, gives, has_after, GrantedIsHad, HadUnlessTaken, HadAsBefore, StillHolds, StillIsHeld, SessionsExclude}
+use Rattle.lt_law_sessions.proofs.LineEffects.{takes, not_taken, not_taken_by, line_given, held_after}
+use Rattle.lt_law_sessions.proofs.GivenLocks.{GivenAt, taken_by, given_at}
 
 had_at_last : (script : ScriptData) (client set : ℕ) (mode : Mode) (commands : List Command) (replies : List Reply) (has : Bool) → length replies ≡ length commands
     → has_after script client (holding client set mode) (commands ++ Lock set mode ∷ []) (replies ++ Granted ∷ []) has ≡ true
@@ -42,7 +42,7 @@ had_at_last script client set mode [] (r ∷ rs) has same = absurd (omega (arith
 had_at_last script client set mode (c ∷ cs) [] has same = absurd (omega (arith, same))
 had_at_last script client set mode (c ∷ cs) (r ∷ rs) has same =
     had_at_last script client set mode cs rs
-    (gives client (holding client set mode) c r || (has && not (may_take_away script client (holding client set mode) c))) (omega (arith, same))
+    (gives client (holding client set mode) c r || (has && not (took_away script client (holding client set mode) c r))) (omega (arith, same))
 
 one_more : (script : ScriptData) (client : ℕ) (lock : Holding) (commands : List Command) (replies : List Reply) (command : Command) (has : Bool)
     → length replies ≤ length commands
@@ -52,13 +52,44 @@ one_more script client lock [] (r ∷ rs) command has few = absurd (omega (arith
 one_more script client lock (c ∷ cs) [] command has few =
     one_more script client lock cs [] command (has && not (may_take_away script client lock c)) (omega arith)
 one_more script client lock (c ∷ cs) (r ∷ rs) command has few =
-    one_more script client lock cs rs command (gives client lock c r || (has && not (may_take_away script client lock c))) (omega (arith, few))
+    one_more script client lock cs rs command (gives client lock c r || (has && not (took_away script client lock c r))) (omega (arith, few))
+
+-- a reply that leaves all locks gives none
+none_given : (client : ℕ) (lock : Holding) (command : Command) (reply : Reply) → leaves_locks reply ≡ true → gives client lock command reply ≡ false
+none_given client lock (Lock set mode) Granted e = absurd (false≢true e)
+none_given client lock (Lock set mode) reply e = refl
+none_given client lock (Try set mode) True e = absurd (false≢true e)
+none_given client lock (Try set mode) reply e = refl
+none_given client lock (Change set gives_up mode) Changed e = absurd (false≢true e)
+none_given client lock (Change set gives_up mode) reply e = refl
+none_given client lock (Unlock set mode) reply e = refl
+none_given client lock (DropAll other set) reply e = refl
+none_given client lock (Withdraw other set) reply e = refl
+
+left_by_one : (script : ScriptData) (client : ℕ) (lock : Holding) (commands : List Command) (replies : List Reply) (command : Command) (reply : Reply) (has : Bool)
+    → length replies ≡ length commands → leaves_locks reply ≡ true
+    → has_after script client lock (commands ++ command ∷ []) (replies ++ reply ∷ []) has ≡ has_after script client lock commands replies has
+left_by_one script client lock [] [] command reply has same leaves =
+    ap (λ (b : Bool). b || (has && not (took_away script client lock command reply))) (none_given client lock command reply leaves)
+    ∙ ap (λ (b : Bool). has && not (not b && may_take_away script client lock command)) leaves ∙ alone has
+  where
+    alone : (x : Bool) → (x && true) ≡ x
+    alone true = refl
+    alone false = refl
+left_by_one script client lock [] (r ∷ rs) command reply has same leaves = absurd (omega (arith, same))
+left_by_one script client lock (c ∷ cs) [] command reply has same leaves = absurd (omega (arith, same))
+left_by_one script client lock (c ∷ cs) (r ∷ rs) command reply has same leaves =
+    left_by_one script client lock cs rs command reply (gives client lock c r || (has && not (took_away script client lock c r))) (omega (arith, same)) leaves
 
 pub granted_is_had : GrantedIsHad
 granted_is_had script client set mode commands replies same = had_at_last script client set mode commands replies false same
 
 pub had_unless_taken : HadUnlessTaken
 had_unless_taken script client lock commands replies command few = one_more script client lock commands replies command false few
+
+pub had_as_before : HadAsBefore
+had_as_before script client lock commands replies command reply same leaves =
+    left_by_one script client lock commands replies command reply false same leaves
 
 -- A client that has a command is one of the script.
 
@@ -95,6 +126,7 @@ same_take first commands client lock (Try set mode) = refl
 same_take first commands client lock (Unlock set mode) = refl
 same_take first commands client lock (Change set gives_up mode) = refl
 same_take first commands client lock (DropAll other set) = refl
+same_take first commands client lock (Withdraw other set) = refl
 
 module _ (first script : ScriptData) (sessions : List Session) (run : List Logged) (served : IsServedRun first sessions script run)
     (count : length sessions ≡ length first.clients) where
@@ -103,9 +135,12 @@ module _ (first script : ScriptData) (sessions : List Session) (run : List Logge
       subst (λ (list : List Logged). AnswersInTurn client (commands_of script client) (replies_of client (lines_of list))) (take-length run)
       (replies_in_turn script run (whole script served.is_script) served.is_run (length run) client)
 
+  takes_same : (client : ℕ) (lock : Holding) (command : Command) → may_take_away script client lock command ≡ may_take_away first client lock command
+  takes_same client lock command =
+      ap (λ (s : ScriptData). may_take_away s client lock command) served.same ∙ same_take first script.commands client lock command
+
   takes_not : (client : ℕ) (lock : Holding) (command : Command) → may_take_away first client lock command ≡ false → may_take_away script client lock command ≡ false
-  takes_not client lock command e =
-      ap (λ (s : ScriptData). may_take_away s client lock command) served.same ∙ same_take first script.commands client lock command ∙ e
+  takes_not client lock command e = takes_same client lock command ∙ e
 
   -- a reply to another client doesn't take the lock
   other_takes_not : (client other : ℕ) (s : Session) (lock : Holding) → StillHolds first sessions client s lock → other ≢ client
@@ -126,9 +161,25 @@ module _ (first script : ScriptData) (sessions : List Session) (run : List Logge
       → (at : GivenAt first client lock (submitted s) (polled s))
       → (q : ℕ) (line : Event) → at.place < q → slice_get (replies_of client (lines_of run)) q ≡ Some line → takes script lock line ≡ false
   own_takes_not client s lock here at q line past e =
-      let answers = turn client q line e in
-      let given = in_prefix (commands_of script client) (submitted s) (served.each client s here).commands q answers.0 answers.1 in
-      not_taken script client lock answers.0 line answers.2 (takes_not client lock answers.0 (at.later q answers.0 past given))
+      by_reply (slice_get (polled s) q) refl (at.later q answers.0 past given)
+    where
+      answers : AnswersAt client (commands_of script client) q line
+      answers = turn client q line e
+
+      given : slice_get (submitted s) q ≡ Some answers.0
+      given = in_prefix (commands_of script client) (submitted s) (served.each client s here).commands q answers.0 answers.1
+
+      said : (reply : Reply) → slice_get (polled s) q ≡ Some reply → reply_to client line ≡ Some reply
+      said reply is =
+          sym (ap (option_and_then (reply_to client)) e)
+          ∙ (sym (replies_of_lines client (lines_of run) q)
+          ∙ in_prefix (polled s) (replies_in client (lines_of run)) (served.each client s here).replies q reply is)
+
+      by_reply : (o : Option Reply) → slice_get (polled s) q ≡ o → taken_by first client lock answers.0 o ≡ false → takes script lock line ≡ false
+      by_reply None is free = not_taken script client lock answers.0 line answers.2 (takes_not client lock answers.0 free)
+      by_reply (Some reply) is free =
+          not_taken_by script client lock answers.0 line reply answers.2 (said reply is)
+          (ap (λ (b : Bool). not (leaves_locks reply) && b) (takes_same client lock answers.0) ∙ free)
 
   by_line : (client : ℕ) (s : Session) (lock : Holding) → slice_get sessions client ≡ Some s → StillHolds first sessions client s lock
       → (at : GivenAt first client lock (submitted s) (polled s))

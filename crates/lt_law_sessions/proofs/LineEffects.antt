@@ -1,11 +1,11 @@
 -- Which lines give a lock, and which take it away.
-use Rattle.std.proofs.Common.{◌≡◌, ◌≤◌, ◌+◌, ◌-◌, ℕ, Bool, true, false, Option, Some, None, refl, sym, ap, ◌∙◌, arith, if◌then◌else◌, inl, inr, ◌≢◌, ◌<◌, zero, suc, List, [], ◌∷◌, subst, slice_get, ◌&&◌, fold, eq-eqb}
+use Rattle.std.proofs.Common.{◌≡◌, ◌≤◌, ◌+◌, ◌-◌, ℕ, Bool, true, false, Option, Some, None, refl, sym, ap, ◌∙◌, arith, if◌then◌else◌, inl, inr, ◌≢◌, ◌<◌, zero, suc, List, [], ◌∷◌, subst, slice_get, ◌&&◌, not, fold, eq-eqb}
 use Rattle.std.proofs.lemmas.Bool.{false≢true, cases_eq}
 use Rattle.std.proofs.lemmas.Option.{same_Some}
 use Rattle.lt_modes.specs.declared.command.Command.{Command}
 use Rattle.lt_modes.specs.declared.command.Command.TheVariants as c
 use Rattle.lt_modes.specs.declared.event.Event.{Event}
-use Rattle.lt_modes.specs.declared.event.Event.TheVariants.{Grant, Wait, Try, Unlock, NotHeld, Change, DropAll, Busy, Copy, Freeze, Token}
+use Rattle.lt_modes.specs.declared.event.Event.TheVariants.{Grant, Wait, Try, Unlock, NotHeld, Change, DropAll, Busy, Withdraw, Withdrawn, Void, Withheld, Copy, Freeze, Token}
 use Rattle.lt_modes.specs.Script.{ScriptData}
 use Rattle.lt_spec.specs.Holdings.{Holding, holding, same_holding, is_dropped}
 use Rattle.lt_spec.specs.Script.{AnswersCommand}
@@ -14,7 +14,7 @@ use Rattle.lt_law_lines.proofs.LineCounts.{count_after}
 use Rattle.lt_live.specs.declared.reply.Reply.{Reply}
 use Rattle.lt_live.specs.declared.reply.Reply.TheVariants as r
 use Rattle.lt_live.specs.Seats.{told_if, reply_to}
-use Rattle.lt_law_sessions.specs.SessionLaws.{may_take_away, gives}
+use Rattle.lt_law_sessions.specs.SessionLaws.{may_take_away, leaves_locks, took_away, gives}
 
 -- the line takes the lock away, or may
 abbrev pub takes : ScriptData → Holding → Event → Bool
@@ -62,6 +62,10 @@ stays script lock n (DropAll client other set count) some e = by_test (is_droppe
 stays script lock n (Wait client set mode) some e = some
 stays script lock n (NotHeld client set mode) some e = some
 stays script lock n (Busy client other set) some e = some
+stays script lock n (Withdraw client other set got) some e = some
+stays script lock n (Withdrawn client set mode) some e = some
+stays script lock n (Void client set mode) some e = some
+stays script lock n (Withheld client set mode) some e = some
 stays script lock n (Copy set to client mode) some e = some
 stays script lock n (Freeze set to number modes) some e = some
 stays script lock n (Token set to epoch) some e = some
@@ -89,6 +93,10 @@ given script lock n (DropAll client other set count) e = absurd (false≢true e)
 given script lock n (Wait client set mode) e = absurd (false≢true e)
 given script lock n (NotHeld client set mode) e = absurd (false≢true e)
 given script lock n (Busy client other set) e = absurd (false≢true e)
+given script lock n (Withdraw client other set got) e = absurd (false≢true e)
+given script lock n (Withdrawn client set mode) e = absurd (false≢true e)
+given script lock n (Void client set mode) e = absurd (false≢true e)
+given script lock n (Withheld client set mode) e = absurd (false≢true e)
 given script lock n (Copy set to client mode) e = absurd (false≢true e)
 given script lock n (Freeze set to number modes) e = absurd (false≢true e)
 given script lock n (Token set to epoch) e = absurd (false≢true e)
@@ -96,14 +104,19 @@ given script lock n (Token set to epoch) e = absurd (false≢true e)
 -- the answer to a command that may not take the lock doesn't take it
 pub not_taken : (script : ScriptData) (client : ℕ) (lock : Holding) (command : Command) (line : Event) → AnswersCommand client command line
     → may_take_away script client lock command ≡ false → takes script lock line ≡ false
-not_taken script client lock (c.Lock set mode) line is barred = ap (takes script lock) is
+not_taken script client lock (c.Lock set mode) line (inl is) barred = ap (takes script lock) is
+not_taken script client lock (c.Lock set mode) line (inr (inl is)) barred = ap (takes script lock) is
+not_taken script client lock (c.Lock set mode) line (inr (inr is)) barred = ap (takes script lock) is
 not_taken script client lock (c.Try set mode) line is barred = ap (takes script lock) is.1
 not_taken script client lock (c.Unlock set mode) line (inl is) barred = ap (takes script lock) is ∙ barred
 not_taken script client lock (c.Unlock set mode) line (inr is) barred = ap (takes script lock) is
 not_taken script client lock (c.Change set gives_up mode) line (inl is) barred = ap (takes script lock) is ∙ barred
-not_taken script client lock (c.Change set gives_up mode) line (inr is) barred = ap (takes script lock) is
+not_taken script client lock (c.Change set gives_up mode) line (inr (inl is)) barred = ap (takes script lock) is
+not_taken script client lock (c.Change set gives_up mode) line (inr (inr (inl is))) barred = ap (takes script lock) is
+not_taken script client lock (c.Change set gives_up mode) line (inr (inr (inr is))) barred = ap (takes script lock) is
 not_taken script client lock (c.DropAll other set) line (inl is) barred = ap (takes script lock) is.1 ∙ barred
 not_taken script client lock (c.DropAll other set) line (inr is) barred = ap (takes script lock) is
+not_taken script client lock (c.Withdraw other set) line is barred = ap (takes script lock) is.1
 
 -- what a line of the client's own says to it
 own_word : (client : ℕ) (reply : Reply) → told_if client client reply ≡ Some reply
@@ -116,24 +129,67 @@ some_is x y e = ap (λ (o : Option Reply). or_else o) e
     or_else None = x
     or_else (Some z) = z
 
+-- what another reply says isn't said
+no_word : {A : Type 0} (client : ℕ) (lock : Holding) (command : Command) (line : Event) (told reply : Reply) → reply_to client line ≡ Some told
+    → reply_to client line ≡ Some reply → gives client lock command reply ≡ true → gives client lock command told ≡ false → A
+no_word client lock command line told reply is said holds none =
+    absurd (false≢true (sym none ∙ (ap (gives client lock command) (some_is told reply (sym is ∙ said)) ∙ holds)))
+
+-- the line with which a command is answered doesn't take the lock either where its reply says that it left all locks
+pub not_taken_by : (script : ScriptData) (client : ℕ) (lock : Holding) (command : Command) (line : Event) (reply : Reply) → AnswersCommand client command line
+    → reply_to client line ≡ Some reply → took_away script client lock command reply ≡ false → takes script lock line ≡ false
+not_taken_by script client lock command line reply is said barred = by_command command is barred
+  where
+    -- another reply may be one to a command that takes the lock
+    alone : (asked : Command) (told : Reply) → reply_to client line ≡ Some told → leaves_locks told ≡ false → took_away script client lock asked reply ≡ false
+        → may_take_away script client lock asked ≡ false
+    alone asked told there none free =
+        sym (ap (λ (b : Bool). not b && may_take_away script client lock asked) none)
+        ∙ (ap (λ (word : Reply). took_away script client lock asked word) (some_is told reply (sym there ∙ said)) ∙ free)
+
+    by_command : (asked : Command) → AnswersCommand client asked line → took_away script client lock asked reply ≡ false → takes script lock line ≡ false
+    by_command (c.Lock set mode) answers free = not_taken script client lock (c.Lock set mode) line answers refl
+    by_command (c.Try set mode) answers free = not_taken script client lock (c.Try set mode) line answers refl
+    by_command (c.Unlock set mode) (inl answers) free = ap (takes script lock) answers
+        ∙ alone (c.Unlock set mode) r.Unlocked (ap (reply_to client) answers ∙ own_word client r.Unlocked) refl free
+    by_command (c.Unlock set mode) (inr answers) free = ap (takes script lock) answers
+    by_command (c.Change set gives_up mode) (inl answers) free = ap (takes script lock) answers
+        ∙ alone (c.Change set gives_up mode) r.Changed (ap (reply_to client) answers ∙ own_word client r.Changed) refl free
+    by_command (c.Change set gives_up mode) (inr (inl answers)) free = ap (takes script lock) answers
+    by_command (c.Change set gives_up mode) (inr (inr (inl answers))) free = ap (takes script lock) answers
+    by_command (c.Change set gives_up mode) (inr (inr (inr answers))) free = ap (takes script lock) answers
+    by_command (c.DropAll other set) (inl answers) free = ap (takes script lock) answers.1
+        ∙ alone (c.DropAll other set) (r.Dropped answers.0) (ap (reply_to client) answers.1 ∙ own_word client (r.Dropped answers.0)) refl free
+    by_command (c.DropAll other set) (inr answers) free = ap (takes script lock) answers
+    by_command (c.Withdraw other set) answers free = not_taken script client lock (c.Withdraw other set) line answers refl
+
 -- the line with which a command is answered gives the lock, where its reply says so
 pub line_given : (client : ℕ) (lock : Holding) (command : Command) (line : Event) (reply : Reply) → AnswersCommand client command line
     → reply_to client line ≡ Some reply → gives client lock command reply ≡ true → line_gives lock line ≡ true
-line_given client lock (c.Lock set mode) line reply is said holds = ap (line_gives lock) is ∙ holds
+line_given client lock (c.Lock set mode) line reply (inl is) said holds =
+    let word : r.Granted ≡ reply = some_is r.Granted reply (sym (ap (reply_to client) is ∙ own_word client r.Granted) ∙ said) in
+    ap (line_gives lock) is ∙ (ap (gives client lock (c.Lock set mode)) word ∙ holds)
+line_given client lock (c.Lock set mode) line reply (inr (inl is)) said holds =
+    no_word client lock (c.Lock set mode) line r.Withdrawn reply (ap (reply_to client) is ∙ own_word client r.Withdrawn) said holds refl
+line_given client lock (c.Lock set mode) line reply (inr (inr is)) said holds =
+    no_word client lock (c.Lock set mode) line r.Withheld reply (ap (reply_to client) is ∙ own_word client r.Withheld) said holds refl
 line_given client lock (c.Try set mode) line reply (true, is) said holds =
     let word : r.True ≡ reply = some_is r.True reply (sym (ap (reply_to client) is ∙ own_word client r.True) ∙ said) in
     ap (line_gives lock) is ∙ (ap (gives client lock (c.Try set mode)) word ∙ holds)
 line_given client lock (c.Try set mode) line reply (false, is) said holds =
-    let word : r.False ≡ reply = some_is r.False reply (sym (ap (reply_to client) is ∙ own_word client r.False) ∙ said) in
-    absurd (false≢true (ap (gives client lock (c.Try set mode)) word ∙ holds))
+    no_word client lock (c.Try set mode) line r.False reply (ap (reply_to client) is ∙ own_word client r.False) said holds refl
 line_given client lock (c.Unlock set mode) line reply is said holds = absurd (false≢true holds)
 line_given client lock (c.Change set gives_up mode) line reply (inl is) said holds =
     let word : r.Changed ≡ reply = some_is r.Changed reply (sym (ap (reply_to client) is ∙ own_word client r.Changed) ∙ said) in
     ap (line_gives lock) is ∙ (ap (gives client lock (c.Change set gives_up mode)) word ∙ holds)
-line_given client lock (c.Change set gives_up mode) line reply (inr is) said holds =
-    let word : r.NotHeld ≡ reply = some_is r.NotHeld reply (sym (ap (reply_to client) is ∙ own_word client r.NotHeld) ∙ said) in
-    absurd (false≢true (ap (gives client lock (c.Change set gives_up mode)) word ∙ holds))
+line_given client lock (c.Change set gives_up mode) line reply (inr (inl is)) said holds =
+    no_word client lock (c.Change set gives_up mode) line r.NotHeld reply (ap (reply_to client) is ∙ own_word client r.NotHeld) said holds refl
+line_given client lock (c.Change set gives_up mode) line reply (inr (inr (inl is))) said holds =
+    no_word client lock (c.Change set gives_up mode) line r.Withdrawn reply (ap (reply_to client) is ∙ own_word client r.Withdrawn) said holds refl
+line_given client lock (c.Change set gives_up mode) line reply (inr (inr (inr is))) said holds =
+    no_word client lock (c.Change set gives_up mode) line r.Withheld reply (ap (reply_to client) is ∙ own_word client r.Withheld) said holds refl
 line_given client lock (c.DropAll other set) line reply is said holds = absurd (false≢true holds)
+line_given client lock (c.Withdraw other set) line reply is said holds = absurd (false≢true holds)
 
 -- A lock that a reply gave stays held while no line takes it.
 
@@ -172,6 +228,10 @@ first_takes_not script lock (Wait client set mode) rest none = refl
 first_takes_not script lock (Try client set mode got) rest none = refl
 first_takes_not script lock (NotHeld client set mode) rest none = refl
 first_takes_not script lock (Busy client other set) rest none = refl
+first_takes_not script lock (Withdraw client other set got) rest none = refl
+first_takes_not script lock (Withdrawn client set mode) rest none = refl
+first_takes_not script lock (Void client set mode) rest none = refl
+first_takes_not script lock (Withheld client set mode) rest none = refl
 first_takes_not script lock (Copy set to client mode) rest none = refl
 first_takes_not script lock (Freeze set to number modes) rest none = refl
 first_takes_not script lock (Token set to epoch) rest none = refl

@@ -1,14 +1,14 @@
 -- What a client holds still, by what was submitted and polled at the sessions alone.
 use Rattle.std.specs.Prelude.{◌≡◌, ◌≢◌, ◌&&◌, ◌||◌, not, Bool, true, false, ℕ, List, [], ◌∷◌, Some, slice_get, ◌≤◌, ◌++◌, length}
 use Rattle.lt_modes.specs.declared.command.Command.{Command}
-use Rattle.lt_modes.specs.declared.command.Command.TheVariants.{Lock, Try, Unlock, Change, DropAll}
+use Rattle.lt_modes.specs.declared.command.Command.TheVariants.{Lock, Try, Unlock, Change, DropAll, Withdraw}
 use Rattle.lt_modes.specs.Script.{ScriptData}
 use Rattle.lt_modes.specs.declared.mode.Mode.{Mode}
 use Rattle.lt_modes.specs.Modes.{conflicts}
 use Rattle.lt_spec.specs.Holdings.{Holding, holding, same_holding, is_dropped, holdings, lines_of, times_held}
 use Rattle.lt_spec.specs.World.{Logged}
 use Rattle.lt_live.specs.declared.reply.Reply.{Reply}
-use Rattle.lt_live.specs.declared.reply.Reply.TheVariants.{True, Changed, Granted}
+use Rattle.lt_live.specs.declared.reply.Reply.TheVariants.{True, False, Changed, Granted, NotHeld, Busy, Withdrawn, Withheld}
 use Rattle.lt_live.specs.declared.ends.Session.{Session}
 use Rattle.lt_live.specs.Words.{submitted, polled}
 use Rattle.lt_live.specs.Live.{IsServedRun}
@@ -20,24 +20,39 @@ may_take_away script client lock (Try set mode) = false
 may_take_away script client lock (Unlock set mode) = same_holding lock (holding client set mode)
 may_take_away script client lock (Change set gives_up mode) = same_holding lock (holding client set gives_up)
 may_take_away script client lock (DropAll other set) = is_dropped script other set lock
+may_take_away script client lock (Withdraw other set) = false
+
+-- a command with this reply has left all locks as they were
+abbrev pub leaves_locks : Reply → Bool
+leaves_locks False = true
+leaves_locks NotHeld = true
+leaves_locks Busy = true
+leaves_locks Withdrawn = true
+leaves_locks Withheld = true
+leaves_locks reply = false
+
+-- this command of the client, which has this reply, may have taken the lock away
+abbrev pub took_away : ScriptData → ℕ → Holding → Command → Reply → Bool
+took_away script client lock command reply = not (leaves_locks reply) && may_take_away script client lock command
 
 -- this reply to this command of the client says that it has the lock now
 abbrev pub gives : ℕ → Holding → Command → Reply → Bool
-gives client lock (Lock set mode) reply = same_holding lock (holding client set mode)
+gives client lock (Lock set mode) Granted = same_holding lock (holding client set mode)
 gives client lock (Try set mode) True = same_holding lock (holding client set mode)
 gives client lock (Change set gives_up mode) Changed = same_holding lock (holding client set mode)
 gives client lock command reply = false
 
--- whether the client has the lock after these commands and the replies to the first of them, where it had it before, or not: a
--- command that has no reply yet counts if it may take the lock, and not if it may give it
+-- whether the client has the lock after these commands and the replies to the first of them, where it had it before,
+-- or not: a command that has no reply yet counts if it may take the lock, and not if it may give it; one that was
+-- refused or given up takes nothing
 abbrev pub has_after : ScriptData → ℕ → Holding → List Command → List Reply → Bool → Bool
 has_after script client lock [] replies has = has
 has_after script client lock (c ∷ cs) [] has = has_after script client lock cs [] (has && not (may_take_away script client lock c))
 has_after script client lock (c ∷ cs) (r ∷ rs) has =
-    has_after script client lock cs rs (gives client lock c r || (has && not (may_take_away script client lock c)))
+    has_after script client lock cs rs (gives client lock c r || (has && not (took_away script client lock c r)))
 
--- by what was submitted and polled at its session the client has the lock; and no command that was submitted at another session
--- drops it, whether it was made or not
+-- by what was submitted and polled at its session the client has the lock; and no command that was submitted at
+-- another session drops it, whether it was made or not
 pub record StillHolds (script : ScriptData) (sessions : List Session) (client : ℕ) (s : Session) (lock : Holding) : Type 0 where
   pub has : has_after script client lock (submitted s) (polled s) false ≡ true
   pub others : (other : ℕ) (t : Session) (k : ℕ) (c : Command) → other ≢ client → slice_get sessions other ≡ Some t
@@ -71,3 +86,11 @@ HadUnlessTaken = (script : ScriptData) (client : ℕ) (lock : Holding) (commands
     → length replies ≤ length commands
     → has_after script client lock (commands ++ command ∷ []) replies false
     ≡ (has_after script client lock commands replies false && not (may_take_away script client lock command))
+
+-- and after a further command that was refused or given up it has what it had: so the old lock after a `change` that
+-- was given up
+abbrev pub HadAsBefore : Type 0
+HadAsBefore = (script : ScriptData) (client : ℕ) (lock : Holding) (commands : List Command) (replies : List Reply) (command : Command) (reply : Reply)
+    → length replies ≡ length commands → leaves_locks reply ≡ true
+    → has_after script client lock (commands ++ command ∷ []) (replies ++ reply ∷ []) false
+    ≡ has_after script client lock commands replies false

@@ -1,4 +1,4 @@
-ghost use Rattle.lt_law_sessions.specs.SessionLaws.{StillIsHeld, SessionsExclude, GrantedIsHad, HadUnlessTaken};
+ghost use Rattle.lt_law_sessions.specs.SessionLaws.{StillIsHeld, SessionsExclude, GrantedIsHad, HadUnlessTaken, HadAsBefore};
 
 /// Locks of one set that two clients hold still, by what was submitted and polled at all sessions, don't conflict.
 ///
@@ -8,4 +8,5 @@ pub fn law_sessions_exclude()
     ensures exclude { SessionsExclude }
     ensures granted { GrantedIsHad }
     ensures kept { HadUnlessTaken }
+    ensures as_before { HadAsBefore }
 {}

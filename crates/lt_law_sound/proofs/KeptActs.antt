@@ -1,5 +1,5 @@
 -- What else a node keeps for a set, through a command and through what a letter says.
-use Rattle.std.proofs.Common.{◌≡◌, ℕ, ◌<◌, [], ◌∷◌, ◌++◌, length, Option, None, Bool, true, false, refl, not, nat_lt, if◌then◌else◌, Contains}
+use Rattle.std.proofs.Common.{◌≡◌, ℕ, ◌<◌, List, [], ◌∷◌, ◌++◌, length, Option, None, Bool, true, false, refl, not, nat_lt, if◌then◌else◌, All, Contains}
 use Rattle.std.proofs.lemmas.List.Elements.{All-push, All-filter, All-contains, All-nil}
 use Rattle.lt_modes.specs.declared.mode.Mode.{Mode}
 use Rattle.lt_modes.specs.declared.stamp.Stamp.{Stamp}
@@ -8,13 +8,15 @@ use Rattle.lt_modes.specs.declared.parts.Link.{Link}
 use Rattle.lt_modes.specs.Modes.{Modes, is_of, take_lock}
 use Rattle.lt_modes.specs.Script.{ScriptData}
 use Rattle.lt_modes.specs.State.{SetState, Desk, ParkedAsk}
+use Rattle.lt_modes.specs.Serving.{is_gone}
 use Rattle.lt_modes.specs.SetMove.{learn, given, ask_of, asked, dropped, take_copy, take_freeze, take_token}
 use Rattle.lt_modes.specs.Fits.{numbers_of}
 use Rattle.lt_modes.specs.Sound.{SoundParked}
 use Rattle.lt_spec.specs.NodeMove.{home}
 use Rattle.lt_model.specs.Homes.{IsRowAtHome, IsAskOf}
 use Rattle.lt_model.proofs.HomesRows.{more_home, less_home, give_up_home, answered_home, without_home}
-use Rattle.lt_law_invariant.proofs.RowsApart.{single_taken, single_dropped, single_answered}
+use Rattle.lt_model.proofs.Voids.{copy_by}
+use Rattle.lt_law_invariant.proofs.RowsApart.{Single, single_taken, single_dropped, single_answered}
 use Rattle.lt_law_sound.proofs.KeptParts.{Kept, all_dealt_timed, route_kept}
 
 -- Commands.
@@ -53,6 +55,21 @@ pub dropped_kept : (script : ScriptData) (q clock client : ℕ) (moving unfrozen
 dropped_kept script q clock client moving unfrozen t h = record {
   rows = All-filter (λ row. not (is_of client row)) (IsRowAtHome script q) t.held h.rows;
   single = single_dropped t.held client h.single;
+  own = h.own;
+  epoch = h.epoch;
+  number = h.number;
+  firm = h.firm;
+  hoped = h.hoped;
+  parked = h.parked;
+  desk = h.desk;
+}
+
+-- other asks may be given up
+pub marked_kept : (script : ScriptData) (q clock : ℕ) (moving unfrozen : Bool) (gone : List ℕ) (t : SetState) → Kept script q moving unfrozen clock t
+    → Kept script q moving unfrozen clock (record t { gone = gone })
+marked_kept script q clock moving unfrozen gone t h = record {
+  rows = h.rows;
+  single = h.single;
   own = h.own;
   epoch = h.epoch;
   number = h.number;
@@ -102,17 +119,28 @@ learn_kept script q clock link t below earlier h = by_test (nat_lt t.firm.epoch 
 
 pub copy_kept : (script : ScriptData) (q clock set : ℕ) (a : Ask) (t : SetState) → Contains t.pending a → Kept script q true true clock t
     → Kept script q true true clock (take_copy set a t).state
-copy_kept script q clock set a t there h = record {
-  rows = answered_home script q a t.held (All-contains (IsAskOf script q) t.pending a h.own there) h.rows;
-  single = single_answered t.held a.client a.mode a.gives_up h.single;
-  own = without_home (IsAskOf script q) t.pending a.stamp h.own;
-  epoch = h.epoch;
-  number = h.number;
-  firm = h.firm;
-  hoped = h.hoped;
-  parked = h.parked;
-  desk = h.desk;
-}
+copy_kept script q clock set a t there h = by_gone (is_gone t a.client)
+  where
+    rows : (gone : Bool) → All (IsRowAtHome script q) (copy_by set a t gone).state.held
+    rows true = h.rows
+    rows false = answered_home script q a t.held (All-contains (IsAskOf script q) t.pending a h.own there) h.rows
+
+    single : (gone : Bool) → Single (copy_by set a t gone).state.held
+    single true = h.single
+    single false = single_answered t.held a.client a.mode a.gives_up h.single
+
+    by_gone : (gone : Bool) → Kept script q true true clock (copy_by set a t gone).state
+    by_gone gone = record {
+      rows = rows gone;
+      single = single gone;
+      own = without_home (IsAskOf script q) t.pending a.stamp h.own;
+      epoch = h.epoch;
+      number = h.number;
+      firm = h.firm;
+      hoped = h.hoped;
+      parked = h.parked;
+      desk = h.desk;
+    }
 
 pub token_kept : (script : ScriptData) (q clock : ℕ) (desk : Desk) (t : SetState) → q < script.nodes → desk.epoch < clock → desk.number < clock
     → length desk.entries ≡ script.nodes → Kept script q true true clock t → Kept script q true true clock (take_token q desk t)

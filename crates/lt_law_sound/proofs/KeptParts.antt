@@ -8,7 +8,7 @@ use Rattle.lt_modes.specs.declared.ask.Ask.{Ask}
 use Rattle.lt_modes.specs.Modes.{excludes_itself, bars, held_modes, same_modes}
 use Rattle.lt_modes.specs.Script.{ScriptData}
 use Rattle.lt_modes.specs.State.{SetState, Desk, Parked, ParkedAsk, ParkedTell, Made, entry_of}
-use Rattle.lt_modes.specs.Serving.{ask_at, put_queue, owed_at, owing, served, serve_copy, hand_over_to, told}
+use Rattle.lt_modes.specs.Serving.{ask_at, is_gone, put_queue, owed_at, owing, served, serve_copy, hand_over_to, told}
 use Rattle.lt_modes.specs.Freezing.{freeze, freeze_at, frozen_by, frozen_entry, targets, number_after}
 use Rattle.lt_modes.specs.SetMove.{Way, Parks, Goes, dealt, reversed, sent_on, route, tell_of, make_tell}
 use Rattle.lt_modes.specs.Fits.{numbers_of}
@@ -18,6 +18,7 @@ use Rattle.lt_model.specs.Homes.{IsRowAtHome, IsAskOf}
 use Rattle.lt_model.proofs.Effects.{route_ways}
 use Rattle.lt_model.proofs.HomesRows.{answered_home, without_home}
 use Rattle.lt_model.proofs.PathsQuiet.{length-map_from}
+use Rattle.lt_model.proofs.Voids.{local_by}
 use Rattle.lt_law_invariant.proofs.OwnSteps.{route_same}
 use Rattle.lt_law_invariant.proofs.Seen.{SameOwn}
 use Rattle.lt_law_invariant.proofs.RowsApart.{Single, single_answered}
@@ -67,14 +68,26 @@ all_dealt_timed nodes clock moving unfrozen parked (item ∷ rest) desk h =
 
 -- The end of a move.
 
--- an ask of the node is granted
+-- an ask of the node is answered, which was given up or not
 pub local_kept : (script : ScriptData) (q clock k : ℕ) (moving unfrozen : Bool) (t : SetState) → Contains t.pending (ask_at t k)
     → Kept script q moving unfrozen clock t → Kept script q moving unfrozen clock (served t k)
-local_kept script q clock k moving unfrozen t there h =
-    let a = ask_at t k in
-    record {
-      rows = answered_home script q a t.held (All-contains (IsAskOf script q) t.pending a h.own there) h.rows;
-      single = single_answered t.held a.client a.mode a.gives_up h.single;
+local_kept script q clock k moving unfrozen t there h = by_gone (is_gone t (ask_at t k).client)
+  where
+    a : Ask
+    a = ask_at t k
+
+    rows : (gone : Bool) → All (IsRowAtHome script q) (local_by 0 k t gone).state.held
+    rows true = h.rows
+    rows false = answered_home script q a t.held (All-contains (IsAskOf script q) t.pending a h.own there) h.rows
+
+    single : (gone : Bool) → Single (local_by 0 k t gone).state.held
+    single true = h.single
+    single false = single_answered t.held a.client a.mode a.gives_up h.single
+
+    by_gone : (gone : Bool) → Kept script q moving unfrozen clock (local_by 0 k t gone).state
+    by_gone gone = record {
+      rows = rows gone;
+      single = single gone;
       own = without_home (IsAskOf script q) t.pending a.stamp h.own;
       epoch = h.epoch;
       number = h.number;

@@ -5,6 +5,7 @@ pub mod SoundParts
 pub mod SetMoves
 pub mod TakeMoves
 pub mod MadeCounts
+pub mod NodeParts
 pub mod NodeMoves
 pub mod Room
 pub mod OwnMoves

@@ -2,7 +2,7 @@
 use Rattle.std.proofs.Common.{◌≡◌, ℕ, List, [], ◌∷◌, Option, Some, None, Bool, true, false, refl}
 use Rattle.lt_modes.specs.declared.stamp.Stamp.{Stamp}
 use Rattle.lt_modes.specs.declared.command.Command.{Command}
-use Rattle.lt_modes.specs.declared.command.Command.TheVariants.{Lock, Unlock, Try, Change, DropAll}
+use Rattle.lt_modes.specs.declared.command.Command.TheVariants.{Lock, Unlock, Try, Change, DropAll, Withdraw}
 use Rattle.lt_modes.specs.Script.{ScriptData}
 use Rattle.lt_modes.specs.State.{SetState, Made}
 use Rattle.lt_modes.specs.SetMove.{finish, drop}
@@ -25,5 +25,6 @@ obey_counts script stamp client (Some (Lock s mode)) n c = refl
 obey_counts script stamp client (Some (Try s mode)) n c = refl
 obey_counts script stamp client (Some (Unlock s mode)) n c = refl
 obey_counts script stamp client (Some (Change s gives_up mode)) n c = refl
+obey_counts script stamp client (Some (Withdraw other s)) n c = refl
 obey_counts script stamp client (Some (DropAll other s)) n c =
     drop_counts (node_waits script n other) stamp client other s (related script s) n c

@@ -1,85 +1,35 @@
 -- Each move of a sound node leaves it sound.
-use Rattle.std.proofs.Common.{◌≡◌, ◌≢◌, ℕ, ◌+◌, ◌<◌, ◌≤◌, inl, inr, List, [], length, Option, Some, None, Bool, true, false, refl, sym, ap, subst, arith, ◌⊎◌, ◌==◌, not, if◌then◌else◌, count_by, eq-eqb, ne_eqb}
+use Rattle.std.proofs.Common.{◌≡◌, ◌≢◌, ℕ, ◌+◌, ◌<◌, ◌≤◌, inl, inr, [], length, Option, Some, None, Bool, true, false, refl, sym, ap, subst, arith, ◌∙◌, ◌⊎◌, ◌==◌, ◌||◌, not, if◌then◌else◌, count_by, eq-eqb, ne_eqb}
 use Rattle.std.specs.List.{AllByRecursion}
 use Rattle.std.proofs.lemmas.Bool.{cases_eq, and_parts}
-use Rattle.std.proofs.lemmas.List.Elements.{All-contains, All-weaker}
-use Rattle.lt_modes.specs.declared.mode.Mode.{Mode}
 use Rattle.lt_modes.specs.declared.stamp.Stamp.{Stamp}
-use Rattle.lt_modes.specs.declared.ask.Ask.{Ask}
-use Rattle.lt_modes.specs.declared.parts.Row.{Row}
 use Rattle.lt_modes.specs.declared.command.Command.{Command}
-use Rattle.lt_modes.specs.declared.command.Command.TheVariants.{Lock, Unlock, Try, Change, DropAll}
+use Rattle.lt_modes.specs.declared.command.Command.TheVariants.{Lock, Unlock, Try, Change, DropAll, Withdraw}
 use Rattle.lt_modes.specs.Script.{ScriptData}
-use Rattle.lt_modes.specs.State.{SetState, Made}
-use Rattle.lt_modes.specs.SetMove.{finish, lock, try, unlock, change, drop, take}
+use Rattle.lt_modes.specs.State.{SetState}
+use Rattle.lt_modes.specs.Serving.{is_gone}
+use Rattle.lt_modes.specs.SetMove.{finish, lock, try, unlock, change, drop, withdraw, take}
 use Rattle.lt_modes.specs.Fits.{head_fits, body_fits, numbers_of}
-use Rattle.lt_modes.specs.Sound.{SoundRow, HoldsGivenUp, SoundPending, SoundSet}
+use Rattle.lt_modes.specs.Sound.{SoundSet}
 use Rattle.lt_lists.specs.Below.{put}
 use Rattle.lt_lists.proofs.Puts.{put-same, put-other}
 use Rattle.lt_lists.proofs.Sums.{sum_below-none}
-use Rattle.lt_spec.specs.NodeMove.{home, related, NodeState, node_waits, has_command, next_command, act_stamp, take_stamp, at_clock, one_made, drop_all, obey, node_take, IsWhole, HasTargetsAt}
+use Rattle.lt_spec.specs.NodeMove.{home, related, NodeState, node_waits, is_free_at, withdraws_itself, has_command, next_command, act_stamp, take_stamp, at_clock, one_made, drop_all, obey, node_take, IsWhole, HasTargetsAt}
 use Rattle.lt_model.specs.Invariant.{unanswered_asks, SoundNode}
 use Rattle.lt_model.proofs.Effects.{Fact}
 use Rattle.lt_model.proofs.NodeEffects.{obey-stamped, each-beside, IsOnce, once_or_aside, each_by_effects}
 use Rattle.lt_model.proofs.HomesMove.{next_targets}
 use Rattle.lt_model.proofs.SentInMove.{finish-sent, drop-sent}
 use Rattle.lt_model.proofs.StartKept.{start_kept}
-use Rattle.lt_law_invariant.proofs.ClientEffects.{GivenBy}
-use Rattle.lt_law_invariant.proofs.ClientCommands.{count_within, one_for}
-use Rattle.lt_law_invariant.proofs.ClientMoves.{SoundClients, bonus_at, node_after, at_first, idle_in}
+use Rattle.lt_law_invariant.proofs.ClientEffects.{live_by}
+use Rattle.lt_law_invariant.proofs.ClientCommands.{one_for}
+use Rattle.lt_law_invariant.proofs.ClientMoves.{bonus_at, bonus_of, node_after, at_first, idle_in}
 use Rattle.lt_law_sound.specs.SoundLaws.{CommandsKeepSound, TakesKeepSound, SoundAtStart, SoundInWorlds}
 use Rattle.lt_law_sound.proofs.MadeCounts.{obey_counts}
+use Rattle.lt_law_sound.proofs.NodeParts.{clients_of, widened, untouched, one_touched}
 use Rattle.lt_law_sound.proofs.SoundParts.{Outcome, sound_later}
-use Rattle.lt_law_sound.proofs.SetMoves.{Begun, CommandsDone, finish_outcome, drop_outcome, commands_outcome}
+use Rattle.lt_law_sound.proofs.SetMoves.{Begun, CommandsDone, finish_outcome, drop_outcome, withdraw_outcome, commands_outcome}
 use Rattle.lt_law_sound.proofs.TakeMoves.{HeadTold, head_told, Taken, take_outcome}
-
--- what clients of a sound node hold and wait for
-pub clients_of : (script : ScriptData) (q : ℕ) (n : NodeState) → SoundNode script q n → SoundClients script n
-clients_of script q n h = record {
-  kept = h.clients;
-  gives =
-      λ s under ask there. given (n.set s).held ask.gives_up ask.client
-      (All-contains (SoundPending (numbers_of script) q (n.set s).held) (n.set s).pending ask (h.sets s under).pending there).gives_up;
-  some = λ s under. All-weaker (SoundRow (numbers_of script) q) (λ (row : Row). 1 ≤ row.count) (λ row own. own.count) (n.set s).held (h.sets s under).rows;
-}
-  where
-    given : (rows : List Row) (o : Option Mode) (client : ℕ) → HoldsGivenUp rows client o → GivenBy rows client o
-    given rows None client held = tt
-    given rows (Some mode) client held = omega (arith, held, count_within rows client mode)
-
--- more may be allowed
-widened : (script : ScriptData) (q clock : ℕ) (bonus more : ℕ → ℕ) (t u : SetState) → ((c : ℕ) → bonus c ≤ more c)
-    → Outcome script q clock bonus t u → Outcome script q clock more t u
-widened script q clock bonus more t u grows h = record {
-  sound = h.sound;
-  clients = record {
-    asks = λ c. omega (arith, h.clients.asks c, grows c);
-    counts = λ c. omega (arith, h.clients.counts c, grows c);
-    one = h.clients.one;
-    gives = h.clients.gives;
-    some = h.clients.some;
-  };
-}
-
--- a set that isn't touched
-untouched : (script : ScriptData) (q clock s : ℕ) (n : NodeState) → n.clock ≤ clock → SoundNode script q n → s < length script.sets
-    → Outcome script q clock (λ c. 0) (n.set s) (n.set s)
-untouched script q clock s n later h under = record {
-  sound = sound_later script q n.clock clock (n.set s) later (h.sets s under);
-  clients = at_first script n (clients_of script q n h) s under;
-}
-
--- one set of the node is in this state now
-one_touched : (script : ScriptData) (q clock set : ℕ) (bonus : ℕ → ℕ) (n : NodeState) (m : Made) → n.clock ≤ clock → SoundNode script q n
-    → Outcome script q clock bonus (n.set set) m.state → (s : ℕ) → s < length script.sets
-    → Outcome script q clock (bonus_at set bonus s) (n.set s) (put n.set set m.state s)
-one_touched script q clock set bonus n m later h ended s under = elim (cases_eq s set) [
-  | inl e ↦ subst (λ (k : ℕ). Outcome script q clock (bonus_at set bonus k) (n.set k) (put n.set set m.state k)) (sym e)
-      (subst (λ (b : Bool). Outcome script q clock (λ c. if b then bonus c else 0) (n.set set) (put n.set set m.state set)) (sym (eq-eqb set set refl))
-      (subst (Outcome script q clock bonus (n.set set)) (sym (put-same n.set set m.state)) ended))
-  | inr d ↦ widened script q clock (λ c. 0) (bonus_at set bonus s) (n.set s) (put n.set set m.state s) (λ c. omega arith)
-      (subst (Outcome script q clock (λ c. 0) (n.set s)) (sym (put-other n.set set m.state s d)) (untouched script q clock s n later h under))
-]
 
 -- A command.
 
@@ -89,7 +39,6 @@ record Acting (script : ScriptData) (q client : ℕ) (n : NodeState) : Type 0 wh
   below : q < script.nodes
   known : client < length script.clients
   own : home script client ≡ q
-  idle : node_waits script n client ≡ false
   sound : SoundNode script q n
 
 -- the node as the command begins
@@ -106,19 +55,19 @@ begun_of script q client s n a under = record {
   clients = at_first script n (clients_of script q n a.sound) s under;
 }
 
-commands_of_set : (script : ScriptData) (q client s : ℕ) (n : NodeState) → Acting script q client n → s < length script.sets
-    → CommandsDone script s (act_stamp q n) client (n.set s)
-commands_of_set script q client s n a under =
-    commands_outcome script s n.clock client (act_stamp q n) (n.set s) a.known a.own (idle_in script n client a.idle s under)
+commands_of_set : (script : ScriptData) (q client s : ℕ) (n : NodeState) → Acting script q client n → node_waits script n client ≡ false
+    → s < length script.sets → CommandsDone script s (act_stamp q n) client (n.set s)
+commands_of_set script q client s n a none under =
+    commands_outcome script s n.clock client (act_stamp q n) (n.set s) a.known a.own (idle_in script n client none s under)
     (begun_of script q client s n a under)
 
 -- what each set of the node is after the command, and which one may have more
-abbrev Each : (script : ScriptData) (q client : ℕ) (n later : NodeState) → ℕ → Type 0
-Each script q client n later set = (s : ℕ) → s < length script.sets → Outcome script q (n.clock + 1) (bonus_at set (one_for client) s) (n.set s) (later.set s)
+abbrev Each : (script : ScriptData) (q : ℕ) (bonus : ℕ → ℕ) (n later : NodeState) → ℕ → Type 0
+Each script q bonus n later set = (s : ℕ) → s < length script.sets → Outcome script q (n.clock + 1) (bonus_at set bonus s) (n.set s) (later.set s)
 
 -- all locks of a client are dropped in a family, or none where it waits
 drops_each : (script : ScriptData) (q client other set : ℕ) (n : NodeState) → Acting script q client n
-    → Each script q client n (drop_all (node_waits script (begins client n) other) (act_stamp q n) client other set (related script set) (begins client n)).node 0
+    → Each script q (one_for client) n (drop_all (node_waits script (begins client n) other) (act_stamp q n) client other set (related script set) (begins client n)).node 0
 drops_each script q client other set n a s under =
     widened script q (n.clock + 1) (λ c. 0) (bonus_at 0 (one_for client) s) (n.set s) _ (λ c. omega arith)
     (by_waits (node_waits script (begins client n) other) refl (once_or_aside script s (Some (DropAll other set))))
@@ -160,29 +109,35 @@ drops_each script q client other set n a s under =
         subst (Outcome script q (n.clock + 1) (λ c. 0) (n.set s)) (sym (each-beside s stamp (λ k. drop k stamp other) (λ k t. drop-sent k stamp other t)
         (related script set) aside (begins client n)).state) stays
 
-obeys_each : (script : ScriptData) (q client : ℕ) (n : NodeState) (command : Command) → Acting script q client n → HasTargetsAt script client command
-    → (set : ℕ) × Each script q client n (obey script (act_stamp q n) client (Some command) (begins client n)).node set
-obeys_each script q client n (Lock set mode) a under = (
+obeys_each : (script : ScriptData) (q client : ℕ) (n : NodeState) (command : Command) → Acting script q client n
+    → (withdraws_itself n client (Some command) ≡ false → node_waits script n client ≡ false) → HasTargetsAt script client command
+    → (set : ℕ) × Each script q (bonus_of client command) n (obey script (act_stamp q n) client (Some command) (begins client n)).node set
+obeys_each script q client n (Lock set mode) a idle under = (
   set,
   one_touched script q (n.clock + 1) set (one_for client) n (lock set (act_stamp q n) client mode (n.set set)) (omega arith) a.sound
-      ((commands_of_set script q client set n a under).locks mode),
+      ((commands_of_set script q client set n a (idle refl) under).locks mode),
 )
-obeys_each script q client n (Try set mode) a under = (
+obeys_each script q client n (Try set mode) a idle under = (
   set,
   one_touched script q (n.clock + 1) set (one_for client) n (try set (act_stamp q n) client mode (n.set set)) (omega arith) a.sound
-      ((commands_of_set script q client set n a under).tries mode),
+      ((commands_of_set script q client set n a (idle refl) under).tries mode),
 )
-obeys_each script q client n (Unlock set mode) a under = (
+obeys_each script q client n (Unlock set mode) a idle under = (
   set,
   one_touched script q (n.clock + 1) set (one_for client) n (unlock set (act_stamp q n) client mode (n.set set)) (omega arith) a.sound
-      ((commands_of_set script q client set n a under).unlocks mode),
+      ((commands_of_set script q client set n a (idle refl) under).unlocks mode),
 )
-obeys_each script q client n (Change set gives_up mode) a under = (
+obeys_each script q client n (Change set gives_up mode) a idle under = (
   set,
   one_touched script q (n.clock + 1) set (one_for client) n (change set (act_stamp q n) client gives_up mode (n.set set)) (omega arith) a.sound
-      ((commands_of_set script q client set n a under).changes gives_up mode),
+      ((commands_of_set script q client set n a (idle refl) under).changes gives_up mode),
 )
-obeys_each script q client n (DropAll other set) a targets = (0, drops_each script q client other set n a)
+obeys_each script q client n (DropAll other set) a idle targets = (0, drops_each script q client other set n a)
+obeys_each script q client n (Withdraw other set) a idle targets = (
+  set,
+  one_touched script q (n.clock + 1) set (λ c. 0) n (withdraw set (act_stamp q n) client other (n.set set)) (omega arith) a.sound
+      (withdraw_outcome script set n.clock client other (act_stamp q n) (n.set set) (begun_of script q client set n a targets.0)),
+)
 
 -- How many commands clients have made.
 
@@ -210,20 +165,48 @@ commands_keep_sound script q client n whole h may = by_command (next_command scr
       below = subst (λ (x : ℕ). x < script.nodes) may.own (whole.homes client may.known);
       known = may.known;
       own = may.own;
-      idle = is_not (node_waits script n client) (and_parts (not (node_waits script n client)) (has_command script n client) may.runnable).0;
       sound = h;
     }
 
-    none_asked : unanswered_asks script n client ≡ 0
-    none_asked = sum_below-none (length script.sets) (λ s. count_by (λ (ask : Ask). ask.client == client) (n.set s).pending) (λ s under. idle_in script n client a.idle s under)
+    alone : (first second : Bool) → second ≡ false → (first || second) ≡ true → first ≡ true
+    alone true second e f = refl
+    alone false true e f = cc
+    alone false false e f = cc
 
-    free : (c : ℕ) → (one_for client c ≡ 0) ⊎ ((one_for client c ≤ 1) × (unanswered_asks script n c ≡ 0))
-    free c = elim (cases_eq client c) [
+    waits_not : withdraws_itself n client (next_command script n client) ≡ false → node_waits script n client ≡ false
+    waits_not other =
+        is_not (node_waits script n client)
+        (alone (not (node_waits script n client)) _ other (and_parts (is_free_at script n client) (has_command script n client) may.runnable).0)
+
+    none_asked : node_waits script n client ≡ false → unanswered_asks script n client ≡ 0
+    none_asked none =
+        sum_below-none (length script.sets) (λ s. count_by (live_by (is_gone (n.set s) client) client) (n.set s).pending)
+        (λ s under. idle_in script n client none s under)
+
+    free : node_waits script n client ≡ false → (c : ℕ) → (one_for client c ≡ 0) ⊎ ((one_for client c ≤ 1) × (unanswered_asks script n c ≡ 0))
+    free none c = elim (cases_eq client c) [
       | inl e ↦
           let one : ◌≡◌ {A = ℕ} (if client == c then 1 else 0) 1 = ap (λ (b : Bool). if b then 1 else 0) (eq-eqb client c e) in
-          inr (omega (arith, one), subst (λ (x : ℕ). unanswered_asks script n x ≡ 0) e none_asked)
+          inr (omega (arith, one), subst (λ (x : ℕ). unanswered_asks script n x ≡ 0) e (none_asked none))
       | inr d ↦ inl (ap (λ (b : Bool). if b then 1 else 0) (ne_eqb client c d))
     ]
+
+    least : (command : Command) (c : ℕ) → bonus_of client command c ≤ one_for client c
+    least (Lock s mode) c = omega arith
+    least (Try s mode) c = omega arith
+    least (Unlock s mode) c = omega arith
+    least (Change s gives_up mode) c = omega arith
+    least (DropAll other s) c = omega arith
+    least (Withdraw other s) c = omega arith
+
+    free_by : (command : Command) → (withdraws_itself n client (Some command) ≡ false → node_waits script n client ≡ false)
+        → (c : ℕ) → (bonus_of client command c ≡ 0) ⊎ ((bonus_of client command c ≤ 1) × (unanswered_asks script n c ≡ 0))
+    free_by (Lock s mode) none c = free (none refl) c
+    free_by (Try s mode) none c = free (none refl) c
+    free_by (Unlock s mode) none c = free (none refl) c
+    free_by (Change s gives_up mode) none c = free (none refl) c
+    free_by (DropAll other s) none c = free (none refl) c
+    free_by (Withdraw other s) none c = inl refl
 
     by_command : (command : Option Command) → next_command script n client ≡ command
         → SoundNode script q (obey script (act_stamp q n) client command (begins client n)).node
@@ -233,12 +216,15 @@ commands_keep_sound script q client n whole h may = by_command (next_command scr
     }
     by_command (Some command) e =
         let made = obey script (act_stamp q n) client (Some command) (begins client n) in
-        let each = obeys_each script q client n command a (next_targets script n client command whole e) in
+        let idle : withdraws_itself n client (Some command) ≡ false → node_waits script n client ≡ false =
+        λ other. waits_not (ap (withdraws_itself n client) e ∙ other) in
+        let each = obeys_each script q client n command a idle (next_targets script n client command whole e) in
         record {
           sets = λ s under. subst (λ (clock : ℕ). SoundSet (numbers_of script) q false false clock (made.node.set s))
               (sym (obey-stamped script (act_stamp q n) client (Some command) (begins client n)).clock) (each.1 s under).sound;
-          clients = (node_after script n made.node each.0 (one_for client) (clients_of script q n h) (λ s under. (each.1 s under).clients)
-              (λ c. omega (arith, counts_one client n c, obey_counts script (act_stamp q n) client (Some command) (begins client n) c)) free).kept;
+          clients = (node_after script n made.node each.0 (bonus_of client command) (clients_of script q n h) (λ s under. (each.1 s under).clients)
+              (λ c. omega (arith, counts_one client n c, obey_counts script (act_stamp q n) client (Some command) (begins client n) c, least command c))
+              (free_by command idle)).kept;
         }
 
 -- A letter.

@@ -1,9 +1,9 @@
 -- A node after any list of its own moves.
-use Rattle.std.proofs.Common.{ℕ, ◌+◌, ◌<◌, inl, inr, List, [], ◌∷◌, length, ap, arith, not, ltb-true}
+use Rattle.std.proofs.Common.{ℕ, ◌+◌, ◌<◌, inl, inr, List, [], ◌∷◌, length, ap, arith, ltb-true}
 use Rattle.std.proofs.lemmas.Bool.{cases_eq, and_parts}
 use Rattle.lt_modes.specs.Script.{ScriptData}
 use Rattle.lt_lists.proofs.Puts.{put-same, put-other}
-use Rattle.lt_spec.specs.NodeMove.{commands_of, NodeState, node_waits, has_command, next_command, act_stamp, at_clock, one_made, IsWhole}
+use Rattle.lt_spec.specs.NodeMove.{commands_of, NodeState, is_free_at, has_command, next_command, act_stamp, at_clock, one_made, IsWhole}
 use Rattle.lt_spec.specs.World.{start}
 use Rattle.lt_model.specs.Invariant.{SoundNode}
 use Rattle.lt_law_invariant.proofs.FewAsks.{whole}
@@ -23,7 +23,7 @@ command_counts script q client n may h c =
     let begun = one_made client (at_clock (n.clock + 1) n) in
     let stays = obey_counts script (act_stamp q n) client (next_command script n client) begun c in
     let left = ltb-true (n.made client) (length (commands_of script client))
-    (and_parts (not (node_waits script n client)) (has_command script n client) may.runnable).1 in
+    (and_parts (is_free_at script n client) (has_command script n client) may.runnable).1 in
     elim (cases_eq c client) [
       | inl e ↦ omega (
         arith,

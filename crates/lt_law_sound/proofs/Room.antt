@@ -1,20 +1,19 @@
 -- A sound node has room for its next move.
-use Rattle.std.proofs.Common.{◌≡◌, ℕ, zero, suc, ◌+◌, ◌<◌, ◌≤◌, length, Option, Some, None, Bool, true, false, refl, sym, ap, arith, ◌==◌, not, IsTrue, le-leb, lt-ltb}
+use Rattle.std.proofs.Common.{◌≡◌, ℕ, zero, suc, ◌+◌, ◌<◌, ◌≤◌, length, Option, Some, None, Bool, true, false, refl, sym, ap, arith, ◌∙◌, ◌==◌, ◌||◌, not, nat_lt, IsTrue, le-leb, lt-ltb}
 use Rattle.std.proofs.lemmas.Bool.{and_parts, and_from}
 use Rattle.lt_modes.specs.Script.{ScriptData, SetData}
 use Rattle.lt_modes.specs.State.{SetState, Desk}
 use Rattle.lt_modes.specs.Modes.{locks_of}
-use Rattle.lt_modes.specs.Serving.{waits}
-use Rattle.lt_modes.specs.Fits.{head_fits, numbers_of}
+use Rattle.lt_modes.specs.Fits.{has_client, head_fits, numbers_of}
 use Rattle.lt_modes.specs.Sound.{SoundDesk}
 use Rattle.lt_lists.specs.Below.{any_below, sum_below}
 use Rattle.lt_lists.proofs.Members.{few_filtered}
-use Rattle.lt_lists.proofs.Searches.{any_below_none}
-use Rattle.lt_spec.specs.NodeMove.{home, family, related, NodeState, node_waits, has_command, locks_in_sets, command_if, desk_within, set_within, node_within, leaves_ask, leaves_asks}
+use Rattle.lt_spec.specs.NodeMove.{home, family, related, NodeState, locks_in_sets, command_if, desk_within, set_within, node_within, leaves_ask, leaves_asks}
 use Rattle.lt_spec.specs.Script.{IsScript}
-use Rattle.lt_spec.specs.declared.limits.TheConstants.{MAX_COMMANDS_OF_SERVICE}
+use Rattle.lt_spec.specs.declared.limits.TheConstants.{MAX_CLIENTS_OF_NODE, MAX_COMMANDS_OF_SERVICE}
 use Rattle.lt_model.specs.Invariant.{SoundNode}
 use Rattle.lt_model.proofs.CountMove.{sum_places}
+use Rattle.lt_law_invariant.proofs.FittingLetters.{few_each}
 use Rattle.lt_law_invariant.proofs.FewAsks.{few_here, few_pending, few_locks}
 use Rattle.lt_node.proofs.TouchedLemmas.{room_to_act, room_to_take}
 use Rattle.lt_law_sound.specs.SoundLaws.{MadeOnlyTheirs, RoomForCommands, RoomForTakes}
@@ -43,14 +42,19 @@ sound_within script q n known h made =
     and_from _ _ (le-leb _ _ (few_locks script q s n known h.clients made (rows_at_home script q n.clock (n.set s) sound) under))
     (and_from _ _ (le-leb _ _ (few_here script q (n.set s) known sound.here sound.apart)) (desk_timed script n.clock (n.set s) (n.set s).desk sound.desk)))
 
--- one client more may wait in each set, where one doesn't
+-- a client has an ask in each set, or may have one
+leaves_by : (client : ℕ) (t : SetState) (has : Bool) → has_client client t.pending ≡ has
+    → (has_client client t.pending ≡ false → length t.pending < MAX_CLIENTS_OF_NODE) → leaves_ask client t ≡ true
+leaves_by client t true e room = ap (λ (b : Bool). b || nat_lt (length t.pending) MAX_CLIENTS_OF_NODE) e
+leaves_by client t false e room = ap (λ (b : Bool). b || nat_lt (length t.pending) MAX_CLIENTS_OF_NODE) e ∙ lt-ltb _ _ (room e)
+
 sound_leaves : (script : ScriptData) (q client : ℕ) (n : NodeState) → IsScript script → SoundNode script q n → client < length script.clients
-    → home script client ≡ q → node_waits script n client ≡ false → IsTrue (leaves_asks script n)
-sound_leaves script q client n known h declared own free =
-    no_failure (length script.sets) (λ s. leaves_ask (n.set s))
-    (λ s under. lt-ltb _ _
-    (few_pending script q s client n known h.clients (own_asks script q n.clock (n.set s) (h.sets s under)) under declared own
-    (any_below_none (length script.sets) (λ t. waits (n.set t) client) free s under)))
+    → home script client ≡ q → IsTrue (leaves_asks script n client)
+sound_leaves script q client n known h declared own =
+    no_failure (length script.sets) (λ s. leaves_ask client (n.set s))
+    (λ s under. leaves_by client (n.set s) (has_client client (n.set s).pending) refl
+    (few_pending script q s client n known (few_each (n.set s).pending (h.sets s under).one_ask)
+    (own_asks script q n.clock (n.set s) (h.sets s under)) under declared own))
 
 -- a client has no more locks in a family than a service has commands
 sound_drops : (script : ScriptData) (q : ℕ) (n : NodeState) → IsScript script → SoundNode script q n → MadeOnlyTheirs script n
@@ -63,9 +67,8 @@ sound_drops script q n known h made c s =
 
 pub room_for_commands : RoomForCommands
 room_for_commands script q client n known h made may =
-    let idle = is_not (node_waits script n client) (and_parts (not (node_waits script n client)) (has_command script n client) may.runnable).0 in
     room_to_act script n client known (sound_within script q n known h made)
-    (sound_leaves script q client n known h may.known may.own idle) (sound_drops script q n known h made)
+    (sound_leaves script q client n known h may.known may.own) (sound_drops script q n known h made)
 
 pub room_for_takes : RoomForTakes
 room_for_takes script q n letter known h made fit =

@@ -1,13 +1,13 @@
 -- Each move of a node on one of its sets leaves a sound set sound.
-use Rattle.std.proofs.Common.{◌≡◌, ℕ, ◌+◌, ◌<◌, ◌≤◌, List, [], length, Option, Some, None, Bool, true, false, refl, sym, subst, arith, ◌==◌, if◌then◌else◌, is_some, eqb-true}
+use Rattle.std.proofs.Common.{◌≡◌, ℕ, ◌+◌, ◌<◌, ◌≤◌, List, [], ◌∷◌, length, Option, Some, None, Bool, true, false, refl, sym, subst, arith, ◌==◌, if◌then◌else◌, is_some, eqb-true}
 use Rattle.std.proofs.lemmas.List.Elements.{Contains-get_or}
 use Rattle.lt_modes.specs.declared.mode.Mode.{Mode}
 use Rattle.lt_modes.specs.declared.stamp.Stamp.{Stamp}
 use Rattle.lt_modes.specs.declared.ask.Ask.{Ask}
 use Rattle.lt_modes.specs.Script.{ScriptData}
-use Rattle.lt_modes.specs.State.{SetState, Desk, Post, no_ask}
-use Rattle.lt_modes.specs.Serving.{queue_of, queue_of_desk, ask_at, next_service, next_draw, serve_local, serve_copy}
-use Rattle.lt_modes.specs.SetMove.{finish, locked, tried, unlocked, changed, dropped, lock, try, unlock, change, drop}
+use Rattle.lt_modes.specs.State.{SetState, Desk, Made, Post, no_ask}
+use Rattle.lt_modes.specs.Serving.{queue_of, queue_of_desk, ask_at, next_service, next_draw, serve_local, serve_copy, without_gone}
+use Rattle.lt_modes.specs.SetMove.{finish, locked, tried, unlocked, changed, dropped, withdrawn, lock, try, unlock, change, drop, withdraw}
 use Rattle.lt_modes.specs.Fits.{asks_here, numbers_of}
 use Rattle.lt_modes.specs.Sound.{SoundSet}
 use Rattle.lt_spec.specs.NodeMove.{home, IsWhole}
@@ -16,13 +16,14 @@ use Rattle.lt_law_accounts.specs.Account.{IsFirstDrawing}
 use Rattle.lt_law_accounts.proofs.Asks.{times_in-some}
 use Rattle.lt_law_accounts.proofs.Drawing.{drawn_by_first}
 use Rattle.lt_model.proofs.Effects.{Fact, EndEffects, both, ends_by_effects, finish_by_effects, next_service-within}
+use Rattle.lt_model.proofs.Voids.{withdraws_ways}
 use Rattle.lt_model.proofs.SentInMove.{Stands, stands}
 use Rattle.lt_model.proofs.StandingEffects.{found_here, stands_later}
 use Rattle.lt_law_invariant.proofs.ClientEffects.{Clients, clients, clients_ends}
-use Rattle.lt_law_invariant.proofs.ClientCommands.{one_for, IsIdle, idle, ActsOf, clients_acts, drops_kept, locked_of, tried_of, unlocked_of, changed_of}
+use Rattle.lt_law_invariant.proofs.ClientCommands.{one_for, IsIdle, idle, ActsOf, clients_acts, drops_kept, locked_of, tried_of, unlocked_of, changed_of, withdrawn_of}
 use Rattle.lt_law_sound.proofs.Around.{AreKnown, asked_elsewhere, stood_elsewhere, own_asked, stands_first, stands_named}
 use Rattle.lt_law_sound.proofs.KeptParts.{Kept, KeptHere, local_kept, copied_kept, frozen_kept, stays_kept, leaves_kept, tells_kept, tells_not_kept}
-use Rattle.lt_law_sound.proofs.KeptActs.{given_kept, released_kept, dropped_kept, asked_kept}
+use Rattle.lt_law_sound.proofs.KeptActs.{given_kept, released_kept, dropped_kept, marked_kept, asked_kept}
 use Rattle.lt_law_sound.proofs.SoundParts.{ended, Outcome, outcome, opened, own_asks, known_here, made_here}
 
 -- what holds in the middle of the move of a set
@@ -153,6 +154,18 @@ drop_outcome script s before other stamp t none h =
       dropped_kept script stamp.node stamp.clock other true true t (begun_kept script before stamp t h),
     ))
 
+-- a client gives up what another one, or it itself, waits for
+pub withdraw_outcome : (script : ScriptData) (s before client other : ℕ) (stamp : Stamp) (t : SetState) → Begun script before stamp t
+    → Outcome script stamp.node stamp.clock (λ c. 0) t (withdraw s stamp client other t).state
+withdraw_outcome script s before client other stamp t h =
+    done script s before stamp (λ c. 0) t (withdraw s stamp client other t).state _ h
+    (ends_by_effects s stamp _ _ _ (ends_of script s before stamp (λ c. 0) t h) (withdrawn s client other t) [] (
+      withdrawn_of s before stamp client other (elsewhere_of t) (asked_elsewhere stamp.node (asks_here t)) t h.next t [] (begun_stands script s before stamp t h, h.clients),
+      withdraws_ways (λ (m : Made). Kept script stamp.node true true stamp.clock m.state) s client other t
+          (λ waiting. marked_kept script stamp.node stamp.clock true true (other ∷ t.gone) t (begun_kept script before stamp t h))
+          (λ idle_there. begun_kept script before stamp t h),
+    ))
+
 -- A command of a client that waits for nothing there.
 
 pub record CommandsDone (script : ScriptData) (s : ℕ) (stamp : Stamp) (client : ℕ) (t : SetState) : Type 0 where
@@ -178,9 +191,13 @@ sound_acts script s before client stamp others asks first below next known own =
     given_kept script stamp.node stamp.clock client true true mode (Some gives_up) t known own h.1,
   );
   releases = λ mode t posts h. (acts.releases mode t posts h.0, released_kept script stamp.node stamp.clock client true true mode t h.1);
-  asks = λ mode t posts h. (acts.asks mode t posts h.0, asked_kept script stamp.clock s client true true stamp mode None t known own below h.1);
-  change_asks = λ gives_up mode t posts holds h. (
-    acts.change_asks gives_up mode t posts holds h.0,
+  retakes = λ mode gives_up t posts same holds h. (
+    acts.retakes mode gives_up t posts same holds h.0,
+    marked_kept script stamp.node stamp.clock true true (without_gone t.gone client) t h.1,
+  );
+  asks = λ mode t posts free h. (acts.asks mode t posts free h.0, asked_kept script stamp.clock s client true true stamp mode None t known own below h.1);
+  change_asks = λ gives_up mode t posts holds free h. (
+    acts.change_asks gives_up mode t posts holds free h.0,
     asked_kept script stamp.clock s client true true stamp mode (Some gives_up) t known own below h.1,
   );
 }

@@ -44,8 +44,8 @@ row_sound script q row h = record {
   count = h.count;
 }
 
-own_ask : (script : ScriptData) (q : ℕ) (held : List Row) (ask : Ask) → SoundPending (numbers_of script) q held ask → IsAskOf script q ask
-own_ask script q held ask h =
+own_ask : (script : ScriptData) (q : ℕ) (t : SetState) (ask : Ask) → SoundPending (numbers_of script) q t ask → IsAskOf script q ask
+own_ask script q t ask h =
     let named = home_named script ask h.home in
     (record { client = named.client; home = named.home; maker = h.maker ∙ sym h.node }, h.node)
 
@@ -53,7 +53,7 @@ pub rows_at_home : (script : ScriptData) (q clock : ℕ) (t : SetState) → Soun
 rows_at_home script q clock t h = All-weaker (SoundRow (numbers_of script) q) (IsRowAtHome script q) (row_at_home script q) t.held h.rows
 
 pub own_asks : (script : ScriptData) (q clock : ℕ) (t : SetState) → SoundSet (numbers_of script) q false false clock t → All (IsAskOf script q) t.pending
-own_asks script q clock t h = All-weaker (SoundPending (numbers_of script) q t.held) (IsAskOf script q) (own_ask script q t.held) t.pending h.pending
+own_asks script q clock t h = All-weaker (SoundPending (numbers_of script) q t) (IsAskOf script q) (own_ask script q t) t.pending h.pending
 
 -- the asks that stand there
 pub known_here : (script : ScriptData) (q clock : ℕ) (t : SetState) → SoundSet (numbers_of script) q false false clock t → AreKnown script q t.pending (asks_here t)
@@ -84,7 +84,7 @@ opened script q before clock t later h = record {
 
 pub made_here : (script : ScriptData) (q clock : ℕ) (t : SetState) → SoundSet (numbers_of script) q false false clock t → All (IsMadeBy q clock) t.pending
 made_here script q clock t h = all_of (IsMadeBy q clock) t.pending (λ ask there. (
-  (All-contains (SoundPending (numbers_of script) q t.held) t.pending ask h.pending there).node,
+  (All-contains (SoundPending (numbers_of script) q t) t.pending ask h.pending there).node,
   All-contains (λ (a : Ask). a.stamp.clock ≤ clock) t.pending ask h.made there,
 ))
 
@@ -148,13 +148,13 @@ outcome script s stamp others pending asks bonus first t posts whole known ((sto
   sound = record {
     rows = All-weaker (IsRowAtHome script stamp.node) (SoundRow (numbers_of script) stamp.node) (row_sound script stamp.node) t.held kept.rows;
     rows_apart = rows_apart t.held kept.single;
-    pending = all_of (SoundPending (numbers_of script) stamp.node t.held) t.pending (λ ask there.
+    pending = all_of (SoundPending (numbers_of script) stamp.node t) t.pending (λ ask there.
         let own = All-contains (IsAskOf script stamp.node) t.pending ask kept.own there in
         record {
           home = named_home script ask (named_own ask own);
           node = own.1;
           maker = own.0.maker ∙ own.1;
-          gives_up = held_given_up t.held ask.client ask.gives_up held.some (held.gives ask there);
+          gives_up = λ live. held_given_up t.held ask.client ask.gives_up held.some (held.gives ask there live);
         });
     one_ask = one_each t.pending held.one;
     stamps_apart = stood.apart;

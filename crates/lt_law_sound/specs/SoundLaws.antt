@@ -1,19 +1,19 @@
 -- What keeps one node sound, and what a sound node has room for, with no world around it.
-use Rattle.std.specs.Prelude.{ℕ, List, [], ◌∷◌, ◌≡◌, ◌<◌, ◌≤◌, ◌&&◌, not, length, IsTrue}
+use Rattle.std.specs.Prelude.{ℕ, List, [], ◌∷◌, ◌≡◌, ◌<◌, ◌≤◌, ◌&&◌, length, IsTrue}
 use Rattle.lt_modes.specs.Script.{ScriptData}
 use Rattle.lt_modes.specs.State.{Letter}
 use Rattle.lt_modes.specs.Fits.{fits, numbers_of}
-use Rattle.lt_spec.specs.NodeMove.{commands_of, home, NodeState, node_waits, has_command, node_act, node_take, IsWhole}
+use Rattle.lt_spec.specs.NodeMove.{commands_of, home, NodeState, is_free_at, has_command, node_act, node_take, IsWhole}
 use Rattle.lt_spec.specs.Script.{IsScript}
 use Rattle.lt_spec.specs.World.{World, start}
 use Rattle.lt_model.specs.Invariant.{SoundNode, WorldInvariant}
 use Rattle.lt_node.specs.Touched.{leaves_room_to_act, leaves_room_to_take}
 
--- the client is of node q, waits for nothing there, and has a command left
+-- the client is of node q, and has a command left; it waits for nothing there, or gives up by the command what it waits for
 pub record CanCommand (script : ScriptData) (q : ℕ) (n : NodeState) (client : ℕ) : Type 0 where
   pub known : client < length script.clients
   pub own : home script client ≡ q
-  pub runnable : IsTrue (not (node_waits script n client) && has_command script n client)
+  pub runnable : IsTrue (is_free_at script n client && has_command script n client)
 
 -- the letter fits node q
 abbrev pub FitsNode : ScriptData → ℕ → NodeState → Letter → Type 0

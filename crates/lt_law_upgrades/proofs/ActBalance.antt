@@ -1,34 +1,36 @@
 -- What a client that waits for nothing holds, asks for and gives up in one set, through its command.
-use Rattle.std.proofs.Common.{◌≡◌, ◌≢◌, ℕ, zero, suc, ◌+◌, ◌-◌, ◌≤◌, inl, inr, List, [], ◌∷◌, ◌++◌, Option, Some, None, Bool, true, false, refl, sym, ap, subst, arith, ◌∙◌, ◌⊎◌, ◌==◌, ◌&&◌, if◌then◌else◌, Contains, count_by, slice_index_or, eqb-true}
-use Rattle.std.proofs.lemmas.Bool.{and_parts}
+use Rattle.std.proofs.Common.{◌≡◌, ◌≢◌, ℕ, ◌+◌, ◌≤◌, inl, inr, List, [], ◌∷◌, ◌++◌, Option, Some, None, Bool, true, false, refl, sym, ap, subst, arith, ◌∙◌, ◌⊎◌, ◌==◌, ◌&&◌, not, if◌then◌else◌, Contains, IsTrue, count_by}
+use Rattle.std.proofs.lemmas.Bool.{cases_eq}
 use Rattle.std.proofs.lemmas.List.Elements.{Contains-push_cases}
-use Rattle.std.proofs.lemmas.List.Quantifiers.{position-Some}
 use Rattle.lt_modes.specs.declared.mode.Mode.{Mode}
 use Rattle.lt_modes.specs.declared.stamp.Stamp.{Stamp}
 use Rattle.lt_modes.specs.declared.ask.Ask.{Ask}
-use Rattle.lt_modes.specs.declared.parts.Row.{Row}
 use Rattle.lt_modes.specs.declared.command.Command.{Command}
 use Rattle.lt_modes.specs.declared.command.Command.TheVariants.{Lock, Try, Unlock, Change, DropAll}
-use Rattle.lt_modes.specs.declared.event.Event.TheVariants.{Try as TryLine, Unlock as UnlockLine, NotHeld, Change as ChangeLine}
-use Rattle.lt_modes.specs.Modes.{same_mode, is_row_of, no_row, row_place, count_at, count_of, add_lock, take_lock}
+use Rattle.lt_modes.specs.declared.event.Event.TheVariants.{Try as TryLine, Unlock as UnlockLine, NotHeld}
+use Rattle.lt_modes.specs.Modes.{count_of, take_lock}
 use Rattle.lt_modes.specs.Script.{ScriptData}
-use Rattle.lt_modes.specs.State.{SetState, ParkedAsk}
+use Rattle.lt_modes.specs.State.{SetState, ParkedAsk, Made}
 use Rattle.lt_modes.specs.Freezing.{can_grant}
-use Rattle.lt_modes.specs.SetMove.{answers, given, granted, ask_of, asked, locked, tried, unlocked, change_held, changed, dropped}
-use Rattle.lt_spec.specs.Holdings.{holding}
-use Rattle.lt_modes.proofs.ModeAlgebra.{same_mode-true}
-use Rattle.lt_lists.proofs.Sums.{counted_in, none_found, sum_by-zero}
-use Rattle.lt_law_accounts.proofs.RowTotals.{row_count, total, is_key, total_added, total_taken}
+use Rattle.lt_modes.specs.Serving.{is_gone, without_gone as left_gone}
+use Rattle.lt_modes.specs.SetMove.{answers, given, granted, ask_of, asked, asked_or_not, locked, tried, unlocked, dropped, same_wish}
+use Rattle.lt_modes.specs.Waiting.{pending_ask}
+use Rattle.lt_spec.specs.Holdings.{Holding, holding, times_held}
+use Rattle.lt_law_accounts.proofs.RowTotals.{total}
+use Rattle.lt_model.proofs.Voids.{asks_ways}
 use Rattle.lt_law_invariant.proofs.OwnSteps.{route_same}
-use Rattle.lt_law_invariant.proofs.ClientCounts.{SomeEach, each_some, asks_pushed}
-use Rattle.lt_law_invariant.proofs.ClientCommands.{IsIdle, no_ask_of, count_within}
-use Rattle.lt_law_lines.proofs.LineCounts.{count_after}
-use Rattle.lt_law_lines.proofs.LineRules.{key_is}
-use Rattle.lt_spec.specs.Script.{best_answer}
-use Rattle.lt_law_ordered.proofs.Loans.{is_for, asks_for}
-use Rattle.lt_law_ordered.proofs.ActLoans.{ActLoans, idle_asks, not_his, locked_loans, tried_loans}
-use Rattle.lt_law_ordered.proofs.ChangeLoans.{unlocked_loans, dropped_loans, aside_loans}
-use Rattle.lt_law_upgrades.proofs.Balance.{gives, is_giving, given_up, Balance}
+use Rattle.lt_law_invariant.proofs.ClientCounts.{SomeEach, asks_pushed, locks_dropped, locks_fewer}
+use Rattle.lt_law_invariant.proofs.ClientCommands.{IsIdle}
+use Rattle.lt_law_invariant.proofs.ClientEffects.{gone_same, is_asks, route_gone}
+use Rattle.lt_spec.specs.Script.{may_hold_after}
+use Rattle.lt_law_ordered.specs.OrderedLaws.{is_steady}
+use Rattle.lt_law_ordered.proofs.Loans.{asks_for}
+use Rattle.lt_law_ordered.proofs.ActLoans.{ActLoans, idle_asks, locked_loans, tried_loans}
+use Rattle.lt_law_ordered.proofs.ChangeLoans.{unlocked_loans, dropped_loans}
+use Rattle.lt_law_ordered.proofs.MayHold.{count_grows, may_count}
+use Rattle.lt_law_upgrades.specs.UpgradeLaws.{has_withdraw, may_still_hold_after}
+use Rattle.lt_law_upgrades.proofs.LiveAsks.{gives, is_giving, asks_giving, locks_and_asks, none_giving, gone_fewer, same_wish-is}
+use Rattle.lt_law_upgrades.proofs.Balance.{Balance}
 
 -- the command by which a client makes the ask
 abbrev pub command_by : ℕ → Mode → Option Mode → Command
@@ -38,235 +40,228 @@ command_by s mode (Some gives_up) = Change s gives_up mode
 abbrev pub command_of : ℕ → Ask → Command
 command_of s ask = command_by s ask.mode ask.gives_up
 
--- a client that waits for nothing gives nothing up
-pub idle_gives : (client : ℕ) (t : SetState) → IsIdle client t → (mode : Mode) → given_up t client mode ≡ 0
-idle_gives client t none mode = by_count (given_up t client mode) refl
-  where
-    by_count : (n : ℕ) → given_up t client mode ≡ n → n ≡ 0
-    by_count zero e = refl
-    by_count (suc n) e =
-        let found = counted_in (is_giving client mode) t.pending (omega (arith, e)) in
-        absurd (no_ask_of client t none found.0 found.1 (sym (eqb-true client found.0.client (and_parts (client == found.0.client) (gives found.0.gives_up mode) found.2).0)))
+-- what the client's asks give up counts where the old lock can't stay
+abbrev pub giving_for_sure : ScriptData → ℕ → ℕ → SetState → Mode → ℕ
+giving_for_sure script client s t mode = if has_withdraw script client s then 0 else asks_giving t client mode
 
 -- what a command of an idle client does to what it and others hold, ask for and give up in set s
 pub record ActBalance (script : ScriptData) (client s : ℕ) (command : Command) (t u : SetState) : Type 0 where
+  pub loans : (c : ℕ) (mode : Mode) → c ≢ client → total u.held c mode + asks_for u c mode ≤ total t.held c mode + asks_for t c mode
   pub others : (c : ℕ) (mode : Mode) → c ≢ client
-      → total u.held c mode + asks_for u c mode + given_up t c mode ≤ total t.held c mode + asks_for t c mode + given_up u c mode
-  pub own : (mode : Mode)
-      → total u.held client mode + asks_for u client mode ≤ count_after script (holding client s mode) (total t.held client mode) (best_answer client command) + given_up u client mode
-  pub asks : (ask : Ask) → Contains u.pending ask → Contains t.pending ask ⊎ ((ask.client ≡ client) × (command ≡ command_of s ask))
+      → total u.held c mode + asks_for u c mode + asks_giving t c mode ≤ total t.held c mode + asks_for t c mode + asks_giving u c mode
+  pub own : (locks : List Holding) → ((mode : Mode) → total t.held client mode ≤ times_held locks (holding client s mode)) → locks_and_asks t client ≤ 1
+      → (is_gone t client ≡ true → has_withdraw script client s ≡ true) → (mode : Mode)
+      → total u.held client mode + asks_for u client mode
+      ≤ times_held (may_still_hold_after script client locks command) (holding client s mode) + giving_for_sure script client s u mode
+  pub few : locks_and_asks t client ≤ 1 → ((mode : Mode) → (command ≡ Lock s mode) ⊎ (command ≡ Try s mode) → locks_and_asks t client ≡ 0) → locks_and_asks u client ≤ 1
+  pub asks : (ask : Ask) → Contains u.pending ask → is_gone u ask.client ≡ false
+      → (Contains t.pending ask × (is_gone t ask.client ≡ false)) ⊎ ((ask.client ≡ client) × (command ≡ command_of s ask))
+  pub marks : (c : ℕ) → is_gone u c ≡ true → is_gone t c ≡ true
 
 -- and then the end of the move
 pub balance_then : (script : ScriptData) (client s : ℕ) (command : Command) (t u v : SetState) → ActBalance script client s command t u → Balance u v → ActBalance script client s command t v
 balance_then script client s command t u v first later = record {
+  loans = λ c mode d. omega (arith, first.loans c mode d, later.counts c mode, later.gives c mode);
   others = λ c mode d. omega (arith, first.others c mode d, later.counts c mode);
-  own = λ mode. omega (arith, first.own mode, later.counts client mode);
-  asks = λ ask there. first.asks ask (later.asks ask there);
+  own = λ locks held one marked mode.
+      omega (arith, first.own locks held one marked mode, later_own mode (times_held (may_still_hold_after script client locks command) (holding client s mode)) (has_withdraw script client s));
+  few = λ one none. omega (arith, first.few one none, later.clients.counts client);
+  asks = λ ask there live. let before = later.asks ask there live in first.asks ask before.0 before.1;
+  marks = λ c e. first.marks c (later.marks c e);
 }
+  where
+    later_own : (mode : Mode) (n : ℕ) (w : Bool) → total v.held client mode + asks_for v client mode + (if w then 0 else asks_giving u client mode)
+        ≤ total u.held client mode + asks_for u client mode + (if w then 0 else asks_giving v client mode)
+    later_own mode n true = omega (arith, later.counts client mode, later.gives client mode)
+    later_own mode n false = later.counts client mode
 
 -- a command that makes no ask that gives up a mode
-from_loans : (script : ScriptData) (client s : ℕ) (command : Command) (t u : SetState) → ActLoans script client s command t u
-    → ((c : ℕ) (mode : Mode) → given_up u c mode ≡ given_up t c mode)
-    → ((ask : Ask) → Contains u.pending ask → Contains t.pending ask ⊎ ((ask.client ≡ client) × (command ≡ command_of s ask))) → ActBalance script client s command t u
-from_loans script client s command t u h same asks = record {
+from_loans : (script : ScriptData) (client s : ℕ) (command : Command) (t u : SetState) → IsTrue (is_steady command)
+    → ((locks : List Holding) → may_still_hold_after script client locks command ≡ may_hold_after script client locks command) → ActLoans script client s command t u
+    → ((c : ℕ) (mode : Mode) → asks_giving u c mode ≡ asks_giving t c mode)
+    → (locks_and_asks t client ≤ 1 → ((mode : Mode) → (command ≡ Lock s mode) ⊎ (command ≡ Try s mode) → locks_and_asks t client ≡ 0) → locks_and_asks u client ≤ 1)
+    → ((ask : Ask) → Contains u.pending ask → is_gone u ask.client ≡ false
+    → (Contains t.pending ask × (is_gone t ask.client ≡ false)) ⊎ ((ask.client ≡ client) × (command ≡ command_of s ask)))
+    → ((c : ℕ) → is_gone u c ≡ true → is_gone t c ≡ true) → ActBalance script client s command t u
+from_loans script client s command t u steady plain h same few asks marks = record {
+  loans = λ c mode d. (h.others c mode d).1;
   others = λ c mode d. omega (arith, (h.others c mode d).1, same c mode);
-  own = λ mode. omega (arith, h.own mode);
+  own = λ locks held one marked mode. omega (
+    arith,
+    h.own mode,
+    count_grows script client (holding client s mode) (total t.held client mode) (times_held locks (holding client s mode)) command steady (held mode),
+    may_count script client (holding client s mode) locks command,
+    ap (λ (l : List Holding). times_held l (holding client s mode)) (plain locks),
+  );
+  few = few;
   asks = asks;
+  marks = marks;
 }
 
-pub locked_balance : (script : ScriptData) (client s : ℕ) (stamp : Stamp) (mode : Mode) (t : SetState) → IsIdle client t
-    → ActBalance script client s (Lock s mode) t (locked s stamp client mode t).state
-locked_balance script client s stamp mode t none =
-    from_loans script client s (Lock s mode) t (locked s stamp client mode t).state (locked_loans script client s stamp mode t none)
-    (λ c m. same c m (can_grant stamp.node t client mode)) (by_asks (can_grant stamp.node t client mode))
+-- nothing is given up by a new ask, nor by one that is taken up again
+locked_giving : (client s : ℕ) (stamp : Stamp) (mode : Mode) (t : SetState) → count_by (is_asks client) t.pending ≤ 1 → (c : ℕ) (m : Mode)
+    → asks_giving (locked s stamp client mode t).state c m ≡ asks_giving t c m
+locked_giving client s stamp mode t one c m = by_test (can_grant stamp.node t client mode)
   where
     ask : Ask
     ask = ask_of stamp client mode None t
 
-    pending : (asked s stamp ask t).state.pending ≡ t.pending ++ ask ∷ []
-    pending = (route_same s stamp false (ParkedAsk ask) (record t { pending = t.pending ++ ask ∷ [] })).1.pending
+    more : SetState
+    more = record t { pending = t.pending ++ ask ∷ [] }
 
-    no_key : (b : Bool) → ◌≡◌ {A = ℕ} (if b && false then 1 else 0) 0
-    no_key true = refl
-    no_key false = refl
+    no_key : (a b : Bool) → ◌≡◌ {A = ℕ} (if a && (b && false) then 1 else 0) 0
+    no_key true true = refl
+    no_key true false = refl
+    no_key false b = refl
 
-    same : (c : ℕ) (m : Mode) (can : Bool) → given_up (if can then granted s client mode t else asked s stamp ask t).state c m ≡ given_up t c m
-    same c m true = refl
-    same c m false = omega (arith, ap (λ (l : List Ask). count_by (is_giving c m) l) pending, asks_pushed (is_giving c m) t.pending ask, no_key (c == client))
+    again : SetState
+    again = record t { gone = left_gone t.gone client }
 
-    by_asks : (can : Bool) (a : Ask) → Contains (if can then granted s client mode t else asked s stamp ask t).state.pending a
-        → Contains t.pending a ⊎ ((a.client ≡ client) × (Lock s mode ≡ command_of s a))
-    by_asks true a there = inl there
-    by_asks false a there = elim (Contains-push_cases t.pending ask a (subst (λ (l : List Ask). Contains l a) pending there)) [
-      | inl old ↦ inl old
-      | inr new ↦ inr (subst (λ (x : Ask). (x.client ≡ client) × (Lock s mode ≡ command_of s x)) new (refl, refl))
-    ]
+    retaken : same_wish ask (pending_ask t client) ≡ true → (c ≡ client) ⊎ (c ≢ client) → is_gone t client ≡ true → asks_giving again c m ≡ asks_giving t c m
+    retaken wish (inr d) gone = ap (λ (g : Bool). count_by (is_giving g c m) t.pending) (gone_same t.gone client c d)
+    retaken wish (inl e) gone = omega (
+      arith,
+      none_giving again c m (λ b there live own g. none_given b (same_wish-is ask t wish one b there (own ∙ e)).1 g),
+      none_giving t c m (λ b there live own g. false_true (sym live ∙ ap (is_gone t) (own ∙ e) ∙ gone)),
+    )
+      where
+        false_true : false ≡ true → ⊥
+        false_true x = cc
 
-pub tried_balance : (script : ScriptData) (client s : ℕ) (stamp : Stamp) (mode : Mode) (t : SetState) → IsIdle client t
-    → ActBalance script client s (Try s mode) t (tried s stamp client mode t).state
-tried_balance script client s stamp mode t none =
-    from_loans script client s (Try s mode) t (tried s stamp client mode t).state (tried_loans script client s stamp mode t none)
-    (λ c m. same c m (can_grant stamp.node t client mode)) (by_asks (can_grant stamp.node t client mode))
-  where
-    same : (c : ℕ) (m : Mode) (can : Bool) → given_up (if can then answers (TryLine client s mode true) (given client mode None t) else answers (TryLine client s mode false) t).state c m ≡ given_up t c m
-    same c m true = refl
-    same c m false = refl
+        none_given : (b : Ask) → None ≡ b.gives_up → gives b.gives_up m ≡ true → ⊥
+        none_given b x g = false_true (ap (λ (o : Option Mode). gives o m) x ∙ g)
 
-    by_asks : (can : Bool) (a : Ask) → Contains (if can then answers (TryLine client s mode true) (given client mode None t) else answers (TryLine client s mode false) t).state.pending a
-        → Contains t.pending a ⊎ ((a.client ≡ client) × (Try s mode ≡ command_of s a))
-    by_asks true a there = inl there
-    by_asks false a there = inl there
+    by_test : (can : Bool) → asks_giving (if can then granted s client mode t else asked_or_not s stamp ask t).state c m ≡ asks_giving t c m
+    by_test true = refl
+    by_test false = asks_ways (λ (made : Made). asks_giving made.state c m ≡ asks_giving t c m) s stamp ask t
+        (λ live. (λ i. count_by (is_giving (is_gone_at i) c m) ((route_same s stamp false (ParkedAsk ask) more).1.pending i))
+        ∙ asks_pushed (is_giving (is_gone t c) c m) t.pending ask ∙ omega (arith, no_key (not (is_gone t c)) (c == client)))
+        (λ gone wish. retaken wish (cases_eq c client) gone) refl
+      where
+        is_gone_at : is_gone (asked s stamp ask t).state c ≡ is_gone t c
+        is_gone_at = ap (λ (l : List ℕ). is_gone (record t { gone = l }) c) (route_gone s stamp false (ParkedAsk ask) more)
 
-pub unlocked_balance : (script : ScriptData) (client s : ℕ) (mode : Mode) (t : SetState) → IsIdle client t → SomeEach t.held
-    → ActBalance script client s (Unlock s mode) t (unlocked s client mode t).state
-unlocked_balance script client s mode t none some =
-    from_loans script client s (Unlock s mode) t (unlocked s client mode t).state (unlocked_loans script client s mode t none some)
-    (λ c m. same c m (count_of t.held client mode == 0)) (by_asks (count_of t.held client mode == 0))
-  where
-    same : (c : ℕ) (m : Mode) (unheld : Bool)
-        → given_up (if unheld then answers (NotHeld client s mode) t else answers (UnlockLine client s mode) (record t { held = take_lock t.held client mode })).state c m ≡ given_up t c m
-    same c m true = refl
-    same c m false = refl
-
-    by_asks : (unheld : Bool) (a : Ask) → Contains (if unheld then answers (NotHeld client s mode) t else answers (UnlockLine client s mode) (record t { held = take_lock t.held client mode })).state.pending a
-        → Contains t.pending a ⊎ ((a.client ≡ client) × (Unlock s mode ≡ command_of s a))
-    by_asks true a there = inl there
-    by_asks false a there = inl there
-
-pub dropped_balance : (script : ScriptData) (client s other set : ℕ) (t : SetState) → IsIdle client t → ActBalance script client s (DropAll other set) t (dropped other t)
-dropped_balance script client s other set t none =
-    from_loans script client s (DropAll other set) t (dropped other t) (dropped_loans script client s other set t none) (λ c m. refl) (λ a there. inl there)
-
--- a set that a command doesn't touch
-pub aside_balance : (script : ScriptData) (client s : ℕ) (command : Command) (t : SetState) → IsIdle client t
-    → ((mode : Mode) (n : ℕ) → n ≤ count_after script (holding client s mode) n (best_answer client command)) → ActBalance script client s command t t
-aside_balance script client s command t none counts =
-    from_loans script client s command t t (aside_loans script client s command t none counts) (λ c m. refl) (λ a there. inl there)
-
--- of a mode that isn't held nothing is counted
-none_total : (rows : List Row) (client : ℕ) (mode : Mode) → SomeEach rows → (count_of rows client mode == 0) ≡ true → total rows client mode ≡ 0
-none_total rows client mode some none = by_place (row_place rows client mode) refl (eqb-true (count_of rows client mode) 0 none)
-  where
-    by_place : (o : Option ℕ) → row_place rows client mode ≡ o → count_at rows o ≡ 0 → total rows client mode ≡ 0
-    by_place None e zero_here = sum_by-zero (row_count client mode) rows (λ i d within. ap (λ (b : Bool). if b then (slice_index_or rows i d).count else 0) (none_found (is_row_of client mode) rows e i d within))
-    by_place (Some k) e zero_here =
-        absurd (omega (arith, zero_here, each_some rows some k (position-Some (is_row_of client mode) rows k no_row e).0))
-
--- what a change counts
-abbrev change_counts : (n : ℕ) (given gone : Bool) → ℕ
-change_counts n given gone = if given then (if gone then n - 1 else n) + 1 else (if gone then n - 1 else n)
-
--- a change of the idle client
-record ChangeCounts (client : ℕ) (gives_up mode : Mode) (t u : SetState) : Type 0 where
-  others : (c : ℕ) (m : Mode) → c ≢ client → total u.held c m + asks_for u c m + given_up t c m ≤ total t.held c m + asks_for t c m + given_up u c m
-  own : (m : Mode) → total u.held client m + asks_for u client m ≤ change_counts (total t.held client m) (is_key client m client mode) (is_key client m client gives_up) + given_up u client m
-
-no_key : (c client : ℕ) (m mode : Mode) → c ≢ client → ◌≡◌ {A = ℕ} (if is_key c m client mode then 1 else 0) 0
-no_key c client m mode d = ap (λ (b : Bool). if b then 1 else 0) (not_his c client m mode d)
-
-change_asked : (client s : ℕ) (stamp : Stamp) (gives_up mode : Mode) (t : SetState) → IsIdle client t → 1 ≤ total t.held client gives_up
-    → ChangeCounts client gives_up mode t (asked s stamp (ask_of stamp client mode (Some gives_up) t) t).state
-change_asked client s stamp gives_up mode t none holds = record {
-  others = λ c m d. omega (arith, asks c m, gone c m, rows c m, no_key c client m mode d, no_key c client m gives_up d);
-  own = λ m. by_keys m (is_key client m client mode) (is_key client m client gives_up) refl (asks client m) (gone client m);
-}
+-- the live asks after an ask, or after one was taken up again
+locked_asks : (client s : ℕ) (stamp : Stamp) (mode : Mode) (t : SetState) → count_by (is_asks client) t.pending ≤ 1 → (a : Ask)
+    → Contains (locked s stamp client mode t).state.pending a → is_gone (locked s stamp client mode t).state a.client ≡ false
+    → (Contains t.pending a × (is_gone t a.client ≡ false)) ⊎ ((a.client ≡ client) × (Lock s mode ≡ command_of s a))
+locked_asks client s stamp mode t one a = by_test (can_grant stamp.node t client mode)
   where
     ask : Ask
-    ask = ask_of stamp client mode (Some gives_up) t
+    ask = ask_of stamp client mode None t
 
     more : SetState
     more = record t { pending = t.pending ++ ask ∷ [] }
 
-    u : SetState
-    u = (asked s stamp ask t).state
+    by_client : (c : ℕ) → a.client ≡ c → (a.client ≡ client) ⊎ (a.client ≢ client) → same_wish ask (pending_ask t client) ≡ true → Contains t.pending a
+        → is_gone (record t { gone = left_gone t.gone client }) a.client ≡ false
+        → (Contains t.pending a × (is_gone t a.client ≡ false)) ⊎ ((a.client ≡ client) × (Lock s mode ≡ command_of s a))
+    by_client c e (inl own) wish there live =
+        let same = same_wish-is ask t wish one a there own in
+        inr (own, λ i. command_by s (same.0 i) (same.1 i))
+    by_client c e (inr d) wish there live = inl (there, sym (gone_same t.gone client a.client d) ∙ live)
 
-    asks : (c : ℕ) (m : Mode) → asks_for u c m ≡ asks_for t c m + (if is_key c m client mode then 1 else 0)
-    asks c m = ap (λ (l : List Ask). count_by (is_for c m) l) (route_same s stamp false (ParkedAsk ask) more).1.pending ∙ asks_pushed (is_for c m) t.pending ask
-
-    gone : (c : ℕ) (m : Mode) → given_up u c m ≡ given_up t c m + (if is_key c m client gives_up then 1 else 0)
-    gone c m = ap (λ (l : List Ask). count_by (is_giving c m) l) (route_same s stamp false (ParkedAsk ask) more).1.pending ∙ asks_pushed (is_giving c m) t.pending ask
-
-    rows : (c : ℕ) (m : Mode) → total u.held c m ≡ total t.held c m
-    rows c m = ap (λ (l : List Row). total l c m) (route_same s stamp false (ParkedAsk ask) more).1.held
-
-    by_keys : (m : Mode) (new old : Bool) → is_key client m client gives_up ≡ old → asks_for u client m ≡ asks_for t client m + (if new then 1 else 0)
-        → given_up u client m ≡ given_up t client m + (if old then 1 else 0)
-        → total u.held client m + asks_for u client m ≤ change_counts (total t.held client m) new old + given_up u client m
-    by_keys m true true k e f = omega (arith, e, f, rows client m, idle_asks client t none m)
-    by_keys m true false k e f = omega (arith, e, f, rows client m, idle_asks client t none m)
-    by_keys m false true k e f = omega (arith, e, f, rows client m, idle_asks client t none m)
-    by_keys m false false k e f = omega (arith, e, f, rows client m, idle_asks client t none m)
-
-change_granted : (client : ℕ) (gives_up mode : Mode) (t : SetState) → IsIdle client t → SomeEach t.held → ChangeCounts client gives_up mode t (given client mode (Some gives_up) t)
-change_granted client gives_up mode t none some = record {
-  others = λ c m d. omega (arith, rows c m, other_rows c m d);
-  own = λ m. omega (arith, idle_asks client t none m, own_rows m);
-}
-  where
-    less : List Row
-    less = take_lock t.held client gives_up
-
-    rows : (c : ℕ) (m : Mode) → total (add_lock less client mode) c m ≡ (if is_key c m client mode then total less c m + 1 else total less c m)
-    rows c m = total_added less client c mode m
-
-    taken : (c : ℕ) (m : Mode) → total less c m ≡ (if is_key c m client gives_up then total t.held c m - 1 else total t.held c m)
-    taken c m = total_taken t.held client c gives_up m (each_some t.held some)
-
-    other_rows : (c : ℕ) (m : Mode) → c ≢ client → (if is_key c m client mode then total less c m + 1 else total less c m) ≡ total t.held c m
-    other_rows c m d = ap (λ (b : Bool). if b then total less c m + 1 else total less c m) (not_his c client m mode d) ∙ taken c m
-        ∙ ap (λ (b : Bool). if b then total t.held c m - 1 else total t.held c m) (not_his c client m gives_up d)
-
-    own_rows : (m : Mode) → total (add_lock less client mode) client m ≡ change_counts (total t.held client m) (is_key client m client mode) (is_key client m client gives_up)
-    own_rows m = rows client m ∙ ap (λ (n : ℕ). if is_key client m client mode then n + 1 else n) (taken client m)
-
--- nothing is counted of a mode that isn't held
-change_not_held : (client : ℕ) (gives_up mode : Mode) (t : SetState) → IsIdle client t → total t.held client gives_up ≡ 0 → ChangeCounts client gives_up mode t t
-change_not_held client gives_up mode t none nothing = record {
-  others = λ c m d. omega arith;
-  own = λ m. by_keys m (is_key client m client mode) (is_key client m client gives_up) refl;
-}
-  where
-    by_keys : (m : Mode) (new old : Bool) → is_key client m client gives_up ≡ old → total t.held client m + asks_for t client m ≤ change_counts (total t.held client m) new old + given_up t client m
-    by_keys m new true e =
-        let same = same_mode-true m gives_up (and_parts (client == client) (same_mode m gives_up) e).1 in
-        omega (arith, idle_asks client t none m, nothing, ap (λ (x : Mode). total t.held client x) same)
-    by_keys m true false e = omega (arith, idle_asks client t none m)
-    by_keys m false false e = omega (arith, idle_asks client t none m)
-
-pub changed_balance : (script : ScriptData) (client s : ℕ) (stamp : Stamp) (gives_up mode : Mode) (t : SetState) → IsIdle client t → SomeEach t.held
-    → ActBalance script client s (Change s gives_up mode) t (changed s stamp client gives_up mode t).state
-changed_balance script client s stamp gives_up mode t none some = by_count (count_of t.held client gives_up == 0) refl
-  where
-    keys : (m : Mode) → count_after script (holding client s m) (total t.held client m) (ChangeLine client s gives_up mode)
-        ≡ change_counts (total t.held client m) (is_key client m client mode) (is_key client m client gives_up)
-    keys m = λ i. change_counts (total t.held client m) (key_is client client s m mode i) (key_is client client s m gives_up i)
-
-    from_counts : (u : SetState) → ChangeCounts client gives_up mode t u
-        → ((a : Ask) → Contains u.pending a → Contains t.pending a ⊎ ((a.client ≡ client) × (Change s gives_up mode ≡ command_of s a))) → ActBalance script client s (Change s gives_up mode) t u
-    from_counts u h asks = record { others = h.others; own = λ m. omega (arith, h.own m, keys m); asks = asks }
-
-    some_one : (n : ℕ) → (n == 0) ≡ false → 1 ≤ n
-    some_one zero e = cc
-    some_one (suc n) e = omega arith
-
-    ask : Ask
-    ask = ask_of stamp client mode (Some gives_up) t
-
-    pending : (asked s stamp ask t).state.pending ≡ t.pending ++ ask ∷ []
-    pending = (route_same s stamp false (ParkedAsk ask) (record t { pending = t.pending ++ ask ∷ [] })).1.pending
-
-    by_test : (count_of t.held client gives_up == 0) ≡ false → (can : Bool)
-        → ActBalance script client s (Change s gives_up mode) t (if can then answers (ChangeLine client s gives_up mode) (given client mode (Some gives_up) t) else asked s stamp ask t).state
-    by_test held true = from_counts (given client mode (Some gives_up) t) (change_granted client gives_up mode t none some) (λ a there. inl there)
-    by_test held false =
-        from_counts (asked s stamp ask t).state
-        (change_asked client s stamp gives_up mode t none (omega (arith, some_one (count_of t.held client gives_up) held, count_within t.held client gives_up)))
-        (λ a there. elim (Contains-push_cases t.pending ask a (subst (λ (l : List Ask). Contains l a) pending there)) [
-          | inl old ↦ inl old
-          | inr new ↦ inr (subst (λ (x : Ask). (x.client ≡ client) × (Change s gives_up mode ≡ command_of s x)) new (refl, refl))
+    by_test : (can : Bool) → Contains (if can then granted s client mode t else asked_or_not s stamp ask t).state.pending a
+        → is_gone (if can then granted s client mode t else asked_or_not s stamp ask t).state a.client ≡ false
+        → (Contains t.pending a × (is_gone t a.client ≡ false)) ⊎ ((a.client ≡ client) × (Lock s mode ≡ command_of s a))
+    by_test true there live = inl (there, live)
+    by_test false there live = asks_ways (λ (made : Made). Contains made.state.pending a → is_gone made.state a.client ≡ false
+        → (Contains t.pending a × (is_gone t a.client ≡ false)) ⊎ ((a.client ≡ client) × (Lock s mode ≡ command_of s a))) s stamp ask t
+        (λ free found lives. elim (Contains-push_cases t.pending ask a (subst (λ (l : List Ask). Contains l a) (route_same s stamp false (ParkedAsk ask) more).1.pending found)) [
+          | inl old ↦ inl (old, sym (ap (λ (l : List ℕ). is_gone (record t { gone = l }) a.client) (route_gone s stamp false (ParkedAsk ask) more)) ∙ lives)
+          | inr new ↦ inr (subst (λ (x : Ask). (x.client ≡ client) × (Lock s mode ≡ command_of s x)) new (refl, refl))
         ])
+        (λ gone wish found lives. by_client a.client refl (cases_eq a.client client) wish found lives)
+        (λ found lives. inl (found, lives)) there live
 
-    by_count : (unheld : Bool) → (count_of t.held client gives_up == 0) ≡ unheld
-        → ActBalance script client s (Change s gives_up mode) t (if unheld then answers (NotHeld client s gives_up) t else change_held s stamp client gives_up mode t).state
-    by_count true e = from_counts t (change_not_held client gives_up mode t none (none_total t.held client gives_up some e)) (λ a there. inl there)
-    by_count false e = by_test e (can_grant stamp.node t client mode)
+-- no mark is new after an ask
+pub asks_mark : (s : ℕ) (stamp : Stamp) (ask : Ask) (t : SetState) (c : ℕ) → is_gone (asked_or_not s stamp ask t).state c ≡ true → is_gone t c ≡ true
+asks_mark s stamp ask t c e = asks_ways (λ (made : Made). is_gone made.state c ≡ true → is_gone t c ≡ true) s stamp ask t
+    (λ live f. sym (ap (λ (l : List ℕ). is_gone (record t { gone = l }) c) (route_gone s stamp false (ParkedAsk ask) (record t { pending = t.pending ++ ask ∷ [] }))) ∙ f)
+    (λ gone wish f. gone_fewer t.gone ask.client c f) (λ f. f) e
+
+-- one lock or new ask more of a client that had none
+one_more : (n m : ℕ) → m ≤ n + 1 → n ≡ 0 → m ≤ 1
+one_more n m more none = omega (arith, more, none)
+
+pub locked_balance : (script : ScriptData) (client s : ℕ) (stamp : Stamp) (mode : Mode) (t : SetState) → IsIdle client t → count_by (is_asks client) t.pending ≤ 1
+    → locks_and_asks (locked s stamp client mode t).state client ≤ locks_and_asks t client + 1
+    → ActBalance script client s (Lock s mode) t (locked s stamp client mode t).state
+locked_balance script client s stamp mode t none one more =
+    from_loans script client s (Lock s mode) t (locked s stamp client mode t).state refl (λ locks. refl) (locked_loans script client s stamp mode t none one)
+    (locked_giving client s stamp mode t one)
+    (λ few nothing. one_more (locks_and_asks t client) (locks_and_asks (locked s stamp client mode t).state client) more (nothing mode (inl refl)))
+    (locked_asks client s stamp mode t one) (by_marks (can_grant stamp.node t client mode))
+  where
+    by_marks : (can : Bool) (c : ℕ) → is_gone (if can then granted s client mode t else asked_or_not s stamp (ask_of stamp client mode None t) t).state c ≡ true → is_gone t c ≡ true
+    by_marks true c e = e
+    by_marks false c e = asks_mark s stamp (ask_of stamp client mode None t) t c e
+
+pub tried_balance : (script : ScriptData) (client s : ℕ) (stamp : Stamp) (mode : Mode) (t : SetState) → IsIdle client t
+    → locks_and_asks (tried s stamp client mode t).state client ≤ locks_and_asks t client + 1
+    → ActBalance script client s (Try s mode) t (tried s stamp client mode t).state
+tried_balance script client s stamp mode t none more =
+    from_loans script client s (Try s mode) t (tried s stamp client mode t).state refl (λ locks. refl) (tried_loans script client s stamp mode t none)
+    (λ c m. same c m (can_grant stamp.node t client mode))
+    (λ few nothing. one_more (locks_and_asks t client) (locks_and_asks (tried s stamp client mode t).state client) more (nothing mode (inr refl)))
+    (by_asks (can_grant stamp.node t client mode)) (by_marks (can_grant stamp.node t client mode))
+  where
+    same : (c : ℕ) (m : Mode) (can : Bool) → asks_giving (if can then answers (TryLine client s mode true) (given client mode None t) else answers (TryLine client s mode false) t).state c m ≡ asks_giving t c m
+    same c m true = refl
+    same c m false = refl
+
+    by_asks : (can : Bool) (a : Ask) → Contains (if can then answers (TryLine client s mode true) (given client mode None t) else answers (TryLine client s mode false) t).state.pending a
+        → is_gone (if can then answers (TryLine client s mode true) (given client mode None t) else answers (TryLine client s mode false) t).state a.client ≡ false
+        → (Contains t.pending a × (is_gone t a.client ≡ false)) ⊎ ((a.client ≡ client) × (Try s mode ≡ command_of s a))
+    by_asks true a there live = inl (there, live)
+    by_asks false a there live = inl (there, live)
+
+    by_marks : (can : Bool) (c : ℕ) → is_gone (if can then answers (TryLine client s mode true) (given client mode None t) else answers (TryLine client s mode false) t).state c ≡ true → is_gone t c ≡ true
+    by_marks true c e = e
+    by_marks false c e = e
+
+pub unlocked_balance : (script : ScriptData) (client s : ℕ) (mode : Mode) (t : SetState) → IsIdle client t → SomeEach t.held
+    → ActBalance script client s (Unlock s mode) t (unlocked s client mode t).state
+unlocked_balance script client s mode t none some =
+    from_loans script client s (Unlock s mode) t (unlocked s client mode t).state refl (λ locks. refl) (unlocked_loans script client s mode t none some)
+    (λ c m. same c m (count_of t.held client mode == 0)) (λ few nothing. omega (arith, few, fewer (count_of t.held client mode == 0)))
+    (by_asks (count_of t.held client mode == 0)) (by_marks (count_of t.held client mode == 0))
+  where
+    same : (c : ℕ) (m : Mode) (unheld : Bool)
+        → asks_giving (if unheld then answers (NotHeld client s mode) t else answers (UnlockLine client s mode) (record t { held = take_lock t.held client mode })).state c m ≡ asks_giving t c m
+    same c m true = refl
+    same c m false = refl
+
+    fewer : (unheld : Bool)
+        → locks_and_asks (if unheld then answers (NotHeld client s mode) t else answers (UnlockLine client s mode) (record t { held = take_lock t.held client mode })).state client ≤ locks_and_asks t client
+    fewer true = omega arith
+    fewer false = omega (arith, locks_fewer t.held client client mode)
+
+    by_asks : (unheld : Bool) (a : Ask) → Contains (if unheld then answers (NotHeld client s mode) t else answers (UnlockLine client s mode) (record t { held = take_lock t.held client mode })).state.pending a
+        → is_gone (if unheld then answers (NotHeld client s mode) t else answers (UnlockLine client s mode) (record t { held = take_lock t.held client mode })).state a.client ≡ false
+        → (Contains t.pending a × (is_gone t a.client ≡ false)) ⊎ ((a.client ≡ client) × (Unlock s mode ≡ command_of s a))
+    by_asks true a there live = inl (there, live)
+    by_asks false a there live = inl (there, live)
+
+    by_marks : (unheld : Bool) (c : ℕ)
+        → is_gone (if unheld then answers (NotHeld client s mode) t else answers (UnlockLine client s mode) (record t { held = take_lock t.held client mode })).state c ≡ true → is_gone t c ≡ true
+    by_marks true c e = e
+    by_marks false c e = e
+
+pub dropped_balance : (script : ScriptData) (client s other set : ℕ) (t : SetState) → IsIdle client t → ActBalance script client s (DropAll other set) t (dropped other t)
+dropped_balance script client s other set t none =
+    from_loans script client s (DropAll other set) t (dropped other t) refl (λ locks. refl) (dropped_loans script client s other set t none) (λ c m. refl)
+    (λ few nothing. omega (arith, few, locks_dropped t.held other client)) (λ a there live. inl (there, live)) (λ c e. e)
+
+-- a set that a command doesn't touch
+pub aside_balance : (script : ScriptData) (client s : ℕ) (command : Command) (t : SetState) → IsIdle client t
+    → ((locks : List Holding) (mode : Mode) → times_held locks (holding client s mode) ≤ times_held (may_still_hold_after script client locks command) (holding client s mode))
+    → ActBalance script client s command t t
+aside_balance script client s command t none counts = record {
+  loans = λ c mode d. omega arith;
+  others = λ c mode d. omega arith;
+  own = λ locks held one marked mode. omega (arith, held mode, counts locks mode, idle_asks client t none mode);
+  few = λ one nothing. one;
+  asks = λ a there live. inl (there, live);
+  marks = λ c e. e;
+}

@@ -7,9 +7,10 @@ use Rattle.lt_modes.specs.declared.stamp.Stamp.{Stamp}
 use Rattle.lt_modes.specs.declared.ask.Ask.{Ask}
 use Rattle.lt_modes.specs.declared.parts.Row.{Row}
 use Rattle.lt_modes.specs.Modes.{has, held_modes, excludes_itself, one, covers, is_of, count_of, take_lock}
-use Rattle.lt_modes.specs.State.{entered, SetState, Desk, Parked, ParkedAsk, ParkedTell, entry_of}
-use Rattle.lt_modes.specs.Serving.{told, queue_of_desk, queue_of}
-use Rattle.lt_modes.specs.SetMove.{route, ask_of, asked, answers, given, granted, locked, tried, unlocked, change_held, changed}
+use Rattle.lt_modes.specs.State.{entered, SetState, Made, Desk, Parked, ParkedAsk, ParkedTell, entry_of}
+use Rattle.lt_modes.specs.Serving.{told, queue_of_desk, queue_of, without_gone}
+use Rattle.lt_model.proofs.Voids.{asks_ways, withdraws_ways}
+use Rattle.lt_modes.specs.SetMove.{route, ask_of, asked, asked_or_not, answers, given, granted, locked, tried, unlocked, change_held, changed, withdrawn}
 use Rattle.lt_modes.specs.Freezing.{is_holder, can_grant}
 use Rattle.lt_modes.specs.declared.mode.Mode.{Mode}
 use Rattle.lt_modes.specs.declared.event.Event.TheVariants.{Try as TryLine, Unlock as UnlockLine, NotHeld, Change as ChangeLine}
@@ -25,7 +26,8 @@ use Rattle.lt_law_invariant.proofs.ClientCommands.{count_within}
 use Rattle.lt_law_lines.proofs.KeptLines.{row_of}
 use Rattle.lt_law_waiting.proofs.WaitsAtRest.{row_counts}
 use Rattle.lt_law_ordered.proofs.ChangeLoans.{weaker_granted}
-use Rattle.lt_law_upgrades.proofs.DeskStays.{HasEntries, KeepsDesk, Begins, granted_keeps, fewer_keeps}
+use Rattle.lt_law_upgrades.proofs.DeskStays.{HasEntries, KeepsDesk}
+use Rattle.lt_law_upgrades.proofs.DeskGrants.{Begins, granted_keeps, fewer_keeps}
 
 -- a holder's ask that is first stays first as another one enters
 first_stays : (first : Ask) (rest : List Ask) (ask : Ask) → IsTrue first.holder → (later : List Ask) × (entered (first ∷ rest) ask ≡ first ∷ later)
@@ -187,13 +189,26 @@ is_one t client mode some =
 
 -- The desk stays with a mode that excludes itself through each command of a client.
 
--- the desk through each command
+-- marks don't matter
+pub marks_keep : (nodes : ℕ) (t : SetState) (marks : List ℕ) → KeepsDesk nodes t → KeepsDesk nodes (record t { gone = marks })
+marks_keep nodes t marks h = record {
+  entries = h.entries;
+  desk = h.desk;
+  fresh = h.fresh;
+  next = λ ask g there e. let n = h.next ask g there e in record { taking = n.taking; higher = n.higher; holder = n.holder; rest = n.rest; queue = n.queue };
+}
+
+-- an ask, or one that is taken up again, or neither
+asks_or_not_keeps : (nodes s : ℕ) (stamp : Stamp) (ask : Ask) (t : SetState) → KeepsDesk nodes t → KeepsDesk nodes (asked s stamp ask t).state → KeepsDesk nodes (asked_or_not s stamp ask t).state
+asks_or_not_keeps nodes s stamp ask t h asks = asks_ways (λ (m : Made). KeepsDesk nodes m.state) s stamp ask t (λ live. asks)
+    (λ gone same. marks_keep nodes t (without_gone t.gone ask.client) h) h
+
 pub locked_desk : (nodes s : ℕ) (stamp : Stamp) (client : ℕ) (mode : Mode) (t : SetState) → Begins nodes t → is_holder t client ≡ false → KeepsDesk nodes (locked s stamp client mode t).state
 locked_desk nodes s stamp client mode t h none = by_test (can_grant stamp.node t client mode) refl
   where
-    by_test : (can : Bool) → can_grant stamp.node t client mode ≡ can → KeepsDesk nodes (if can then granted s client mode t else asked s stamp (ask_of stamp client mode None t) t).state
+    by_test : (can : Bool) → can_grant stamp.node t client mode ≡ can → KeepsDesk nodes (if can then granted s client mode t else asked_or_not s stamp (ask_of stamp client mode None t) t).state
     by_test true e = granted_keeps nodes stamp.node client mode None t h e
-    by_test false e = lock_asks_keeps nodes s stamp client mode t h.keeps none
+    by_test false e = asks_or_not_keeps nodes s stamp (ask_of stamp client mode None t) t h.keeps (lock_asks_keeps nodes s stamp client mode t h.keeps none)
 
 pub tried_desk : (nodes s : ℕ) (stamp : Stamp) (client : ℕ) (mode : Mode) (t : SetState) → Begins nodes t → KeepsDesk nodes (tried s stamp client mode t).state
 tried_desk nodes s stamp client mode t h = by_test (can_grant stamp.node t client mode) refl
@@ -226,15 +241,19 @@ changed_desk nodes s stamp client gives_up mode t h ready = by_count (count_of t
     uncovered true e some can = absurd (false≢true (sym can ∙ weaker_granted stamp.node t client gives_up mode e some))
 
     by_test : 1 ≤ count_of t.held client gives_up → (can : Bool) → can_grant stamp.node t client mode ≡ can
-        → KeepsDesk nodes (if can then answers (ChangeLine client s gives_up mode) (given client mode (Some gives_up) t) else asked s stamp (ask_of stamp client mode (Some gives_up) t) t).state
+        → KeepsDesk nodes (if can then answers (ChangeLine client s gives_up mode) (given client mode (Some gives_up) t) else asked_or_not s stamp (ask_of stamp client mode (Some gives_up) t) t).state
     by_test some true e = granted_keeps nodes stamp.node client mode (Some gives_up) t h e
     by_test some false e =
         let higher = uncovered (covers (one gives_up) mode) refl some e in
         let held : 1 ≤ total t.held client gives_up = omega (arith, some, count_within t.held client gives_up) in
         let now = ready higher held in
-        change_asks_keeps nodes s stamp client gives_up mode t h.keeps (is_one t client gives_up held) now.1 now.0 higher now.2
+        asks_or_not_keeps nodes s stamp (ask_of stamp client mode (Some gives_up) t) t h.keeps
+        (change_asks_keeps nodes s stamp client gives_up mode t h.keeps (is_one t client gives_up held) now.1 now.0 higher now.2)
 
     by_count : (unheld : Bool) → (count_of t.held client gives_up == 0) ≡ unheld
         → KeepsDesk nodes (if unheld then answers (NotHeld client s gives_up) t else change_held s stamp client gives_up mode t).state
     by_count true e = h.keeps
     by_count false e = by_test (some_one (count_of t.held client gives_up) e) (can_grant stamp.node t client mode) refl
+
+pub withdrawn_desk : (nodes s client other : ℕ) (t : SetState) → KeepsDesk nodes t → KeepsDesk nodes (withdrawn s client other t).state
+withdrawn_desk nodes s client other t h = withdraws_ways (λ (m : Made). KeepsDesk nodes m.state) s client other t (λ waiting. marks_keep nodes t (other ∷ t.gone) h) (λ idle. h)

@@ -7,7 +7,7 @@ use Rattle.lt_modes.specs.declared.ask.Ask.{Ask}
 use Rattle.lt_modes.specs.Modes.{excludes_itself, held_modes, has, any_mode}
 use Rattle.lt_modes.specs.State.{SetState, Desk, Body, AskBody, TellBody, CopyBody, TokenBody, FreezeBody, Letter, Parked, ParkedAsk, ParkedTell, no_ask, without, entry_of, Post, post_of}
 use Rattle.lt_modes.specs.SetMove.{dealt, learn, arrive, take_body, tell_of, make_tell}
-use Rattle.lt_modes.specs.Serving.{queue_of_desk, answered, queue_of, ask_at, put_queue, owed_at, owing, next_service, next_draw, serve_local, serve_copy, leaving, without_desk, hand_over_to}
+use Rattle.lt_modes.specs.Serving.{is_gone, queue_of_desk, answered, queue_of, ask_at, put_queue, owed_at, owing, next_service, next_draw, serve_local, serve_copy, leaving, without_desk, hand_over_to}
 use Rattle.lt_modes.specs.declared.mode.Mode.{Mode}
 use Rattle.lt_modes.specs.Freezing.{freeze_at, frozen_entry, frozen_by}
 use Rattle.lt_modes.proofs.ModeAlgebra.{any_mode-which, any_mode-at}
@@ -21,10 +21,10 @@ use Rattle.lt_model.proofs.Effects.{Fact, EndEffects, next_service-within, both}
 use Rattle.lt_model.proofs.PathsQuiet.{next_service-freeze, put_queue_some, owed_at_some, length-map_from}
 use Rattle.lt_model.proofs.PathsGoing.{route-idle}
 use Rattle.lt_model.proofs.StandingEffects.{found_here}
-use Rattle.lt_law_invariant.proofs.ClientEffects.{Clients, GivenBy}
+use Rattle.lt_law_invariant.proofs.ClientEffects.{GivenBy}
 use Rattle.lt_law_invariant.proofs.OwnSteps.{route_same}
 use Rattle.lt_law_lines.proofs.KeptLines.{row_of}
-use Rattle.lt_law_upgrades.proofs.DeskStays.{HasEntries, KeepsDesk, same_keeps, queued_here, not_here, HasLeft, place_here, later_removed, drawn_conflicts, left_records}
+use Rattle.lt_law_upgrades.proofs.DeskStays.{HasEntries, KeepsDesk, AreLive, IsSettled, live_where_none, same_keeps, queued_here, not_here, HasLeft, place_here, later_removed, drawn_conflicts, left_records}
 use Rattle.lt_law_upgrades.proofs.DeskAsks.{item_entries, routed_keeps}
 use Rattle.lt_law_upgrades.proofs.Balance.{with_balance, balance_ends}
 
@@ -35,11 +35,11 @@ record SameKept (t v : SetState) : Type 0 where
   desk : v.desk ≡ t.desk
 
 -- a letter arrives; a token comes where no desk is; the ask of a copy waits, and doesn't exclude itself
-pub arrived_keeps : (nodes : ℕ) (stamp : Stamp) (letter : Letter) (t : SetState) → KeepsDesk nodes t → Clients (λ c. 0) t t
+pub arrived_keeps : (nodes : ℕ) (stamp : Stamp) (letter : Letter) (t : SetState) → KeepsDesk nodes t
     → ((ask : Ask) → letter.body ≡ CopyBody ask → Contains t.pending ask × (excludes_itself ask.mode ≡ false))
     → ((desk : Desk) → letter.body ≡ TokenBody desk → (t.desk ≡ None) × (length desk.entries ≡ nodes))
     → KeepsDesk nodes (arrive stamp letter t).state
-arrived_keeps nodes stamp letter t h sound copies tokens = by_body letter.body refl
+arrived_keeps nodes stamp letter t h copies tokens = by_body letter.body refl
   where
     u : SetState
     u = learn letter.link t
@@ -59,16 +59,20 @@ arrived_keeps nodes stamp letter t h sound copies tokens = by_body letter.body r
     by_body (TellBody tell) says = routed_keeps nodes letter.set stamp false (ParkedTell tell) u kept
     by_body (CopyBody ask) says = record {
       entries = kept.entries;
-      desk = λ m there taking.
-          elim (has-with_mode m ask.mode (held_modes u.held) (held_one_more ask.client ask.mode u.held (answered u.held ask) (rows_granted u.held ask.client ask.mode ask.gives_up) m there)) [
-            | inl old ↦ kept.desk m old taking
-            | inr is ↦ absurd (false≢true (sym (copies ask says).1 ∙ ap excludes_itself is ∙ taking))
-          ];
+      desk = λ m there taking. by_gone (is_gone u ask.client) m taking there;
       fresh = λ a there none. kept.fresh a (without_only u.pending ask.stamp a there) none;
       next = λ a g there e.
           let n = kept.next a g (without_only u.pending ask.stamp a there) e in
           record { taking = n.taking; higher = n.higher; holder = n.holder; rest = n.rest; queue = n.queue };
     }
+      where
+        by_gone : (gone : Bool) (m : Mode) → IsTrue (excludes_itself m) → IsTrue (has m (held_modes (if gone then u.held else answered u.held ask))) → IsTrue (is_some u.desk)
+        by_gone true m taking there = kept.desk m there taking
+        by_gone false m taking there =
+            elim (has-with_mode m ask.mode (held_modes u.held) (held_one_more ask.client ask.mode u.held (answered u.held ask) (rows_granted u.held ask.client ask.mode ask.gives_up) m there)) [
+              | inl old ↦ kept.desk m old taking
+              | inr is ↦ absurd (false≢true (sym (copies ask says).1 ∙ ap excludes_itself is ∙ taking))
+            ]
     by_body (TokenBody desk) says = record {
       entries = all_entries u.parked desk (tokens desk says).1;
       desk = λ m there taking. refl;
@@ -110,25 +114,25 @@ abbrev pub none_next : ℕ → Fact
 none_next me t posts = next_service me t ≡ None
 
 -- or the token left though it could not
-abbrev pub keeps_or_left : ℕ → ℕ → ℕ → Fact
-keeps_or_left nodes s me t posts = KeepsDesk nodes t ⊎ HasLeft s me posts
+abbrev pub settled_or_left : ℕ → ℕ → ℕ → Fact
+settled_or_left nodes s me t posts = IsSettled nodes t ⊎ HasLeft s me posts
 
-pub desk_ends : (nodes s : ℕ) (stamp : Stamp) (elsewhere unanswered : Ask → ℕ) (bonus : ℕ → ℕ) (begin first : SetState) → stamp.node < nodes → ((a : Ask) → a.node ≡ stamp.node → unanswered a ≡ 0)
-    → EndEffects s stamp (both (with_balance s stamp elsewhere unanswered bonus begin first) (keeps_desk nodes))
-    (both (both (with_balance s stamp elsewhere unanswered bonus begin first) (keeps_desk nodes)) (none_next stamp.node))
-    (both (with_balance s stamp elsewhere unanswered bonus begin first) (keeps_or_left nodes s stamp.node))
-desk_ends nodes s stamp elsewhere unanswered bonus begin first below only = record {
+pub desk_ends : (nodes s : ℕ) (stamp : Stamp) (elsewhere unanswered : Ask → ℕ) (first : SetState) → stamp.node < nodes → ((a : Ask) → a.node ≡ stamp.node → unanswered a ≡ 0)
+    → EndEffects s stamp (both (with_balance s stamp elsewhere unanswered first) (keeps_desk nodes))
+    (both (both (with_balance s stamp elsewhere unanswered first) (keeps_desk nodes)) (none_next stamp.node))
+    (both (with_balance s stamp elsewhere unanswered first) (settled_or_left nodes s stamp.node))
+desk_ends nodes s stamp elsewhere unanswered first below only = record {
   serves = λ t posts k e h. (base.serves t posts k e h.0, served t posts k e h ((ask_at t k).node == stamp.node) refl);
   freezes = λ t posts desk here none h. ((base.freezes t posts desk here none h.0, frozen t h.1 t.desk refl), next_service-freeze s stamp t ∙ none);
   leaves = λ t posts k e h. (base.leaves t posts k e h.0.0, left t posts k e h t.desk refl);
-  stays = λ t posts e h. (base.stays t posts e h.0.0, inl h.0.1);
-  tells = λ t posts away differs h. (base.tells t posts away differs h.0, inl (told t away h.1));
-  tells_not = λ t posts away same h. (base.tells_not t posts away same h.0, inl h.1);
+  stays = λ t posts e h. (base.stays t posts e h.0.0, inl (settled t posts h));
+  tells = λ t posts away differs h. (base.tells t posts away differs h.0, inl (record { keeps = told t away h.1; live = told_live t away h.1 }));
+  tells_not = λ t posts away same h. (base.tells_not t posts away same h.0, inl (record { keeps = h.1; live = none_away t away h.1 }));
 }
   where
-    base : EndEffects s stamp (with_balance s stamp elsewhere unanswered bonus begin first) (with_balance s stamp elsewhere unanswered bonus begin first)
-        (with_balance s stamp elsewhere unanswered bonus begin first)
-    base = balance_ends s stamp elsewhere unanswered bonus begin first only
+    base : EndEffects s stamp (with_balance s stamp elsewhere unanswered first) (with_balance s stamp elsewhere unanswered first)
+        (with_balance s stamp elsewhere unanswered first)
+    base = balance_ends s stamp elsewhere unanswered first only
 
     queue_after : (t : SetState) (k : ℕ) → k < length (queue_of t) → (own : Bool) → ((ask_at t k).node == stamp.node) ≡ own
         → queue_of (if own then serve_local s k t else serve_copy s stamp k (ask_at t k) t).state ≡ remove (queue_of t) k
@@ -136,14 +140,14 @@ desk_ends nodes s stamp elsewhere unanswered bonus begin first below only = reco
         subst (λ (b : Bool). queue_of (if b then serve_local s k t else serve_copy s stamp k (ask_at t k) t).state ≡ remove (queue_of t) k) e (queue_of-serve_one s stamp k t within)
 
     served : (t : SetState) (posts : List Post) (k : ℕ) → next_service stamp.node t ≡ Some k
-        → both (with_balance s stamp elsewhere unanswered bonus begin first) (keeps_desk nodes) t posts → (own : Bool)
+        → both (with_balance s stamp elsewhere unanswered first) (keeps_desk nodes) t posts → (own : Bool)
         → ((ask_at t k).node == stamp.node) ≡ own → KeepsDesk nodes (if own then serve_local s k t else serve_copy s stamp k (ask_at t k) t).state
     served t posts k e h true me =
         let within = next_service-within stamp.node t k e in
         let b = ask_at t k in
         let among = Contains-get_or (queue_of t) k no_ask within in
         let found =
-        found_here s stamp.node stamp.clock elsewhere unanswered t posts b h.0.0.0 (only b (eqb-true b.node stamp.node me))
+        found_here s stamp.node stamp.clock elsewhere unanswered t posts b h.0.0 (only b (eqb-true b.node stamp.node me))
         (omega (arith, times_in-some b (queue_of t) among)) in
         let here : is_some (put_queue (remove (queue_of t) k) t.desk) ≡ true = put_queue_some (remove (queue_of t) k) t.desk ∙ place_here t k within in
         record {
@@ -154,7 +158,7 @@ desk_ends nodes s stamp elsewhere unanswered bonus begin first below only = reco
               let n = h.1.next ask gives_up (without_only t.pending b.stamp ask there) f in
               let more = later_removed ask n.rest k (λ same.
               let is_b : b ≡ ask = ap (λ (l : List Ask). slice_index_or l k no_ask) n.queue ∙ same in
-              without_gone t.pending b h.0.0.0.apart found (subst (Contains (without t.pending b.stamp)) (sym is_b) there)) in
+              without_gone t.pending b h.0.0.apart found (subst (Contains (without t.pending b.stamp)) (sym is_b) there)) in
               record { taking = n.taking; higher = n.higher; holder = n.holder; rest = more.0; queue = queue_after t k within true me ∙ ap (λ (l : List Ask). remove l k) n.queue ∙ more.1 };
         }
     served t posts k e h false me =
@@ -166,7 +170,7 @@ desk_ends nodes s stamp elsewhere unanswered bonus begin first below only = reco
           fresh = h.1.fresh;
           next = λ ask gives_up there f.
               let n = h.1.next ask gives_up there f in
-              let own = (All-contains (IsMadeBy stamp.node stamp.clock) t.pending ask h.0.0.0.own there).0 in
+              let own = (All-contains (IsMadeBy stamp.node stamp.clock) t.pending ask h.0.0.own there).0 in
               let more = later_removed ask n.rest k (λ same.
               let is_b : b ≡ ask = ap (λ (l : List Ask). slice_index_or l k no_ask) n.queue ∙ same in
               false≢true (sym me ∙ eq-eqb b.node stamp.node (ap (λ (a : Ask). a.node) is_b ∙ own))) in
@@ -179,17 +183,32 @@ desk_ends nodes s stamp elsewhere unanswered bonus begin first below only = reco
         (length-map_from (frozen_entry stamp.node (frozen_by desk.queue)) 0 desk.entries ∙ subst (HasEntries nodes) e h.entries)
         refl refl (ap is_some (sym e)) (ap queue_of_desk (sym e)) h
 
+    -- where no service is left no change that waits was given up
+    settled : (t : SetState) (posts : List Post) → both (both (with_balance s stamp elsewhere unanswered first) (keeps_desk nodes)) (none_next stamp.node) t posts → IsSettled nodes t
+    settled t posts h = record {
+      keeps = h.0.1;
+      live = live_where_none nodes stamp.node t (λ ask there. (All-contains (IsMadeBy stamp.node stamp.clock) t.pending ask h.0.0.0.own there).0) h.0.1 h.1;
+    }
+
+    -- away from the desk none waits
+    none_away : (t : SetState) → t.desk ≡ None → KeepsDesk nodes t → AreLive t
+    none_away t away h ask gives_up there e = let n = h.next ask gives_up there e in not_here t.desk away (queued_here t ask n.rest n.queue)
+
     told : (t : SetState) → t.desk ≡ None → KeepsDesk nodes t → KeepsDesk nodes (make_tell s stamp t).state
     told t away h =
         let same = (route_same s stamp false (ParkedTell (tell_of stamp t)) (record t { charge = held_modes t.held })).1 in
         let gone = (route-idle s stamp false (ParkedTell (tell_of stamp t)) (record t { charge = held_modes t.held }) away).away in
         same_keeps nodes t (make_tell s stamp t).state (subst (HasEntries nodes) (sym gone) tt) same.held same.pending (ap is_some (gone ∙ sym away)) (ap queue_of_desk (gone ∙ sym away)) h
 
+    told_live : (t : SetState) → t.desk ≡ None → KeepsDesk nodes t → AreLive (make_tell s stamp t).state
+    told_live t away h = none_away (make_tell s stamp t).state
+        (route-idle s stamp false (ParkedTell (tell_of stamp t)) (record t { charge = held_modes t.held }) away).away (told t away h)
+
     left : (t : SetState) (posts : List Post) (k : ℕ) → next_draw stamp.node t ≡ Some k
-        → both (both (with_balance s stamp elsewhere unanswered bonus begin first) (keeps_desk nodes)) (none_next stamp.node) t posts
+        → both (both (with_balance s stamp elsewhere unanswered first) (keeps_desk nodes)) (none_next stamp.node) t posts
         → (o : Option Desk) → t.desk ≡ o
-        → keeps_or_left nodes s stamp.node (hand_over_to s stamp t (ask_at t k).node o).state (posts ++ (hand_over_to s stamp t (ask_at t k).node o).posts)
-    left t posts k e h None away = inl h.0.1
+        → settled_or_left nodes s stamp.node (hand_over_to s stamp t (ask_at t k).node o).state (posts ++ (hand_over_to s stamp t (ask_at t k).node o).posts)
+    left t posts k e h None away = inl (settled t posts h)
     left t posts k e h (Some desk) here = by_test (any_mode (λ m. has m (held_modes t.held) && excludes_itself m)) refl
       where
         v : ℕ
@@ -201,13 +220,16 @@ desk_ends nodes s stamp elsewhere unanswered bonus begin first below only = reco
         post : Post
         post = post_of s stamp u v (TokenBody (leaving stamp t desk))
 
-        by_test : (some : Bool) → any_mode (λ m. has m (held_modes t.held) && excludes_itself m) ≡ some → KeepsDesk nodes u ⊎ HasLeft s stamp.node (posts ++ post ∷ [])
+        by_test : (some : Bool) → any_mode (λ m. has m (held_modes t.held) && excludes_itself m) ≡ some → IsSettled nodes u ⊎ HasLeft s stamp.node (posts ++ post ∷ [])
         by_test false none = inl (record {
-          entries = tt;
-          desk = λ mode there taking. absurd (nothing mode there taking);
-          fresh = h.0.1.fresh;
-          next = λ ask gives_up there f.
-              absurd (nothing gives_up (given_held t ask.client gives_up ask.gives_up f (h.0.0.0.1.gives ask there)) (h.0.1.next ask gives_up there f).taking);
+          keeps = record {
+            entries = tt;
+            desk = λ mode there taking. absurd (nothing mode there taking);
+            fresh = h.0.1.fresh;
+            next = λ ask gives_up there f.
+                absurd (nothing gives_up (given_held t ask.client gives_up ask.gives_up f (h.0.0.1.clients.gives ask there ((settled t posts h).live ask gives_up there f))) (h.0.1.next ask gives_up there f).taking);
+          };
+          live = (settled t posts h).live;
         })
           where
             nothing : (mode : Mode) → IsTrue (has mode (held_modes t.held)) → IsTrue (excludes_itself mode) → ⊥

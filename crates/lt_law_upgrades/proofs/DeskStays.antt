@@ -1,24 +1,19 @@
 -- The desk stays where a mode that excludes itself is held, and who changes one stands first in its queue.
 use Rattle.std.proofs.Common.{◌≡◌, ◌≢◌, ℕ, zero, suc, ◌+◌, ◌<◌, inl, inr, List, [], ◌∷◌, length, Option, Some, None, Bool, true, false, refl, sym, ap, subst, arith, take, ◌∙◌, ◌==◌, ◌&&◌, ◌||◌, not, if◌then◌else◌, fold, Contains, IsTrue, IsFalse, is_some, remove, slice_index_or, eq-eqb, ne_eqb, get_or-set_same, get_or-set_other}
-use Rattle.std.proofs.lemmas.Bool.{cases_eq, false≢true, and_parts, or_cases}
+use Rattle.std.proofs.lemmas.Bool.{cases_eq, false≢true}
 use Rattle.lt_modes.specs.declared.mode.Mode.{Mode}
 use Rattle.lt_modes.specs.declared.stamp.Stamp.{Stamp}
 use Rattle.lt_modes.specs.declared.ask.Ask.{Ask}
 use Rattle.lt_modes.specs.declared.parts.Row.{Row}
-use Rattle.lt_modes.specs.Modes.{Modes, conflicts, excludes_itself, has, one, bars, covers, union, with_mode, no_modes, same_mode, held_modes, is_within, own_modes, other_modes, add_lock}
+use Rattle.lt_modes.specs.Modes.{Modes, conflicts, excludes_itself, has, one, bars, covers, union, with_mode, no_modes, same_mode, held_modes}
 use Rattle.lt_modes.specs.State.{no_ask, modes_of_asks, SetState, Desk, TokenBody, Entry, first_entry, entry_of, record_of, own_owed, modes_at, others_below, others, Post}
-use Rattle.lt_modes.specs.Serving.{queue_of, queue_of_desk, ask_at, is_free, is_local, is_clear_at_home, is_served, next_from, next_at, next_service, next_draw, leaving, settled, give_up}
+use Rattle.lt_modes.specs.Serving.{queue_of, queue_of_desk, ask_at, is_free, is_local, is_clear_at_home, is_served, is_ready, is_void, is_gone, next_from, next_at, next_service, next_draw, leaving, settled}
 use Rattle.lt_modes.proofs.ModeAlgebra.{bars_by_table, covers_by_table, conflicts-sym, has-modes_by, same_mode-true}
-use Rattle.lt_modes.specs.declared.mode.Mode.TheVariants.{Read, Upgrade, IntentionWrite}
-use Rattle.lt_modes.specs.ModeLaws.{BarsBy}
-use Rattle.lt_modes.specs.Freezing.{may_join, can_grant}
-use Rattle.lt_modes.specs.SetMove.{given}
 use Rattle.lt_law_accounts.specs.Account.{MayDraw, IsFirstDrawing}
 use Rattle.lt_law_accounts.proofs.Drawing.{drawn_by_first}
-use Rattle.lt_law_accounts.proofs.AccountFacts.{has-union, has-left, has-right, mode_which, has-with_mode}
-use Rattle.lt_law_accounts.proofs.Rows.{AreFewer, held_fewer, held_one_more, rows_granted, own_is_held}
+use Rattle.lt_law_accounts.proofs.AccountFacts.{has-union, has-left, has-right, mode_which}
 use Rattle.lt_law_ordered.proofs.ChangeLoans.{cover_more}
-use Rattle.lt_law_upgrades.proofs.TakingModes.{taking_covers, taking_barred, only_read, only_write}
+use Rattle.lt_law_upgrades.proofs.TakingModes.{taking_covers}
 
 -- the desk has an entry for each node
 abbrev pub HasEntries : ℕ → Option Desk → Type 0
@@ -39,6 +34,15 @@ pub record KeepsDesk (nodes : ℕ) (t : SetState) : Type 0 where
   pub desk : (mode : Mode) → IsTrue (has mode (held_modes t.held)) → IsTrue (excludes_itself mode) → IsTrue (is_some t.desk)
   pub fresh : (ask : Ask) → Contains t.pending ask → ask.gives_up ≡ None → IsFalse ask.holder
   pub next : (ask : Ask) (gives_up : Mode) → Contains t.pending ask → ask.gives_up ≡ Some gives_up → IsNext t ask gives_up
+
+-- no change that waits was given up
+abbrev pub AreLive : SetState → Type 0
+AreLive t = (ask : Ask) (gives_up : Mode) → Contains t.pending ask → ask.gives_up ≡ Some gives_up → is_gone t ask.client ≡ false
+
+-- between moves one that was given up has left the queue
+pub record IsSettled (nodes : ℕ) (t : SetState) : Type 0 where
+  pub keeps : KeepsDesk nodes t
+  pub live : AreLive t
 
 -- the token left node me, which holds a mode that conflicts with one on record for the node to which it went
 pub record HasLeft (s me : ℕ) (posts : List Post) : Type 0 where
@@ -86,6 +90,18 @@ pub later_removed : (ask : Ask) (rest : List Ask) (k : ℕ) → slice_index_or (
 later_removed ask rest zero d = absurd (d refl)
 later_removed ask rest (suc k) d = (remove rest k, refl)
 
+first_false : (a b : Bool) → (a || b) ≡ false → a ≡ false
+first_false true b e = e
+first_false false b e = refl
+
+last_false : (a b : Bool) → (a || b) ≡ false → b ≡ false
+last_false true b e = absurd (false≢true (sym e))
+last_false false b e = e
+
+second_false : (a b : Bool) → a ≡ true → (a && b) ≡ false → b ≡ false
+second_false true b e f = f
+second_false false b e f = cc
+
 -- no ask of the queue is served where none is next
 none_served : (me : ℕ) (s : SetState) (desk : Desk) (before : Modes) (place : ℕ) (queue : List Ask) (i : ℕ) → i < length queue → next_from me s desk before place queue ≡ None
     → is_served me s desk (fold (λ modes (a : Ask). with_mode modes a.mode) before (take i queue)) (slice_index_or queue i no_ask) ≡ false
@@ -102,6 +118,20 @@ none_served me s desk before place (ask ∷ rest) i within e =
     by_test true f g again i within = cc
     by_test false f g again zero within = f
     by_test false f g again (suc j) within = again j (omega (arith, within)) g
+
+-- so no change that waits was given up
+pub live_where_none : (nodes me : ℕ) (t : SetState) → ((ask : Ask) → Contains t.pending ask → ask.node ≡ me) → KeepsDesk nodes t → next_service me t ≡ None → AreLive t
+live_where_none nodes me t own h none ask gives_up there e = by_desk t.desk refl none
+  where
+    n : IsNext t ask gives_up
+    n = h.next ask gives_up there e
+
+    by_desk : (o : Option Desk) → t.desk ≡ o → next_at me t o ≡ None → is_gone t ask.client ≡ false
+    by_desk None away f = absurd (false≢true (sym (ap is_some away) ∙ queued_here t ask n.rest n.queue))
+    by_desk (Some desk) here f =
+        let queue : desk.queue ≡ ask ∷ n.rest = ap queue_of_desk (sym here) ∙ n.queue in
+        let unserved = none_served me t desk no_modes 0 (ask ∷ n.rest) 0 (omega arith) (ap (next_from me t desk no_modes 0) (sym queue) ∙ f) in
+        second_false (ask.node == me) (is_gone t ask.client) (eq-eqb ask.node me (own ask there)) (first_false _ _ unserved)
 
 -- what counts of a node counts among the others of each other node
 others_at : (n me : ℕ) (s : SetState) (desk : Desk) (v x : ℕ) (mode : Mode) → x < n → x ≢ v → IsTrue (has mode (modes_at me s desk x)) → IsTrue (has mode (others_below n me s desk v))
@@ -171,7 +201,8 @@ draw_conflicts me s desk mode k earlier ask inside held taking draw unserved =
 
     clear : is_clear_at_home me s desk ask ≡ false
     clear = not_clear (is_free me s desk (modes_of_asks earlier) ask) (is_local me s desk ask) (ask.node == me) (covers (others me s desk ask.node) ask.mode) (is_clear_at_home me s desk ask)
-        (by_free (has ask.mode (bars (union (others me s desk ask.node) (modes_of_asks earlier)))) refl) away (cover_more (others me s desk ask.node) mode ask.mode covered among) unserved
+        (by_free (has ask.mode (bars (union (others me s desk ask.node) (modes_of_asks earlier)))) refl) away (cover_more (others me s desk ask.node) mode ask.mode covered among)
+        (last_false (is_void me s ask) (is_ready me s desk (modes_of_asks earlier) ask) unserved)
 
     found : (m : Mode) × IsTrue (conflicts ask.mode m) × IsTrue (has m (modes_at me s desk ask.node))
     found = (bars_by_table (modes_at me s desk ask.node) ask.mode).0 (not_false _ clear)
@@ -207,75 +238,7 @@ left_records stamp t desk mode v inside d held c = (
   },
 )
 
--- The desk stays with a mode that excludes itself as modes are granted and released.
-
--- what is so as a command begins: between moves the charge bars what the held modes bar, and nobody holds both `read` and
--- `intention_write`
-pub record Begins (nodes : ℕ) (t : SetState) : Type 0 where
-  pub keeps : KeepsDesk nodes t
-  pub charge : t.desk ≡ None → bars (held_modes t.held) ≡ bars t.charge
-  pub apart : IsTrue (has Read (held_modes t.held)) → IsTrue (has IntentionWrite (held_modes t.held)) → ⊥
-
+-- where the desk is here it isn't away
 pub not_here : {A : Type 0} (o : Option Desk) → o ≡ None → is_some o ≡ true → A
 not_here None e f = cc
 not_here (Some desk) e f = cc
-
--- away from the desk no mode that excludes itself is granted
-away_granted : (nodes me client : ℕ) (mode : Mode) (t : SetState) → Begins nodes t → t.desk ≡ None → can_grant me t client mode ≡ true → IsTrue (excludes_itself mode) → ⊥
-away_granted nodes me client mode t h away can taking = h.apart
-    (subst (λ (m : Mode). IsTrue (has m held)) (only_read reads.0 (gentle reads.0 reads.2) reads.1) reads.2)
-    (subst (λ (m : Mode). IsTrue (has m held)) (only_write writes.0 (gentle writes.0 writes.2) writes.1) writes.2)
-  where
-    held : Modes
-    held = held_modes t.held
-
-    gentle : (m : Mode) → IsTrue (has m held) → excludes_itself m ≡ false
-    gentle m there = by_test (excludes_itself m) refl
-      where
-        by_test : (b : Bool) → excludes_itself m ≡ b → b ≡ false
-        by_test false e = refl
-        by_test true e = not_here t.desk away (h.keeps.desk m there e)
-
-    barred : (other : Mode) → conflicts other mode ≡ true → BarsBy conflicts held other
-    barred other conflict = elim (or_cases (covers (own_modes t.held client) mode) _ can) [
-      | inl own ↦
-          let bar = covers_by_table (own_modes t.held client) mode own other conflict in
-          (bar.0, bar.1, own_is_held t.held client bar.0 bar.2)
-      | inr joins ↦
-          let joined = (and_parts (not (has mode (bars (other_modes t.held client)))) (may_join me t client mode t.desk) joins).1 in
-          let charged = (and_parts (covers t.charge mode) (not (has mode t.frozen)) (subst (λ (o : Option Desk). may_join me t client mode o ≡ true) away joined)).0 in
-          covers_by_table held mode (subst (λ (b : Modes). is_within (bars (one mode)) b ≡ true) (sym (h.charge away)) charged) other conflict
-    ]
-
-    reads : BarsBy conflicts held IntentionWrite
-    reads = barred IntentionWrite (taking_barred mode taking).0
-
-    writes : BarsBy conflicts held Upgrade
-    writes = barred Upgrade (taking_barred mode taking).1
-
--- a mode is granted
-pub granted_keeps : (nodes me client : ℕ) (mode : Mode) (gives_up : Option Mode) (t : SetState) → Begins nodes t → can_grant me t client mode ≡ true
-    → KeepsDesk nodes (given client mode gives_up t)
-granted_keeps nodes me client mode gives_up t h can = record {
-  entries = h.keeps.entries;
-  desk = λ m there taking.
-      elim (has-with_mode m mode (held_modes t.held) (held_one_more client mode t.held (add_lock (give_up t.held client gives_up) client mode) (rows_granted t.held client mode gives_up) m there)) [
-        | inl old ↦ h.keeps.desk m old taking
-        | inr same ↦ by_desk t.desk refl (subst (λ (x : Mode). IsTrue (excludes_itself x)) (sym same) taking)
-      ];
-  fresh = h.keeps.fresh;
-  next = λ ask g there e. let n = h.keeps.next ask g there e in record { taking = n.taking; higher = n.higher; holder = n.holder; rest = n.rest; queue = n.queue };
-}
-  where
-    by_desk : (o : Option Desk) → t.desk ≡ o → IsTrue (excludes_itself mode) → is_some o ≡ true
-    by_desk None away taking = absurd (away_granted nodes me client mode t h away can taking)
-    by_desk (Some desk) here taking = refl
-
--- no row is new
-pub fewer_keeps : (nodes : ℕ) (t : SetState) (rows : List Row) → AreFewer t.held rows → KeepsDesk nodes t → KeepsDesk nodes (record t { held = rows })
-fewer_keeps nodes t rows fewer h = record {
-  entries = h.entries;
-  desk = λ m there taking. h.desk m (held_fewer t.held rows fewer m there) taking;
-  fresh = h.fresh;
-  next = λ ask g there e. let n = h.next ask g there e in record { taking = n.taking; higher = n.higher; holder = n.holder; rest = n.rest; queue = n.queue };
-}

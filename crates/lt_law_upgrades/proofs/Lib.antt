@@ -1,12 +1,17 @@
+mod LiveAsks
 mod TakingModes
 mod DeskStays
+mod DeskGrants
 mod Balance
 mod DeskEffects
 mod DeskAsks
 mod ActBalance
+mod ActChanges
 mod MayUpgrade
 mod UpgradeActs
+mod UpgradeWithdraws
 mod UpgradeReady
 mod UpgradeWithin
+mod UpgradeMoves
 mod UpgradeRuns
 mod UpgradeRest

@@ -34,6 +34,11 @@ cover = each_mode (λ a. (b : Mode) → (not (excludes_itself a) || (conflicts b
 pub taking_covers : (a b : Mode) → excludes_itself a ≡ true → conflicts b a ≡ false → covers (one a) b ≡ true
 taking_covers a b e f = unless_at (conflicts b a) _ (implies_at (excludes_itself a) _ (cover a b) e) f
 
+-- and each mode covers itself
+pub covers_itself : (a : Mode) → covers (one a) a ≡ true
+unfolding conflicts
+covers_itself = each_mode (λ a. covers (one a) a ≡ true) refl refl refl refl refl refl
+
 -- `intention_write` and `upgrade` conflict with each of them
 barred : (a : Mode) → (not (excludes_itself a) || (conflicts IntentionWrite a && conflicts Upgrade a)) ≡ true
 unfolding conflicts

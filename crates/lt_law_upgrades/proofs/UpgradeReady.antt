@@ -1,5 +1,5 @@
 -- What is so in a run of an upgrading script as a client makes its next command.
-use Rattle.std.proofs.Common.{◌≡◌, ◌≢◌, ℕ, zero, suc, ◌<◌, ◌≤◌, inl, inr, length, Option, Some, None, Bool, true, false, refl, sym, ap, subst, arith, ◌∙◌, ◌+◌, List, [], ◌∷◌, ◌++◌, ◌⊎◌, ◌==◌, IsTrue, Contains, is_some, drop as drop_front}
+use Rattle.std.proofs.Common.{◌≡◌, ◌≢◌, ℕ, ◌<◌, ◌≤◌, inl, inr, length, Option, Some, None, Bool, true, false, refl, sym, subst, arith, ◌∙◌, ◌+◌, List, [], ◌∷◌, ◌++◌, ◌⊎◌, IsTrue, Contains, is_some, drop as drop_front}
 use Rattle.std.proofs.lemmas.Bool.{cases_eq, and_parts, or_cases, false≢true}
 use Rattle.std.proofs.lemmas.List.Elements.{All-contains}
 use Rattle.lt_modes.specs.declared.mode.Mode.{Mode}
@@ -11,20 +11,16 @@ use Rattle.lt_modes.specs.declared.command.Command.TheVariants.{Lock, Change}
 use Rattle.lt_modes.specs.Modes.{conflicts, excludes_itself, has, one, covers, held_modes}
 use Rattle.lt_modes.specs.Fits.{numbers_of}
 use Rattle.lt_modes.specs.Script.{ScriptData}
-use Rattle.lt_modes.specs.Serving.{queue_of}
+use Rattle.lt_modes.specs.Serving.{queue_of, is_gone}
 use Rattle.lt_modes.specs.Sound.{SoundDesk}
 use Rattle.lt_modes.specs.State.{SetState, Desk, Body, TokenBody, CopyBody, Letter, Made, Post}
-use Rattle.lt_modes.proofs.ModeAlgebra.{same_mode-true}
 use Rattle.lt_modes.specs.declared.stamp.Stamp.{Stamp}
 use Rattle.lt_modes.specs.SetMove.{take as take_letter}
-use Rattle.lt_lists.proofs.Sums.{counted_in}
 use Rattle.lt_lists.specs.Below.{put, one_if}
 use Rattle.lt_lists.proofs.Puts.{put-same, put-other}
 use Rattle.lt_spec.specs.Facts.{state_at, tokens_in}
 use Rattle.lt_spec.specs.NodeMove.{home, NodeState, node_waits, next_command, IsWhole, take_stamp, node_take}
-use Rattle.lt_spec.specs.Holdings.{Holding, holding, times_held}
 use Rattle.lt_spec.specs.World.{World, put_mail}
-use Rattle.lt_spec.specs.Script.{may_hold}
 use Rattle.lt_law_accounts.proofs.Rows.{held-which, held-at}
 use Rattle.lt_law_accounts.proofs.RowTotals.{total}
 use Rattle.lt_model.specs.Homes.{Homes, IsRowAtHome, IsAskAtHome}
@@ -36,30 +32,30 @@ use Rattle.lt_law_invariant.proofs.HeldUpMoves.{locks_agree}
 use Rattle.lt_law_invariant.proofs.ClientEffects.{GivenBy, Clients}
 use Rattle.lt_law_invariant.proofs.ClientCommands.{no_ask_of}
 use Rattle.lt_law_invariant.proofs.ClientMoves.{idle_in, at_first}
-use Rattle.lt_law_invariant.proofs.ClientsKept.{sound_clients, clients_arrived}
+use Rattle.lt_law_invariant.proofs.ClientsKept.{sound_clients}
 use Rattle.lt_law_lines.proofs.KeptLines.{row_of}
 use Rattle.lt_law_waiting.proofs.WaitsAtRest.{row_counts, queue_waits}
-use Rattle.lt_law_ordered.proofs.MayHold.{ranked_lock}
-use Rattle.lt_law_upgrades.specs.UpgradeLaws.{upgrades_in_order, IsUpgrading}
-use Rattle.lt_law_upgrades.proofs.TakingModes.{taking_clash, read_is_gentle, write_is_gentle, read_write}
-use Rattle.lt_law_upgrades.proofs.Balance.{gives, is_giving, given_up, Balance, even, with_balance, balance_arrived}
-use Rattle.lt_law_upgrades.proofs.ActBalance.{idle_gives}
-use Rattle.lt_law_upgrades.proofs.DeskStays.{KeepsDesk, Begins, HasLeft}
-use Rattle.lt_law_upgrades.proofs.MayUpgrade.{upgrades_at, one_of_set, two_of_set}
-use Rattle.lt_law_upgrades.proofs.UpgradeWithin.{IsWithin}
+use Rattle.lt_law_upgrades.specs.UpgradeLaws.{upgrades_in_order, may_still_hold, IsUpgrading}
+use Rattle.lt_law_upgrades.proofs.TakingModes.{taking_clash, read_write}
+use Rattle.lt_law_upgrades.proofs.LiveAsks.{idle_gives, two_totals}
+use Rattle.lt_law_upgrades.proofs.Balance.{Balance, even, with_balance, balance_arrived}
+use Rattle.lt_law_upgrades.proofs.DeskStays.{IsSettled, HasLeft}
+use Rattle.lt_law_upgrades.proofs.DeskGrants.{Begins}
+use Rattle.lt_law_upgrades.proofs.MayUpgrade.{upgrades_at, asks_none}
+use Rattle.lt_law_upgrades.proofs.UpgradeWithin.{IsWithin, held_within}
 use Rattle.lt_law_upgrades.proofs.DeskAsks.{not_holder}
 use Rattle.lt_law_upgrades.proofs.UpgradeActs.{Ready}
-use Rattle.lt_law_upgrades.proofs.DeskEffects.{keeps_or_left, desk_ends, arrived_keeps}
+use Rattle.lt_law_upgrades.proofs.DeskEffects.{settled_or_left, desk_ends, arrived_keeps}
 
 -- each client holds no more than it may, and at each node the desk of each set is where it must be
 pub record IsSteadfast (script : ScriptData) (w : World) : Type 0 where
   pub within : (c : ℕ) → c < length script.clients → IsWithin script (w.node (home script c)) c
-  pub keeps : (s x : ℕ) → s < length script.sets → x < script.nodes → KeepsDesk script.nodes (state_at w s x)
+  pub keeps : (s x : ℕ) → s < length script.sets → x < script.nodes → IsSettled script.nodes (state_at w s x)
 
 -- nobody holds `read` and `intention_write` of one set
-none_has_both : (script : ScriptData) (w : World) (rank : ℕ → ℕ) (s q : ℕ) → WorldInvariant script w → Homes script w → IsUpgrading script rank → IsSteadfast script w → s < length script.sets → q < script.nodes
+none_has_both : (script : ScriptData) (w : World) (s q : ℕ) → WorldInvariant script w → Homes script w → IsSteadfast script w → s < length script.sets → q < script.nodes
     → IsTrue (has Read (held_modes (state_at w s q).held)) → IsTrue (has IntentionWrite (held_modes (state_at w s q).held)) → ⊥
-none_has_both script w rank s q kept homes upgrading h under below reads writes = by_clients (cases_eq a.0.client b.0.client)
+none_has_both script w s q kept homes h under below reads writes = by_clients (cases_eq a.0.client b.0.client)
   where
     t : SetState
     t = state_at w s q
@@ -79,36 +75,19 @@ none_has_both script w rank s q kept homes upgrading h under below reads writes 
     counts : (row : Row) (mode : Mode) → Contains t.held row → row.client ≡ c → row.mode ≡ mode → 1 ≤ total t.held c mode
     counts row mode there same is = subst (λ (m : Mode). 1 ≤ total t.held c m) is (subst (λ (d : ℕ). 1 ≤ total t.held d row.mode) same (row_counts t.held row there (at_home row there).count))
 
-    none_given : (mode : Mode) → excludes_itself mode ≡ false → given_up t c mode ≡ 0
-    none_given mode gentle = by_count (given_up t c mode) refl
-      where
-        by_gives : (ask : Ask) → Contains t.pending ask → (o : Option Mode) → ask.gives_up ≡ o → gives o mode ≡ true → ⊥
-        by_gives ask there None e f = false≢true f
-        by_gives ask there (Some g) e f =
-            false≢true (sym gentle ∙ ap excludes_itself (same_mode-true mode g f) ∙ ((h.keeps s q under below).next ask g there e).taking)
-
-        by_count : (k : ℕ) → given_up t c mode ≡ k → k ≡ 0
-        by_count zero e = refl
-        by_count (suc k) e =
-            let ask = counted_in (is_giving c mode) t.pending (omega (arith, e)) in
-            absurd (by_gives ask.0 ask.1 ask.0.gives_up refl (and_parts (c == ask.0.client) (gives ask.0.gives_up mode) ask.2).1)
-
     within : IsWithin script (w.node q) c
     within = subst (λ (x : ℕ). IsWithin script (w.node x) c) (at_home a.0 a.1).home (h.within c (at_home a.0 a.1).client)
 
-    may : (mode : Mode) → excludes_itself mode ≡ false → 1 ≤ total t.held c mode → 1 ≤ times_held (may_hold script c ((w.node q).made c)) (holding c s mode)
-    may mode gentle some = omega (arith, some, within.counts s mode under, none_given mode gentle)
-
-    differ : holding c s Read ≢ holding c s IntentionWrite
-    differ e = let no : Read ≡ IntentionWrite = ap (λ (x : Holding). x.mode) e in cc
+    differ : Read ≢ IntentionWrite
+    differ e = cc
 
     by_clients : (a.0.client ≡ b.0.client) ⊎ (a.0.client ≢ b.0.client) → ⊥
     by_clients (inl same) = omega (
       arith,
-      may Read read_is_gentle (counts a.0 Read a.1 refl a.2),
-      may IntentionWrite write_is_gentle (counts b.0 IntentionWrite b.1 (sym same) b.2),
-      two_of_set s (holding c s Read) (holding c s IntentionWrite) (may_hold script c ((w.node q).made c)) differ refl refl,
-      one_of_set script rank c ((w.node q).made c) s (upgrading c (at_home a.0 a.1).client),
+      counts a.0 Read a.1 refl a.2,
+      counts b.0 IntentionWrite b.1 (sym same) b.2,
+      two_totals t.held c Read IntentionWrite differ,
+      within.few s under,
     )
     by_clients (inr d) =
         let found = desk_somewhere script w s (kept.sets s under).paths in
@@ -116,12 +95,13 @@ none_has_both script w rank s q kept homes upgrading h under below reads writes 
         false≢true (sym (account.clear.clients a.0 b.0 a.1 b.1 d) ∙ (λ i. conflicts (a.2 i) (b.2 i)) ∙ read_write)
 
 -- a set of a node as a move begins
-begins_so : (script : ScriptData) (w : World) (rank : ℕ → ℕ) (s q : ℕ) → WorldInvariant script w → Homes script w → IsUpgrading script rank → IsSteadfast script w → s < length script.sets → q < script.nodes
+begins_so : (script : ScriptData) (w : World) (s q : ℕ) → WorldInvariant script w → Homes script w → IsSteadfast script w → s < length script.sets → q < script.nodes
     → Begins script.nodes (state_at w s q)
-begins_so script w rank s q kept homes upgrading h under below = record {
-  keeps = h.keeps s q under below;
+begins_so script w s q kept homes h under below = record {
+  keeps = (h.keeps s q under below).keeps;
+  live = (h.keeps s q under below).live;
   charge = λ away. subst (SoundDesk (numbers_of script) false false (w.node q).clock (state_at w s q)) away ((kept.sets s under).states q below).desk;
-  apart = none_has_both script w rank s q kept homes upgrading h under below;
+  apart = none_has_both script w s q kept homes h under below;
 }
 
 -- what is so as a client makes its next command
@@ -129,13 +109,13 @@ pub ready_so : (script : ScriptData) (w : World) (rank : ℕ → ℕ) (q client 
     → client < length script.clients → home script client ≡ q → q < script.nodes → node_waits script (w.node q) client ≡ false → next_command script (w.node q) client ≡ Some command
     → Ready script (w.node q) client command
 ready_so script w rank q client command whole kept homes upgrading h known own below waits_not next = record {
-  begins = λ s under. begins_so script w rank s q kept homes upgrading h under below;
+  begins = λ s under. begins_so script w s q kept homes h under below;
   locks = λ s mode under is. not_holder (n.set s) client
       (λ row there. (All-contains (IsRowAtHome script q) (n.set s).held row (homes.states q s).rows there).count)
       (λ m. holds_none s mode m under is);
   changes = λ s g mode under is higher some. (
     takes s g mode is higher,
-    (h.keeps s q under below).desk g (held_mode s g some) (takes s g mode is higher),
+    (h.keeps s q under below).keeps.desk g (held_mode s g some) (takes s g mode is higher),
     λ b there. no_holder s g mode under is higher some b there b.holder refl,
   );
 }
@@ -146,18 +126,15 @@ ready_so script w rank q client command whole kept homes upgrading h known own b
     within : IsWithin script n client
     within = subst (λ (x : ℕ). IsWithin script (w.node x) client) own (h.within client known)
 
-    in_order : upgrades_in_order rank client (may_hold script client (n.made client)) command ≡ true
+    in_order : upgrades_in_order rank client (may_still_hold script client (n.made client)) command ≡ true
     in_order = upgrades_at script rank client (n.made client) command (upgrading client known) next
 
     holds_none : (s : ℕ) (mode m : Mode) → s < length script.sets → command ≡ Lock s mode → total (n.set s).held client m ≡ 0
-    holds_none s mode m under is = by_count (times_held (may_hold script client (n.made client)) (holding client s m)) refl
-      where
-        by_count : (k : ℕ) → times_held (may_hold script client (n.made client)) (holding client s m) ≡ k → total (n.set s).held client m ≡ 0
-        by_count zero e = omega (arith, e, within.counts s m under, idle_gives client (n.set s) (idle_in script n client waits_not s under) m)
-        by_count (suc k) e =
-            let low = ranked_lock rank s (may_hold script client (n.made client)) (holding client s m)
-            (subst (λ (x : Command). upgrades_in_order rank client (may_hold script client (n.made client)) x ≡ true) is in_order) (omega (arith, e)) in
-            absurd (omega (arith, low))
+    holds_none s mode m under is = omega (
+      arith,
+      held_within script n client s m within under (idle_gives client (n.set s) (idle_in script n client waits_not s under) m),
+      asks_none rank client s mode (may_still_hold script client (n.made client)) command (inl is) in_order m,
+    )
 
     held_mode : (s : ℕ) (g : Mode) → 1 ≤ total (n.set s).held client g → IsTrue (has g (held_modes (n.set s).held))
     held_mode s g some =
@@ -166,8 +143,8 @@ ready_so script w rank q client command whole kept homes upgrading h known own b
 
     takes : (s : ℕ) (g mode : Mode) → command ≡ Change s g mode → covers (one g) mode ≡ false → IsTrue (excludes_itself g)
     takes s g mode is higher =
-        let order = subst (λ (x : Command). upgrades_in_order rank client (may_hold script client (n.made client)) x ≡ true) is in_order in
-        elim (or_cases (covers (one g) mode) _ (and_parts _ _ order).1) [
+        let order = subst (λ (x : Command). upgrades_in_order rank client (may_still_hold script client (n.made client)) x ≡ true) is in_order in
+        elim (or_cases (covers (one g) mode) _ order) [
           | inl covered ↦ absurd (false≢true (sym higher ∙ covered))
           | inr taking ↦ (and_parts (excludes_itself g) _ taking).0
         ]
@@ -187,15 +164,16 @@ ready_so script w rank q client command whole kept homes upgrading h known own b
         its_node = subst (λ (x : ℕ). x < script.nodes) at_home.home (whole.homes b.client at_home.client)
 
         by_choice : (o : Option Mode) → b.gives_up ≡ o → b.holder ≡ false
-        by_choice None f = (h.keeps s b.node under its_node).fresh b waits f
+        by_choice None f = (h.keeps s b.node under its_node).keeps.fresh b waits f
         by_choice (Some g2) f =
-            let taking = ((h.keeps s b.node under its_node).next b g2 waits f).taking in
-            let given = (sound_clients script w b.node kept its_node).gives s under b waits in
+            let live = (h.keeps s b.node under its_node).live b g2 waits f in
+            let taking = ((h.keeps s b.node under its_node).keeps.next b g2 waits f).taking in
+            let given = (sound_clients script w b.node kept its_node).gives s under b waits live in
             let theirs = row_of (state_at w s b.node).held b.client g2 (subst (GivenBy (state_at w s b.node).held b.client) f given) in
             let ours = row_of (n.set s).held client g some in
             let agree = locks_agree script w s (kept.sets s under) q b.node ours.0 theirs.0 below its_node ours.1 theirs.1 (elim (cases_eq q b.node) [
               | inr d ↦ inl d
-              | inl same ↦ inr (λ clients. no_ask_of client (n.set s) (idle_in script n client waits_not s under) b (subst (λ (x : ℕ). Contains (state_at w s x).pending b) (sym same) waits)
+              | inl same ↦ inr (λ clients. no_ask_of client (n.set s) (idle_in script n client waits_not s under) b (subst (λ (x : ℕ). Contains (state_at w s x).pending b) (sym same) waits) (subst (λ (x : ℕ). is_gone (state_at w s x) b.client ≡ false) (sym same) live)
                   (sym theirs.2 ∙ sym clients ∙ ours.2))
             ]) in
             absurd (false≢true (sym agree ∙ (λ i. conflicts (ours.3 i) (theirs.3 i)) ∙ taking_clash g g2 (takes s g mode is higher) taking))
@@ -205,16 +183,16 @@ ready_so script w rank q client command whole kept homes upgrading h known own b
 -- what a letter made of a set of its node
 pub record Taken (nodes s q : ℕ) (t u : SetState) (posts : List Post) : Type 0 where
   pub balance : Balance t u
-  pub desk : KeepsDesk nodes u ⊎ HasLeft s q posts
+  pub desk : IsSettled nodes u ⊎ HasLeft s q posts
 
 -- what a letter does to each set of its node
 pub take_sets : (script : ScriptData) (w : World) (p q : ℕ) (letter : Letter) (rest : List Letter) → WorldInvariant script w → w.mail p q ≡ letter ∷ rest → p < script.nodes → q < script.nodes
-    → ((s : ℕ) → s < length script.sets → KeepsDesk script.nodes ((w.node q).set s))
+    → ((s : ℕ) → s < length script.sets → IsSettled script.nodes ((w.node q).set s))
     → (s : ℕ) → s < length script.sets → Taken script.nodes s q ((w.node q).set s) ((node_take q letter (w.node q)).node.set s) (node_take q letter (w.node q)).posts
 take_sets script w p q letter rest h front from below keeps s under = elim (cases_eq s letter.set) [
   | inl e ↦ subst (λ (k : ℕ). Taken script.nodes k q (n.set k) (put n.set letter.set m.state k) m.posts) (sym e)
       (subst (λ (u : SetState). Taken script.nodes letter.set q t u m.posts) (sym (put-same n.set letter.set m.state)) (record { balance = ended.0.1; desk = ended.1 }))
-  | inr d ↦ subst (λ (u : SetState). Taken script.nodes s q (n.set s) u m.posts) (sym (put-other n.set letter.set m.state s d)) (record { balance = even (n.set s); desk = inl (keeps s under) })
+  | inr d ↦ subst (λ (u : SetState). Taken script.nodes s q (n.set s) u m.posts) (sym (put-other n.set letter.set m.state s d)) (record { balance = even (n.set s) (at_first script n (sound_clients script w q h below) s under); desk = inl (keeps s under) })
 ]
   where
     n : NodeState
@@ -264,16 +242,13 @@ take_sets script w p q letter rest h front from below keeps s under = elim (case
         none_left None e = refl
         none_left (Some d) e = absurd (omega (arith, e))
 
-    ended : both (with_balance letter.set stamp (elsewhere script w letter.set q left) (unanswered script w letter.set q) (λ c. 0) t t) (keeps_or_left script.nodes letter.set q) m.state ([] ++ m.posts)
+    ended : both (with_balance letter.set stamp (elsewhere script w letter.set q left) (unanswered script w letter.set q) t) (settled_or_left script.nodes letter.set q) m.state ([] ++ m.posts)
     ended = take_by_effects stamp letter _ _ _
-        (desk_ends script.nodes letter.set stamp (elsewhere script w letter.set q left) (unanswered script w letter.set q) (λ c. 0) t t below (only_here script w letter.set q stood below))
+        (desk_ends script.nodes letter.set stamp (elsewhere script w letter.set q left) (unanswered script w letter.set q) t below (only_here script w letter.set q stood below))
         t [] (
           (
-            (
-              stands_arrived script w letter.set p q letter rest (h.sets letter.set in_sets).paths stood from below front refl,
-              clients_arrived stamp letter t first (stood.apart q below) (λ ask says. (copies ask says).0),
-            ),
+            stands_arrived script w letter.set p q letter rest (h.sets letter.set in_sets).paths stood from below front refl,
             balance_arrived stamp letter t first (stood.apart q below) (λ ask says. (copies ask says).0),
           ),
-          arrived_keeps script.nodes stamp letter t (keeps letter.set in_sets) first copies tokens,
+          arrived_keeps script.nodes stamp letter t (keeps letter.set in_sets).keeps copies tokens,
         )

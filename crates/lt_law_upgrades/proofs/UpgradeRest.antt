@@ -1,5 +1,5 @@
 -- At rest nobody waits in an upgrading script.
-use Rattle.std.proofs.Common.{◌≡◌, ℕ, zero, suc, ◌+◌, ◌<◌, ◌≤◌, inl, inr, List, [], ◌∷◌, length, Option, Some, None, Bool, true, false, refl, sym, ap, subst, arith, take, ◌∙◌, ◌==◌, Contains, IsTrue, eqb-true}
+use Rattle.std.proofs.Common.{◌≡◌, ℕ, zero, suc, ◌+◌, ◌<◌, ◌≤◌, inl, inr, List, [], ◌∷◌, length, Option, Some, None, Bool, true, false, refl, sym, ap, subst, arith, take, ◌∙◌, ◌==◌, Contains, IsTrue, eqb-true, not}
 use Rattle.std.proofs.lemmas.List.Elements.{All-contains}
 use Rattle.lt_modes.specs.declared.mode.Mode.{Mode}
 use Rattle.lt_modes.specs.declared.ask.Ask.{Ask}
@@ -31,10 +31,13 @@ use Rattle.lt_law_lines.proofs.LineCounts.{same_holding-itself}
 use Rattle.lt_law_waiting.proofs.KeptAsks.{any_below_which}
 use Rattle.lt_law_waiting.proofs.WaitsAtRest.{row_counts}
 use Rattle.lt_law_ordered.proofs.OrderedRest.{made_all}
-use Rattle.lt_law_upgrades.specs.UpgradeLaws.{IsUpgrading, UpgradingFinish, UpgradingRelease, HolderHasDesk, ChangeIsNext}
-use Rattle.lt_law_upgrades.proofs.ActBalance.{idle_gives}
+use Rattle.lt_law_upgrades.specs.UpgradeLaws.{IsUpgrading, UpgradingFinish, UpgradingRelease, HolderHasDesk, ChangeIsNext, NoVoidChange}
+use Rattle.std.specs.List.{list_any}
+use Rattle.std.proofs.lemmas.Bool.{and_parts}
+use Rattle.lt_modes.specs.Serving.{is_gone}
+use Rattle.lt_law_upgrades.proofs.LiveAsks.{idle_gives}
 use Rattle.lt_law_upgrades.proofs.MayUpgrade.{upgrading_none}
-use Rattle.lt_law_upgrades.proofs.UpgradeWithin.{waits_above}
+use Rattle.lt_law_upgrades.proofs.UpgradeWithin.{held_within, waits_above}
 use Rattle.lt_law_upgrades.proofs.UpgradeReady.{IsSteadfast}
 use Rattle.lt_law_upgrades.proofs.UpgradeRuns.{steadfast_in_runs}
 
@@ -43,8 +46,7 @@ ended_none : (script : ScriptData) (w : World) (rank : ℕ → ℕ) (c s : ℕ) 
     → is_waiting script w c ≡ false → total (state_at w s (home script c)).held c mode ≡ 0
 ended_none script w rank c s mode h upgrading rest known under waits_not = omega (
   arith,
-  (h.within c known).counts s mode under,
-  idle_gives c (state_at w s (home script c)) (idle_in script (w.node (home script c)) c waits_not s under) mode,
+  held_within script (w.node (home script c)) c s mode (h.within c known) under (idle_gives c (state_at w s (home script c)) (idle_in script (w.node (home script c)) c waits_not s under) mode),
   ap (λ (l : List Holding). times_held l (holding c s mode)) (upgrading_none script rank c (made_by script w c) (upgrading c known) (made_all script w c rest known waits_not)),
 )
 
@@ -112,17 +114,23 @@ waits_higher script w rank whole kept homes h upgrading rest s x ask in_sets bel
     -- a change of the same set would be the first waiter
     not_same : (k : ℕ) (other : Ask) (g : Mode) → k < length script.sets → Contains (state_at w k (home script d)).pending other → other.client ≡ d → s ≡ k → other.gives_up ≡ Some g → ⊥
     not_same k other g under waits own same e =
-        let next = (h.keeps k (home script d) under (whole.homes d row.client)).next other g waits e in
+        let next = (h.keeps k (home script d) under (whole.homes d row.client)).keeps.next other g waits e in
         let here = subst (λ (i : ℕ). queue_of (state_at w i (home script d)) ≡ other ∷ next.rest) (sym same) next.queue in
         let is_first = one_first script w s (home script d) first.1.0 other first.0 next.rest first.1.1 (kept.sets s in_sets).paths (whole.homes d row.client) first.1.2 here first.1.3 in
         barred.other (sym own ∙ ap (λ (a : Ask). a.client) is_first)
+
+    not_true : (b : Bool) → not b ≡ true → b ≡ false
+    not_true true e = cc
+    not_true false e = refl
 
     by_waits : (waiting : Bool) → is_waiting script w d ≡ waiting → WaitsHigher script w rank s
     by_waits false e = absurd (omega (arith, holds, ended_none script w rank d s barred.row.mode h upgrading rest row.client in_sets e))
     by_waits true e =
         let found = any_below_which (length script.sets) (λ k. waits (state_at w k (home script d)) d) e in
-        let other = list_any-which (λ (a : Ask). a.client == d) (state_at w found.0 (home script d)).pending found.2 in
+        let parts = and_parts (list_any (λ (a : Ask). a.client == d) (state_at w found.0 (home script d)).pending) _ found.2 in
+        let other = list_any-which (λ (a : Ask). a.client == d) (state_at w found.0 (home script d)).pending parts.0 in
         let own : other.0.client ≡ d = eqb-true other.0.client d other.2 in
+        let live : is_gone (state_at w found.0 (home script d)) other.0.client ≡ false = ap (is_gone (state_at w found.0 (home script d))) own ∙ not_true _ parts.1 in
         record {
           client = d;
           set = found.0;
@@ -132,7 +140,7 @@ waits_higher script w rank whole kept homes h upgrading rest s x ask in_sets bel
           there = other.1;
           own = own;
           higher = elim (waits_above script rank (w.node (home script d)) d found.0 s other.0 barred.row.mode (upgrading d row.client) (h.within d row.client)
-              (h.keeps found.0 (home script d) found.1 (whole.homes d row.client)) found.1 in_sets other.1 own holds) [
+              (h.keeps found.0 (home script d) found.1 (whole.homes d row.client)).keeps found.1 in_sets other.1 live own holds) [
                 | inl higher ↦ higher
                 | inr same ↦ absurd (not_same found.0 other.0 same.1 found.1 other.1 own same.0 same.2)
               ];
@@ -156,7 +164,8 @@ nobody script w rank whole kept homes h upgrading rest = by_test (anyone_waits s
     by_test true e =
         let client = any_below_which (length script.clients) (is_waiting script w) e in
         let set = any_below_which (length script.sets) (λ s. waits (state_at w s (home script client.0)) client.0) client.2 in
-        let ask = list_any-which (λ (a : Ask). a.client == client.0) (state_at w set.0 (home script client.0)).pending set.2 in
+        let ask = list_any-which (λ (a : Ask). a.client == client.0) (state_at w set.0 (home script client.0)).pending
+        (and_parts (list_any (λ (a : Ask). a.client == client.0) (state_at w set.0 (home script client.0)).pending) _ set.2).0 in
         absurd (none_waits script w rank whole kept homes h upgrading rest (suc (sum_below (length script.sets) rank)) set.0 (home script client.0) ask.0 set.1 (whole.homes client.0 client.1) ask.1 (omega arith))
 
 pub upgrading_finish : UpgradingFinish
@@ -175,9 +184,13 @@ upgrading_release script run rank whole is_run upgrading k rest = nothing_in (ho
 
 pub holder_has_desk : HolderHasDesk
 holder_has_desk script run rank whole is_run upgrading k s x row under below there taking =
-    ((steadfast_in_runs script run rank whole is_run upgrading k).keeps s x under below).desk row.mode (held-at (state_at (world_after script (take k run)) s x).held row there) taking
+    ((steadfast_in_runs script run rank whole is_run upgrading k).keeps s x under below).keeps.desk row.mode (held-at (state_at (world_after script (take k run)) s x).held row there) taking
 
 pub change_is_next : ChangeIsNext
 change_is_next script run rank whole is_run upgrading k s x ask gives_up under below there e =
-    let next = ((steadfast_in_runs script run rank whole is_run upgrading k).keeps s x under below).next ask gives_up there e in
+    let next = ((steadfast_in_runs script run rank whole is_run upgrading k).keeps s x under below).keeps.next ask gives_up there e in
     (next.rest, next.queue)
+
+pub no_void_change : NoVoidChange
+no_void_change script run rank whole is_run upgrading k s x ask gives_up under below there e =
+    ((steadfast_in_runs script run rank whole is_run upgrading k).keeps s x under below).live ask gives_up there e

@@ -1,13 +1,17 @@
-ghost use Rattle.lt_law_upgrades.specs.UpgradeLaws.{UpgradingFinish, UpgradingRelease, HolderHasDesk, ChangeIsNext, OrderedIsUpgrading, UpgradeInTurnRow, ReadToUpgradeRow, ChangedWhileLaterRow, TriedAgainRow, ChangedTwiceRow};
+ghost use Rattle.lt_law_upgrades.specs.UpgradeLaws.{UpgradingFinish, UpgradingRelease, HolderHasDesk, ChangeIsNext, NoVoidChange, OrderedIsUpgrading, UpgradeInTurnRow, ReadToUpgradeRow, ChangedWhileLaterRow, TriedAgainRow, ChangedTwiceRow, GivenUpChangeRow};
 
 /// A run of a script whose clients ask for sets in the order of their ranks, and change locks that exclude themselves,
 /// has no waiting client at rest, and nothing is held then. Meanwhile the desk stays where such a lock is held, and a
 /// change is served next. An ordered script is one of these.
+///
+/// A `withdraw` may stand anywhere. Where it may give up a change, the old lock is to be released as well as the new one; a
+/// change that is given up is gone in the same move.
 pub fn law_upgrades()
     ensures finish { UpgradingFinish }
     ensures release { UpgradingRelease }
     ensures desk { HolderHasDesk }
     ensures next { ChangeIsNext }
+    ensures void { NoVoidChange }
     ensures ordered { OrderedIsUpgrading }
 {}
 
@@ -19,4 +23,5 @@ pub fn law_upgrade_rows()
     ensures changed_while_later { ChangedWhileLaterRow }
     ensures tried_again { TriedAgainRow }
     ensures changed_twice { ChangedTwiceRow }
+    ensures given_up_change { GivenUpChangeRow }
 {}

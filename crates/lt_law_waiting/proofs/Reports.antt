@@ -7,7 +7,7 @@ use Rattle.lt_spec.specs.Rings.{Graph, numbers_below, AreBelow, IsRing, ring_set
 use Rattle.lt_law_waiting.specs.ReportLaws.{CyclesAreRings, RingsAreTold, NoCycleIsTold, EndsAreTold, WaitsAreTold, EndsAreAll}
 use Rattle.lt_law_waiting.proofs.RingWalks.{in_below, below_in, remaining_below, walk_finds_ring, no_ring, cons_some, ring_in_set}
 
-flat_map-which : {X Y : Type 0} (f : X → List Y) (xs : List X) (y : Y) → Contains (flat_map f xs) y → (x : X) × Contains (f x) y
+pub flat_map-which : {X Y : Type 0} (f : X → List Y) (xs : List X) (y : Y) → Contains (flat_map f xs) y → (x : X) × Contains (f x) y
 flat_map-which f [] y there = none_in y there
 flat_map-which f (x ∷ rest) y there = elim (Contains-append_cases (f x) (flat_map f rest) y there) [
   | inl here ↦ (x, here)
@@ -15,13 +15,13 @@ flat_map-which f (x ∷ rest) y there = elim (Contains-append_cases (f x) (flat_
 ]
 
 -- a line `waits` is no other line
-waits_only : (n : ℕ) (graph : Graph) (line : ReportLine) → Contains (waits_lines n graph) line → (c d : ℕ) × (WaitsLine c d ≡ line)
+pub waits_only : (n : ℕ) (graph : Graph) (line : ReportLine) → Contains (waits_lines n graph) line → (c d : ℕ) × (WaitsLine c d ≡ line)
 waits_only n graph line there =
     let found = flat_map-which (λ c. map (WaitsLine c) (filter (graph c) (numbers_below n))) (numbers_below n) line there in
     let pair = contains_mapped (WaitsLine found.0) (filter (graph found.0) (numbers_below n)) line found.1 in
     (found.0, pair.0, pair.2)
 
-ends_only : (n : ℕ) (graph : Graph) (line : ReportLine) → Contains (ends_lines n graph) line → (c : ℕ) × Contains (filter (waits_for_some n graph) (numbers_below n)) c × (EndsLine c (walk_end n graph c) ≡ line)
+pub ends_only : (n : ℕ) (graph : Graph) (line : ReportLine) → Contains (ends_lines n graph) line → (c : ℕ) × Contains (filter (waits_for_some n graph) (numbers_below n)) c × (EndsLine c (walk_end n graph c) ≡ line)
 ends_only n graph line there = contains_mapped (λ c. EndsLine c (walk_end n graph c)) (filter (waits_for_some n graph) (numbers_below n)) line there
 
 cycle_is : (a b : List ℕ) → CycleLine a ≡ CycleLine b → a ≡ b
@@ -154,33 +154,38 @@ flat_map-at f (first ∷ rest) x y there here = elim (contains_cases first x res
   | inr later ↦ Contains-append_right (f first) (flat_map f rest) y (flat_map-at f rest x y later here)
 ]
 
-pair_there : (n : ℕ) (graph : Graph) (c d : ℕ) → Contains (waits_lines n graph) (WaitsLine c d) → (c < n) × (d < n) × (graph c d ≡ true)
-pair_there n graph c d there =
-    let found = flat_map-among (λ x. map (WaitsLine x) (filter (graph x) (numbers_below n))) (numbers_below n) (WaitsLine c d) there in
-    let pair = contains_mapped (WaitsLine found.0) (filter (graph found.0) (numbers_below n)) (WaitsLine c d) found.2 in
-    let is = waits_pair found.0 pair.0 c d pair.2 in
-    let passes = contains_filtered (graph found.0) (numbers_below n) pair.0 pair.1 in (
-      subst (λ (x : ℕ). x < n) is.0 (below_in n found.0 found.1),
-      subst (λ (x : ℕ). x < n) is.1 (below_in n pair.0 passes.0),
-      subst (λ (x : ℕ). graph x d ≡ true) is.0 (subst (λ (y : ℕ). graph found.0 y ≡ true) is.1 passes.1),
-    )
-  where
-    flat_map-among : {X Y : Type 0} (f : X → List Y) (xs : List X) (y : Y) → Contains (flat_map f xs) y → (x : X) × Contains xs x × Contains (f x) y
-    flat_map-among f [] y there = none_in y there
-    flat_map-among f (x ∷ rest) y there = elim (Contains-append_cases (f x) (flat_map f rest) y there) [
-      | inl here ↦ (x, contains_first x x rest refl, here)
-      | inr later ↦ let found = flat_map-among f rest y later in (found.0, contains_later x found.0 rest found.1, found.2)
-    ]
+flat_map-among : {X Y : Type 0} (f : X → List Y) (xs : List X) (y : Y) → Contains (flat_map f xs) y → (x : X) × Contains xs x × Contains (f x) y
+flat_map-among f [] y there = none_in y there
+flat_map-among f (x ∷ rest) y there = elim (Contains-append_cases (f x) (flat_map f rest) y there) [
+  | inl here ↦ (x, contains_first x x rest refl, here)
+  | inr later ↦ let found = flat_map-among f rest y later in (found.0, contains_later x found.0 rest found.1, found.2)
+]
+
+-- what stands among the lines of this kind that each pair of the graph has
+module _ (line : ℕ → ℕ → ReportLine) (apart : (a b x y : ℕ) → line a b ≡ line x y → (a ≡ x) × (b ≡ y)) (n : ℕ) (graph : Graph) (c d : ℕ) where
+  pub pair_there : Contains (flat_map (λ x. map (line x) (filter (graph x) (numbers_below n))) (numbers_below n)) (line c d) → (c < n) × (d < n) × (graph c d ≡ true)
+  pair_there there =
+      let found = flat_map-among (λ x. map (line x) (filter (graph x) (numbers_below n))) (numbers_below n) (line c d) there in
+      let pair = contains_mapped (line found.0) (filter (graph found.0) (numbers_below n)) (line c d) found.2 in
+      let is = apart found.0 pair.0 c d pair.2 in
+      let passes = contains_filtered (graph found.0) (numbers_below n) pair.0 pair.1 in (
+        subst (λ (x : ℕ). x < n) is.0 (below_in n found.0 found.1),
+        subst (λ (x : ℕ). x < n) is.1 (below_in n pair.0 passes.0),
+        subst (λ (x : ℕ). graph x d ≡ true) is.0 (subst (λ (y : ℕ). graph found.0 y ≡ true) is.1 passes.1),
+      )
+
+  pub pair_at : (c < n) × (d < n) × (graph c d ≡ true) → Contains (flat_map (λ x. map (line x) (filter (graph x) (numbers_below n))) (numbers_below n)) (line c d)
+  pair_at pair =
+      flat_map-at (λ x. map (line x) (filter (graph x) (numbers_below n))) (numbers_below n) c (line c d) (in_below n c pair.0)
+      (contains_map (line c) (filter (graph c) (numbers_below n)) d (contains_filter (graph c) (numbers_below n) d (in_below n d pair.1) pair.2))
 
 pub waits_are_told : WaitsAreTold
 waits_are_told n graph c d = (
   λ there. elim (Contains-append_cases (waits_lines n graph) (last_lines n graph (ring_set n graph)) (WaitsLine c d) there) [
-    | inl waits ↦ pair_there n graph c d waits
+    | inl waits ↦ pair_there WaitsLine waits_pair n graph c d waits
     | inr last ↦ not_last (ring_set n graph) last
   ],
-  λ pair. Contains-append_left (waits_lines n graph) (last_lines n graph (ring_set n graph)) (WaitsLine c d)
-      (flat_map-at (λ x. map (WaitsLine x) (filter (graph x) (numbers_below n))) (numbers_below n) c (WaitsLine c d) (in_below n c pair.0)
-      (contains_map (WaitsLine c) (filter (graph c) (numbers_below n)) d (contains_filter (graph c) (numbers_below n) d (in_below n d pair.1) pair.2))),
+  λ pair. Contains-append_left (waits_lines n graph) (last_lines n graph (ring_set n graph)) (WaitsLine c d) (pair_at WaitsLine waits_pair n graph c d pair),
 )
   where
     not_last : {A : Type 0} (set : List ℕ) → Contains (last_lines n graph set) (WaitsLine c d) → A

@@ -2,9 +2,9 @@
 use Rattle.std.specs.Prelude.{◌≡◌, ◌<◌, ◌==◌, ℕ, List, [], ◌∷◌, ◌++◌, ◌↔◌, IsTrue, Contains, ◌≢◌, IsFalse, codes}
 use Rattle.std.specs.List.{IsDistinct}
 use Rattle.lt_modes.specs.declared.mode.Mode.TheVariants.{IntentionRead, Read, Upgrade, IntentionWrite, Write}
-use Rattle.lt_modes.specs.declared.command.Command.TheVariants.{Lock, Try, Unlock, Change}
+use Rattle.lt_modes.specs.declared.command.Command.TheVariants.{Lock, Try, Unlock, Change, Withdraw}
 use Rattle.lt_modes.specs.Script.{ScriptData}
-use Rattle.lt_spec.specs.Rings.{Graph, AreBelow, IsRing, ring_set, walk_end, WaitsLine, CycleLine, NoCycleLine, EndsLine, waits_lines, report, ring_of, ReportLine, waits_report}
+use Rattle.lt_spec.specs.Rings.{Graph, AreBelow, IsRing, ring_set, walk_end, WaitsLine, CycleLine, NoCycleLine, EndsLine, VoidLine, waits_lines, report, ring_of, ReportLine, waits_report}
 use Rattle.lt_spec.specs.World.{world_after}
 use Rattle.lt_spec.specs.FixedOrder.{first_run}
 use Rattle.lt_law_examples.specs.Worked.{Worked, declared_set, declared_client}
@@ -219,3 +219,21 @@ ring_and_ended = record {
 abbrev pub RingAndEnded : Type 0
 RingAndEnded = ReportsOf ring_and_ended 7
     (WaitsLine 0 1 ∷ WaitsLine 1 0 ∷ WaitsLine 3 2 ∷ CycleLine (0 ∷ 1 ∷ []) ∷ [])
+
+-- An ask that was given up stands in the way of a reader, since the desk is at another node.
+abbrev pub void_in_the_way : ScriptData
+void_in_the_way = record {
+  version = 3;
+  nodes = 2;
+  sets = declared_set (codes "s0") 0 ∷ [];
+  clients = declared_client (codes "c0") 0 ∷ declared_client (codes "c1") 1 ∷ declared_client (codes "c2") 1 ∷ [];
+  commands =
+      (0, Lock 0 Read) ∷
+      (1, Lock 0 Write) ∷
+      (2, Lock 0 Read) ∷
+      (1, Withdraw 1 0) ∷
+      [];
+}
+
+abbrev pub VoidInTheWay : Type 0
+VoidInTheWay = ReportsOf void_in_the_way 12 (NoCycleLine ∷ VoidLine 2 1 ∷ [])

@@ -1,5 +1,5 @@
-ghost use Rattle.lt_law_waiting.specs.ReportLaws.{RingSetWaits, RingSetIsGreatest, WalkFindsRing, NoRing, WalksEnd, WaitsAreTold, CyclesAreRings, RingsAreTold, NoCycleIsTold, EndsAreTold, EndsAreAll, ChangesReport, KeptReport, ParkedReport, RingBehindLeast, LongWalk, RingOfThree, RingOfFour, RingAndEnded};
-ghost use Rattle.lt_law_waiting.specs.WaitingLaws.{OnlyWaitersWait, EachWaitsForSome, EndedHold, WaitersAreExplained, PairsAreReported, EndsAreReported, WaitersAreReported};
+ghost use Rattle.lt_law_waiting.specs.ReportLaws.{RingSetWaits, RingSetIsGreatest, WalkFindsRing, NoRing, WalksEnd, WaitsAreTold, CyclesAreRings, RingsAreTold, NoCycleIsTold, EndsAreTold, EndsAreAll, ChangesReport, KeptReport, ParkedReport, RingBehindLeast, LongWalk, RingOfThree, RingOfFour, RingAndEnded, VoidInTheWay};
+ghost use Rattle.lt_law_waiting.specs.WaitingLaws.{OnlyWaitersWait, OnlyWaitersAreBehind, EachHasReason, EndedHold, WaitersHaveReasons, PairsAreReported, VoidPairsAreReported, EndsHaveReasons, WaitersHaveLines, UnmarkedWaits, UnmarkedReport, EachWaitsForSome, WaitersAreExplained, EndsAreReported, WaitersAreReported};
 
 /// Of any graph of who waits for whom: the ring set, the ring that a walk in it finds, and where walks end if no clients wait
 /// in a ring.
@@ -21,8 +21,9 @@ pub fn law_reports()
     ensures all { EndsAreAll }
 {}
 
-/// If no move is left, each waiting client waits for some client; somebody waits if and only if clients wait in a ring or a
-/// client that has ended holds a lock against one that waits; and the report tells each of them.
+/// If no move is left, and no ask is given up, each waiting client waits for some client; somebody waits if and only if
+/// clients wait in a ring or a client that has ended holds a lock against one that waits; and the report tells each of them.
+/// Nobody waits behind a void ask then.
 pub fn law_waiting()
     ensures waiters { OnlyWaitersWait }
     ensures some { EachWaitsForSome }
@@ -31,6 +32,20 @@ pub fn law_waiting()
     ensures pairs { PairsAreReported }
     ensures ends { EndsAreReported }
     ensures all { WaitersAreReported }
+    ensures unmarked { UnmarkedWaits }
+    ensures no_void { UnmarkedReport }
+{}
+
+/// If no move is left, asks given up or not: each waiting client waits for some client, or behind a void ask; somebody waits if
+/// and only if clients wait in a ring, or a client that has ended holds a lock against one that waits, or a client waits
+/// behind a void ask; and the report tells each of them.
+pub fn law_void_waits()
+    ensures waiters { OnlyWaitersAreBehind }
+    ensures some { EachHasReason }
+    ensures explained { WaitersHaveReasons }
+    ensures pairs { VoidPairsAreReported }
+    ensures ends { EndsHaveReasons }
+    ensures all { WaitersHaveLines }
 {}
 
 /// Small runs and their reports.
@@ -43,4 +58,5 @@ pub fn law_report_rows()
     ensures ring_of_three { RingOfThree }
     ensures ring_of_four { RingOfFour }
     ensures ring_and_ended { RingAndEnded }
+    ensures void_in_the_way { VoidInTheWay }
 {}

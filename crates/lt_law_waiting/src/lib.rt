@@ -4,4 +4,4 @@
 
 mod laws;
 
-pub use laws::{law_report_rows, law_reports, law_rings, law_waiting};
+pub use laws::{law_report_rows, law_reports, law_rings, law_void_waits, law_waiting};

@@ -5,7 +5,7 @@ use Rattle.std.proofs.Math.Nat.{mul-div-le}
 use Rattle.std.proofs.lemmas.Option.{same_Some, slice_get-map, slice_get_within}
 use mathlib.Core.List.{IsPrefix}
 use Rattle.lt_modes.specs.declared.event.Event.{Event}
-use Rattle.lt_modes.specs.declared.event.Event.TheVariants.{Grant, Wait, Try, Unlock, NotHeld as NoLock, Change, DropAll, Busy as Waiting, Copy, Freeze, Token}
+use Rattle.lt_modes.specs.declared.event.Event.TheVariants.{Grant, Wait, Try, Unlock, NotHeld as NoLock, Change, DropAll, Busy as Waiting, Withdraw, Withdrawn as GivenUp, Void, Withheld as HeldBack, Copy, Freeze, Token}
 use Rattle.lt_modes.specs.declared.command.Command.{Command}
 use Rattle.lt_modes.specs.Script.{ScriptData}
 use Rattle.lt_lists.specs.Below.{sum_below}
@@ -30,7 +30,7 @@ use Rattle.lt_threads.proofs.Logs.{crew_last, SameLog, same_run}
 use Rattle.lt_threads.proofs.Joined.{joined}
 use Rattle.lt_threads.proofs.Shown.{part_here}
 use Rattle.lt_live.specs.declared.reply.Reply.{Reply}
-use Rattle.lt_live.specs.declared.reply.Reply.TheVariants.{Granted, True, False, Unlocked, NotHeld, Changed, Dropped, Busy}
+use Rattle.lt_live.specs.declared.reply.Reply.TheVariants.{Granted, True, False, Unlocked, NotHeld, Changed, Dropped, Busy, Withdrawn, Withheld}
 use Rattle.lt_live.specs.Seats.{told_if, reply_to, replies_in, IsServedSession}
 use Rattle.lt_live.specs.Live.{RepliesOfLines, RepliesInLog, AreLive, LiveScript, IsServedRun, IsRunOfAll, ServedBy, SaysSame, Settled, SharedNow, ServedNow}
 use Rattle.lt_live.specs.declared.ends.Session.{Session}
@@ -59,6 +59,10 @@ says client (NoLock other s mode) = says_if client other NotHeld
 says client (Change other s gives_up mode) = says_if client other Changed
 says client (DropAll other whose s count) = says_if client other (Dropped count)
 says client (Waiting other whose s) = says_if client other Busy
+says client (Withdraw other whose s got) = says_if client other (if got then True else False)
+says client (GivenUp other s mode) = says_if client other Withdrawn
+says client (Void other s mode) = refl
+says client (HeldBack other s mode) = says_if client other Withheld
 says client (Copy s to other mode) = refl
 says client (Freeze s to number modes) = refl
 says client (Token s to epoch) = refl

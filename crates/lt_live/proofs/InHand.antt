@@ -11,7 +11,7 @@ use Rattle.lt_lists.specs.Below.{sum_below}
 use Rattle.lt_lists.proofs.AllLemmas.{all_weaker}
 use Rattle.lt_script.proofs.NameLemmas.{element_at}
 use Rattle.lt_spec.specs.NodeMove.{home, commands_of, command_if, AreAt}
-use Rattle.lt_spec.specs.Script.{IsRequest, HasTargets, HasModesOf}
+use Rattle.lt_spec.specs.Script.{IsRequest, HasTargets, IsOfVersion}
 use Rattle.lt_spec.specs.declared.limits.TheConstants.{MAX_COMMANDS_OF_SERVICE}
 use Rattle.lt_threads.specs.Meeting.{InShares}
 use Rattle.lt_threads.proofs.Shares.{counted}
@@ -28,7 +28,7 @@ use Rattle.lt_live.proofs.SeatLists.{pushed}
 
 -- a command more is submitted
 pub one_more : (script : ScriptData) (client : ℕ) (command : Command) (old new : List Command) → MayAskAll script client old
-    → HasTargets script.sets script.clients client command → HasModesOf script.version command → new ≡ old ++ command ∷ [] → MayAskAll script client new
+    → HasTargets script.sets script.clients client command → IsOfVersion script.version command → new ≡ old ++ command ∷ [] → MayAskAll script client new
 one_more script client command old new all targets modes more k other here =
     by_place (pushed old command k other (ap (λ (list : List Command). slice_get list k) (sym more) ∙ here))
   where

@@ -7,7 +7,7 @@ use Rattle.lt_modes.specs.declared.command.Command.{Command}
 use Rattle.lt_modes.specs.Script.{ScriptData}
 use Rattle.lt_lists.proofs.AllLemmas.{all_append, all_weaker}
 use Rattle.lt_spec.specs.NodeMove.{with_commands, AreAt}
-use Rattle.lt_spec.specs.Script.{IsScript, IsRequest, HasModesOf}
+use Rattle.lt_spec.specs.Script.{IsScript, IsRequest, IsOfVersion}
 use Rattle.lt_spec.specs.declared.limits.TheConstants.{MAX_COMMANDS_OF_SERVICE}
 use Rattle.lt_script.proofs.NameLemmas.{element_at}
 use Rattle.lt_mail.specs.Words.{Alike}
@@ -170,9 +170,9 @@ module _ (script : ScriptData) (rs : List Parts) (shares : AreShares script rs) 
         few_commands = few;
         requests = All-from_recursion (IsRequest script.sets script.clients) (commands_in rs)
             (all_in (IsRequest script.sets script.clients) rs (λ k q here. recursion_from_All (IsRequest script.sets script.clients) q.node.script.commands (own k q here).requests));
-        modes = All-from_recursion (λ (request : ℕ × Command). HasModesOf script.version request.1) (commands_in rs)
-            (all_in (λ (request : ℕ × Command). HasModesOf script.version request.1) rs
-            (λ k q here. recursion_from_All (λ (request : ℕ × Command). HasModesOf script.version request.1) q.node.script.commands (own k q here).modes));
+        modes = All-from_recursion (λ (request : ℕ × Command). IsOfVersion script.version request.1) (commands_in rs)
+            (all_in (λ (request : ℕ × Command). IsOfVersion script.version request.1) rs
+            (λ k q here. recursion_from_All (λ (request : ℕ × Command). IsOfVersion script.version request.1) q.node.script.commands (own k q here).modes));
       }
 
 -- All were served.

@@ -4,9 +4,9 @@ use Rattle.std.proofs.lemmas.Bool.{and_parts, and_from, cases_eq}
 use Rattle.std.proofs.lemmas.Option.{slice_get_within}
 use Rattle.lt_modes.specs.FiveModes.{is_of_version}
 use Rattle.lt_modes.specs.declared.command.Command.{Command}
-use Rattle.lt_modes.specs.declared.command.Command.TheVariants.{Lock, Try, Unlock, Change, DropAll}
+use Rattle.lt_modes.specs.declared.command.Command.TheVariants.{Lock, Try, Unlock, Change, DropAll, Withdraw}
 use Rattle.lt_modes.specs.Script.{ScriptData, home_at}
-use Rattle.lt_spec.specs.Script.{HasTargets, HasModesOf}
+use Rattle.lt_spec.specs.Script.{HasTargets, IsOfVersion}
 use Rattle.lt_spec.specs.declared.limits.TheConstants.{MAX_COMMANDS_OF_SERVICE}
 use Rattle.lt_spec.specs.World.{Logged}
 use Rattle.lt_spec.specs.NodeMove.{with_commands}
@@ -28,7 +28,7 @@ use Rattle.lt_live.proofs.SeatLists.{each_before, each_after, each_join}
 pub record MeetsAppend (script : ScriptData) (client : ℕ) (command : Command) : Type 0 where
   pub room : length script.commands < MAX_COMMANDS_OF_SERVICE
   pub targets : HasTargets script.sets script.clients client command
-  pub modes : HasModesOf script.version command
+  pub modes : IsOfVersion script.version command
 
 pub has_targets : (script : ScriptData) (client : ℕ) (command : Command) → may_ask script client command ≡ true → HasTargets script.sets script.clients client command
 has_targets script client (Lock set mode) h = ltb-true set (length script.sets) (and_parts (has_set script set) (is_of_version script.version mode) h).0
@@ -40,8 +40,13 @@ has_targets script client (DropAll other set) h =
     let parts = and_parts (has_set script set) (is_neighbour script client other) h in
     let more = and_parts (nat_lt other (length script.clients)) (home_at script.clients other == home_at script.clients client) parts.1 in
     (ltb-true set (length script.sets) parts.0, ltb-true other (length script.clients) more.0, eqb-true (home_at script.clients other) (home_at script.clients client) more.1)
+has_targets script client (Withdraw other set) h =
+    let parts = and_parts (has_set script set) (is_neighbour script client other && script.version == 3) h in
+    let near = and_parts (is_neighbour script client other) (script.version == 3) parts.1 in
+    let more = and_parts (nat_lt other (length script.clients)) (home_at script.clients other == home_at script.clients client) near.0 in
+    (ltb-true set (length script.sets) parts.0, ltb-true other (length script.clients) more.0, eqb-true (home_at script.clients other) (home_at script.clients client) more.1)
 
-pub has_modes : (script : ScriptData) (client : ℕ) (command : Command) → may_ask script client command ≡ true → HasModesOf script.version command
+pub has_modes : (script : ScriptData) (client : ℕ) (command : Command) → may_ask script client command ≡ true → IsOfVersion script.version command
 has_modes script client (Lock set mode) h = (and_parts (has_set script set) (is_of_version script.version mode) h).1
 has_modes script client (Try set mode) h = (and_parts (has_set script set) (is_of_version script.version mode) h).1
 has_modes script client (Unlock set mode) h = (and_parts (has_set script set) (is_of_version script.version mode) h).1
@@ -49,6 +54,9 @@ has_modes script client (Change set gives_up mode) h =
     let parts = and_parts (has_set script set) (is_of_version script.version gives_up && is_of_version script.version mode) h in
     and_parts (is_of_version script.version gives_up) (is_of_version script.version mode) parts.1
 has_modes script client (DropAll other set) h = tt
+has_modes script client (Withdraw other set) h =
+    let parts = and_parts (has_set script set) (is_neighbour script client other && script.version == 3) h in
+    eqb-true script.version 3 (and_parts (is_neighbour script client other) (script.version == 3) parts.1).1
 
 pub can_append : (script : ScriptData) (client : ℕ) (command : Command) → may_append script client command ≡ true → MeetsAppend script client command
 can_append script client command h =
@@ -60,7 +68,7 @@ can_append script client command h =
     }
 
 -- and a command that names no other may be asked
-pub asks : (script : ScriptData) (client : ℕ) (command : Command) → HasTargets script.sets script.clients client command → HasModesOf script.version command
+pub asks : (script : ScriptData) (client : ℕ) (command : Command) → HasTargets script.sets script.clients client command → IsOfVersion script.version command
     → may_ask script client command ≡ true
 asks script client (Lock set mode) targets modes = and_from (has_set script set) (is_of_version script.version mode) (lt-ltb set (length script.sets) targets) modes
 asks script client (Try set mode) targets modes = and_from (has_set script set) (is_of_version script.version mode) (lt-ltb set (length script.sets) targets) modes
@@ -72,6 +80,12 @@ asks script client (DropAll other set) targets modes =
     and_from (has_set script set) (is_neighbour script client other) (lt-ltb set (length script.sets) targets.0)
     (and_from (nat_lt other (length script.clients)) (home_at script.clients other == home_at script.clients client)
     (lt-ltb other (length script.clients) targets.1) (eq-eqb (home_at script.clients other) (home_at script.clients client) targets.2))
+asks script client (Withdraw other set) targets version =
+    and_from (has_set script set) (is_neighbour script client other && script.version == 3) (lt-ltb set (length script.sets) targets.0)
+    (and_from (is_neighbour script client other) (script.version == 3)
+    (and_from (nat_lt other (length script.clients)) (home_at script.clients other == home_at script.clients client)
+    (lt-ltb other (length script.clients) targets.1) (eq-eqb (home_at script.clients other) (home_at script.clients client) targets.2))
+    (eq-eqb script.version 3 version))
 
 -- The parts of a turn.
 
@@ -119,6 +133,7 @@ ask_same script commands client (Try set mode) = refl
 ask_same script commands client (Unlock set mode) = refl
 ask_same script commands client (Change set gives_up mode) = refl
 ask_same script commands client (DropAll other set) = refl
+ask_same script commands client (Withdraw other set) = refl
 
 not_later : (t u ask : Bool) → (t ≡ false → u ≡ false) → t && ask ≡ false → u && ask ≡ false
 not_later true true ask goes e = e

@@ -3,13 +3,13 @@ use Rattle.std.specs.Prelude.{◌≤◌, ℕ, List, [], ◌++◌, Option, Some, 
 use mathlib.Core.List.{IsPrefix}
 use Rattle.rtrb.specs.Ring.{known_free, producer_capacity}
 use Rattle.lt_modes.specs.declared.event.Event.{Event}
-use Rattle.lt_modes.specs.declared.event.Event.TheVariants.{Grant, Wait, Try, Unlock, NotHeld as NoLock, Change, DropAll, Busy as Waiting, Copy, Freeze, Token}
+use Rattle.lt_modes.specs.declared.event.Event.TheVariants.{Grant, Wait, Try, Unlock, NotHeld as NoLock, Change, DropAll, Busy as Waiting, Withdraw, Withdrawn as GivenUp, Void, Withheld as HeldBack, Copy, Freeze, Token}
 use Rattle.lt_modes.specs.declared.command.Command.{Command}
 use Rattle.lt_spec.specs.Holdings.{lines_of}
 use Rattle.lt_spec.specs.World.{Logged}
 use Rattle.lt_log.specs.LogData.{LogData}
 use Rattle.lt_live.specs.declared.reply.Reply.{Reply}
-use Rattle.lt_live.specs.declared.reply.Reply.TheVariants.{Granted, True, False, Unlocked, NotHeld, Changed, Dropped, Busy}
+use Rattle.lt_live.specs.declared.reply.Reply.TheVariants.{Granted, True, False, Unlocked, NotHeld, Changed, Dropped, Busy, Withdrawn, Withheld}
 use Rattle.lt_live.specs.declared.ends.Session.{Session}
 use Rattle.lt_live.specs.declared.ends.Seat.{Seat}
 use Rattle.lt_live.specs.Words.{submitted, polled, known_replies, taken, known_commands, taken_or_known, told_to, outbox_replies, due_to, command_held, SameSession, SameSeat}
@@ -41,7 +41,8 @@ IsCursorOf log seat = IsCursor log.entries seat.moves seat.lines × (log.gone �
 abbrev pub told_if : ℕ → ℕ → Reply → Option Reply
 told_if client other reply = if other == client then Some reply else None
 
--- what the line says to the client: of a drop and of a busy one, to the first client that it names; to wait is no reply
+-- what the line says to the client: of a drop, a busy one and a withdraw, to the first client that it names; to wait is no
+-- reply, nor is the answer to an ask that was given up
 abbrev pub reply_to : ℕ → Event → Option Reply
 reply_to client (Grant other s mode) = told_if client other Granted
 reply_to client (Wait other s mode) = None
@@ -51,6 +52,10 @@ reply_to client (NoLock other s mode) = told_if client other NotHeld
 reply_to client (Change other s gives_up mode) = told_if client other Changed
 reply_to client (DropAll other whose s count) = told_if client other (Dropped count)
 reply_to client (Waiting other whose s) = told_if client other Busy
+reply_to client (Withdraw other whose s got) = told_if client other (if got then True else False)
+reply_to client (GivenUp other s mode) = told_if client other Withdrawn
+reply_to client (Void other s mode) = None
+reply_to client (HeldBack other s mode) = told_if client other Withheld
 reply_to client (Copy s to other mode) = None
 reply_to client (Freeze s to number modes) = None
 reply_to client (Token s to epoch) = None

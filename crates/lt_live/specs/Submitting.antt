@@ -2,7 +2,7 @@
 use Rattle.std.specs.Prelude.{◌==◌, ◌&&◌, ◌≡◌, Bool, ℕ, List, Some, true, nat_lt, length, slice_get}
 use Rattle.lt_modes.specs.FiveModes.{is_of_version}
 use Rattle.lt_modes.specs.declared.command.Command.{Command}
-use Rattle.lt_modes.specs.declared.command.Command.TheVariants.{Lock, Try, Unlock, Change, DropAll}
+use Rattle.lt_modes.specs.declared.command.Command.TheVariants.{Lock, Try, Unlock, Change, DropAll, Withdraw}
 use Rattle.lt_modes.specs.Script.{ScriptData, home_at}
 
 abbrev pub has_set : ScriptData → ℕ → Bool
@@ -13,8 +13,8 @@ abbrev pub is_neighbour : ScriptData → ℕ → ℕ → Bool
 is_neighbour script client other =
     nat_lt other (length script.clients) && home_at script.clients other == home_at script.clients client
 
--- all that the command names is of the script and of its version, and so is the client whose locks it drops, of the same
--- node
+-- all that the command names is of the script and of its version, and so is the client whose locks it drops or whose ask
+-- it gives up, of the same node; `withdraw` is of version 3
 abbrev pub may_ask : ScriptData → ℕ → Command → Bool
 may_ask script client (Lock set mode) = has_set script set && is_of_version script.version mode
 may_ask script client (Try set mode) = has_set script set && is_of_version script.version mode
@@ -22,6 +22,8 @@ may_ask script client (Unlock set mode) = has_set script set && is_of_version sc
 may_ask script client (Change set gives_up mode) =
     has_set script set && (is_of_version script.version gives_up && is_of_version script.version mode)
 may_ask script client (DropAll other set) = has_set script set && is_neighbour script client other
+may_ask script client (Withdraw other set) =
+    has_set script set && (is_neighbour script client other && script.version == 3)
 
 -- so it is of each of these
 abbrev pub MayAskAll : ScriptData → ℕ → List Command → Type 0

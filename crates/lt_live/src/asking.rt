@@ -26,7 +26,7 @@ fn is_neighbour(script: &Script, client: u16, other: u16) -> bool
     other < script.clients() && script.home(other) == script.home(client)
 }
 
-/// Whether the command names only what is of the script, and whose locks the client may drop.
+/// Whether the command names only what is of the script, and whose locks the client may drop or whose ask it may give up.
 pub(crate) fn may_ask(script: &Script, client: u16, command: Command) -> bool
     requires { client < length script.now.clients }
     ensures { result ≡ may_ask script.now client command }
@@ -44,6 +44,9 @@ pub(crate) fn may_ask(script: &Script, client: u16, command: Command) -> bool
         }
         Command::DropAll { client: other, set } => {
             has_set(script, set) && is_neighbour(script, client, other)
+        }
+        Command::Withdraw { client: other, set } => {
+            has_set(script, set) && (is_neighbour(script, client, other) && script.version() == 3)
         }
     }
 }

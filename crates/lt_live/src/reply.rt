@@ -9,9 +9,9 @@ use lt_modes::Event;
 pub enum Reply {
     /// It has the lock that it asked for.
     Granted,
-    /// It tried, and has the lock.
+    /// It tried, and has the lock; or it gave up what a client waited for.
     True,
-    /// It tried, and has no lock.
+    /// It tried, and has no lock; or there was nothing to give up.
     False,
     Unlocked,
     /// It didn't hold the mode that it gives up.
@@ -21,6 +21,10 @@ pub enum Reply {
     Dropped(u64),
     /// The client whose locks it wanted to drop waits, so none was dropped.
     Busy,
+    /// The lock or change that it waited for was given up. It holds what it held.
+    Withdrawn,
+    /// It can't ask for this lock or change yet, since what it gave up is still unanswered in the set.
+    Withheld,
 }
 
 // The reply, where it is this client's.
@@ -55,7 +59,22 @@ pub fn reply_to(client: u16, line: Event) -> Option<Reply>
             ..
         } => told_if(client, other, Reply::Dropped(count)),
         Event::Busy { client: other, .. } => told_if(client, other, Reply::Busy),
-        Event::Wait { .. } | Event::Copy { .. } | Event::Freeze { .. } | Event::Token { .. } =>
-            None,
+        Event::Withdraw {
+            client: other,
+            got: true,
+            ..
+        } => told_if(client, other, Reply::True),
+        Event::Withdraw {
+            client: other,
+            got: false,
+            ..
+        } => told_if(client, other, Reply::False),
+        Event::Withdrawn { client: other, .. } => told_if(client, other, Reply::Withdrawn),
+        Event::Withheld { client: other, .. } => told_if(client, other, Reply::Withheld),
+        Event::Wait { .. }
+        | Event::Void { .. }
+        | Event::Copy { .. }
+        | Event::Freeze { .. }
+        | Event::Token { .. } => None,
     }
 }

@@ -1,8 +1,9 @@
 // What a session does on its caller's thread.
 ghost use Rattle.std.specs.Prelude.{◌≡◌, ◌+◌, ◌-◌, ◌≤◌, ◌<◌, ◌++◌, ◌∷◌, [], true, length, IfSome, IfNone, IfErr, IsOk, OnOk};
 ghost use mathlib.Core.List.{IsPrefix};
+ghost use Rattle.lt_modes.specs.declared.command.Command.TheVariants.{Withdraw};
 ghost use Rattle.rtrb.specs.Ring.{known_free};
-ghost use Rattle.lt_spec.specs.Script.{HasTargets, HasModesOf, set_number};
+ghost use Rattle.lt_spec.specs.Script.{HasTargets, IsOfVersion, set_number};
 ghost use Rattle.lt_live.specs.Words.{submitted, polled, known_replies, places, SameSession};
 
 use crate::asking::may_ask;
@@ -58,12 +59,12 @@ impl Session {
     }
 
     /// Whether the command may be submitted here: all that it names is of the script and of its version, and the client whose
-    /// locks it drops is of the same node as this one.
+    /// locks it drops, or whose ask it gives up, is of the same node as this one. Only a script of version 3 has `withdraw`.
     #[tactic(auto, using(crate::proofs::TurnParts::has_targets, crate::proofs::TurnParts::has_modes, crate::proofs::TurnParts::asks))]
     pub fn may_submit(&self, command: Command) -> bool
         ensures targets { result ≡ true → HasTargets self.now.script.sets self.now.script.clients self.now.client command }
-        ensures modes { result ≡ true → HasModesOf self.now.script.version command }
-        ensures all { HasTargets self.now.script.sets self.now.script.clients self.now.client command → HasModesOf self.now.script.version command → result ≡ true }
+        ensures modes { result ≡ true → IsOfVersion self.now.script.version command }
+        ensures all { HasTargets self.now.script.sets self.now.script.clients self.now.client command → IsOfVersion self.now.script.version command → result ≡ true }
     {
         may_ask(&self.script, self.client, command)
     }
@@ -74,7 +75,7 @@ impl Session {
     pub fn submit(&mut self, command: Command) -> Result<(), Command>
         requires left { 0 < self.old.left }
         requires targets { HasTargets self.old.script.sets self.old.script.clients self.old.client command }
-        requires modes { HasModesOf self.old.script.version command }
+        requires modes { IsOfVersion self.old.script.version command }
         ensures ok { OnOk result ((submitted self.new ≡ submitted self.old ++ command ∷ []) × (self.new.left + 1 ≡ self.old.left)) }
         ensures back { IfErr result (λ back. (back ≡ command) × (submitted self.new ≡ submitted self.old) × (self.new.left ≡ self.old.left)) }
         ensures full { IfErr result (λ back. places self.old ≤ length (submitted self.old)) }
@@ -90,6 +91,25 @@ impl Session {
             }
             Err(PushError::Full(back)) => Err(back),
         }
+    }
+
+    /// Submits that the client gives up what it waits for in this set. It keeps its locks.
+    ///
+    /// While it waits there, this is the one command that a client may make; in another set it comes after the wait.
+    pub fn withdraw(&mut self, set: u32) -> Result<(), Command>
+        requires left { 0 < self.old.left }
+        requires set { set < length self.old.script.sets }
+        requires version { self.old.script.version ≡ 3 }
+        ensures ok { OnOk result ((submitted self.new ≡ submitted self.old ++ Withdraw self.old.client set ∷ []) × (self.new.left + 1 ≡ self.old.left)) }
+        ensures back { IfErr result (λ back. (back ≡ Withdraw self.old.client set) × (submitted self.new ≡ submitted self.old) × (self.new.left ≡ self.old.left)) }
+        ensures full { IfErr result (λ back. places self.old ≤ length (submitted self.old)) }
+        ensures no_place { IfErr result (λ back. known_free self.new.commands ≡ 0) }
+        ensures place { 0 < known_free self.old.commands → IsOk result }
+        ensures replies { (polled self.new ≡ polled self.old) × (known_replies self.new ≡ known_replies self.old) }
+        ensures same { SameSession self.old self.new }
+    {
+        let client = self.client;
+        self.submit(Command::Withdraw { client, set })
     }
 
     /// The next reply, which is that to the first command that has none yet. None only where none is known here.

@@ -2,7 +2,7 @@
 use Rattle.std.proofs.Common.{◌≡◌, ◌<◌, ◌≤◌, ◌+◌, ◌++◌, ◌∷◌, [], Bool, true, false, Option, Some, inl, inr, refl, sym, subst, arith, length, ◌∙◌}
 use Rattle.std.proofs.lemmas.Bool.{false≢true}
 use Rattle.lt_modes.specs.declared.command.Command.{Command}
-use Rattle.lt_spec.specs.Script.{HasTargets, HasModesOf}
+use Rattle.lt_spec.specs.Script.{HasTargets, IsOfVersion}
 use Rattle.lt_live.specs.declared.ends.Session.{Session}
 use Rattle.lt_live.specs.Words.{submitted, polled, known_replies, places}
 use Rattle.lt_live_c.specs.declared.code.TheConstants.{OK, BAD_ARGUMENT, SPENT, FULL}
@@ -22,7 +22,7 @@ bad_argument s command not = record {
 
 -- a test that is passed by all that may be submitted failed
 pub may_not : (s : Session) (o : Option Command) (command : Command) (passes : Bool) → o ≡ Some command → passes ≡ false
-    → (HasTargets s.script.sets s.script.clients s.client command → HasModesOf s.script.version command → passes ≡ true)
+    → (HasTargets s.script.sets s.script.clients s.client command → IsOfVersion s.script.version command → passes ≡ true)
     → Submits BAD_ARGUMENT o s s
 may_not s o command passes is fails all =
     bad_argument s o (subst (λ (x : Option Command). MayNot x s) (sym is) (λ may. false≢true (sym fails ∙ all may.0 may.1)))

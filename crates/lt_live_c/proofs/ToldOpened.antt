@@ -1,5 +1,5 @@
 -- What follows from each code of a call on a station or a session.
-use Rattle.std.proofs.Common.{◌≡◌, ◌≢◌, ◌<◌, ◌≤◌, ◌==◌, ne_eqb, false, ◌⊎◌, ◌++◌, ◌∷◌, [], inl, inr, ℕ, Option, Some, None, refl, sym, ap, subst, arith, ◌∙◌}
+use Rattle.std.proofs.Common.{◌≡◌, ◌<◌, ◌≤◌, ◌==◌, ne_eqb, false, ◌⊎◌, inl, inr, ℕ, Option, Some, None, refl, subst, arith}
 use Rattle.lt_runner.specs.declared.turning.Turned.{Turned}
 use Rattle.lt_runner.specs.declared.turning.Turned.TheVariants as turns
 use Rattle.lt_live.specs.declared.ends.Session.{Session}
@@ -9,7 +9,8 @@ use Rattle.lt_live.specs.Stations.{StationData, StationTurns}
 use Rattle.lt_live.specs.Words.{polled}
 use Rattle.lt_live_c.specs.declared.content.Content.{Content}
 use Rattle.lt_live_c.specs.declared.content.Content.TheVariants as contents
-use Rattle.lt_live_c.specs.Calls.{number_of_reply, number_of_turn, mode_numbered, command_numbered, TurnsStation, Submits, Polls, PollEnds, HasNoReply, TellsReply}
+use Rattle.lt_live_c.specs.Calls.{number_of_turn, mode_numbered, command_numbered, TurnsStation, Submits, Polls}
+use Rattle.lt_live_c.proofs.RepliesOpened.{nothing_so, granted_so, dropped_so, withdrawn_of, withheld_of, told_of, poll_code}
 use Rattle.lt_live_c.specs.Taking.{AtSession}
 use Rattle.lt_live_c.specs.Told.{CallCodesAre, ReplyNumbersAre, ModeNumbersAre, CommandNumbersAre, OfSession, AfterTurn, TurnsTold, AfterSubmit, SubmitsTold, AfterPoll, PollsTold}
 
@@ -40,6 +41,8 @@ reply_numbers_are = record {
   changed = (refl, refl);
   dropped = (refl, refl);
   busy = (refl, refl);
+  withdrawn = (refl, refl);
+  withheld = (refl, refl);
 }
 
 -- the number is above all of these, and so none of them
@@ -61,9 +64,9 @@ mode_numbers_are = record {
   none = no_mode;
 }
 
-no_kind : (kind set first second : ℕ) → 4 < kind → command_numbered kind set first second ≡ None
+no_kind : (kind set first second : ℕ) → 5 < kind → command_numbered kind set first second ≡ None
 no_kind kind set first second more =
-    rw (above kind 0 4 (omega arith) more, above kind 1 4 (omega arith) more, above kind 2 4 (omega arith) more, above kind 3 4 (omega arith) more, above kind 4 4 (omega arith) more) refl
+    rw (above kind 0 5 (omega arith) more, above kind 1 5 (omega arith) more, above kind 2 5 (omega arith) more, above kind 3 5 (omega arith) more, above kind 4 5 (omega arith) more, above kind 5 5 (omega arith) more) refl
 
 pub command_numbers_are : CommandNumbersAre
 command_numbers_are = record {
@@ -72,12 +75,14 @@ command_numbers_are = record {
   unlock = refl;
   change = refl;
   drops = refl;
+  withdraws = refl;
   no_lock = refl;
   no_try = refl;
   no_unlock = refl;
   no_change_from = refl;
   no_change_to = refl;
   no_drop = refl;
+  no_withdraw = refl;
   no_kind = no_kind;
 }
 
@@ -169,6 +174,10 @@ submits_told = record {
   mode = after_submit 0 0 4 _ (λ s t h. (h.ok refl).may.1);
   client = after_submit 0 4 3 _ (λ s t h. (h.ok refl).may.0.1);
   neighbour = after_submit 0 4 3 _ (λ s t h. (h.ok refl).may.0.2);
+  withdraw = after_submit 0 5 3 _ (λ s t h. (h.ok refl).next);
+  version = after_submit 0 5 3 _ (λ s t h. (h.ok refl).may.1);
+  withdraw_client = after_submit 0 5 3 _ (λ s t h. (h.ok refl).may.0.1);
+  withdraw_neighbour = after_submit 0 5 3 _ (λ s t h. (h.ok refl).may.0.2);
   no_command = after_submit 0 0 6 _ (λ s t h. h.ok refl);
   named = after_submit 4 1 1 _ (λ s t h set mode. h.bad_argument refl (set, mode));
   spent = after_submit 6 0 5 _ (λ s t h. h.spent refl);
@@ -189,68 +198,6 @@ after_poll : (code : ℕ) (Told : ℕ → ℕ → Session → Session → Type 0
 after_poll code Told says s was count new h =
     after_session code (Polls code was count) (Told was count) (says was count) s new h
 
-bounds : (reply : Reply) → (16 ≤ number_of_reply reply) × (number_of_reply reply ≤ 23)
-bounds replies.Granted = (omega arith, omega arith)
-bounds replies.True = (omega arith, omega arith)
-bounds replies.False = (omega arith, omega arith)
-bounds replies.Unlocked = (omega arith, omega arith)
-bounds replies.NotHeld = (omega arith, omega arith)
-bounds replies.Changed = (omega arith, omega arith)
-bounds (replies.Dropped count) = (omega arith, omega arith)
-bounds replies.Busy = (omega arith, omega arith)
-
-nothing_so : (was count : ℕ) (s t : Session) → Polls 1 was count s t → HasNoReply 1 was count s t
-nothing_so was count s t h = elim h.ends [
-  | inl none ↦ none
-  | inr some ↦ absurd (omega (arith, some.1.code_is, (bounds some.0).0))
-]
-
--- a reply was told
-reply_so : (code was count : ℕ) (s t : Session) → code ≢ 1 → PollEnds code was count s t
-    → (reply : Reply) × TellsReply reply code was count s t
-reply_so code was count s t other (inl none) = absurd (other none.code_is)
-reply_so code was count s t other (inr some) = some
-
-granted_reply : (reply : Reply) → 16 ≡ number_of_reply reply → reply ≡ replies.Granted
-granted_reply replies.Granted e = refl
-granted_reply replies.True e = absurd (omega (arith, e))
-granted_reply replies.False e = absurd (omega (arith, e))
-granted_reply replies.Unlocked e = absurd (omega (arith, e))
-granted_reply replies.NotHeld e = absurd (omega (arith, e))
-granted_reply replies.Changed e = absurd (omega (arith, e))
-granted_reply (replies.Dropped count) e = absurd (omega (arith, e))
-granted_reply replies.Busy e = absurd (omega (arith, e))
-
-granted_so : (was count : ℕ) (s t : Session) → Polls 16 was count s t
-    → TellsReply replies.Granted 16 was count s t
-granted_so was count s t h =
-    let some = reply_so 16 was count s t (λ e. omega (arith, e)) h.ends in
-    subst (λ (reply : Reply). TellsReply reply 16 was count s t) (granted_reply some.0 some.1.code_is) some.1
-
-dropped_of : (was count : ℕ) (s t : Session) (reply : Reply) → TellsReply reply 22 was count s t
-    → polled t ≡ polled s ++ replies.Dropped count ∷ []
-dropped_of was count s t replies.Granted h = absurd (omega (arith, h.code_is))
-dropped_of was count s t replies.True h = absurd (omega (arith, h.code_is))
-dropped_of was count s t replies.False h = absurd (omega (arith, h.code_is))
-dropped_of was count s t replies.Unlocked h = absurd (omega (arith, h.code_is))
-dropped_of was count s t replies.NotHeld h = absurd (omega (arith, h.code_is))
-dropped_of was count s t replies.Changed h = absurd (omega (arith, h.code_is))
-dropped_of was count s t (replies.Dropped n) h =
-    h.polled ∙ ap (λ (k : ℕ). polled s ++ replies.Dropped k ∷ []) (sym h.tells)
-dropped_of was count s t replies.Busy h = absurd (omega (arith, h.code_is))
-
-dropped_so : (was count : ℕ) (s t : Session) → Polls 22 was count s t
-    → polled t ≡ polled s ++ replies.Dropped count ∷ []
-dropped_so was count s t h =
-    let some = reply_so 22 was count s t (λ e. omega (arith, e)) h.ends in
-    dropped_of was count s t some.0 some.1
-
-poll_code : (code was count : ℕ) (s t : Session) → PollEnds code was count s t
-    → (code ≡ 1) ⊎ ((16 ≤ code) × (code ≤ 23))
-poll_code code was count s t (inl none) = inl none.code_is
-poll_code code was count s t (inr some) =
-    inr (subst (λ (n : ℕ). (16 ≤ n) × (n ≤ 23)) (sym some.1.code_is) (bounds some.0))
-
 pub polls_told : PollsTold
 polls_told = record {
   nothing = after_poll 1 _ (λ was count s t h. (nothing_so was count s t h).known.0);
@@ -261,6 +208,8 @@ polls_told = record {
   granted_known = after_poll 16 _ (λ was count s t h. (granted_so was count s t h).known);
   granted_count = after_poll 16 _ (λ was count s t h. (granted_so was count s t h).tells);
   dropped = after_poll 22 _ dropped_so;
+  withdrawn = after_poll 24 _ (told_of 24 replies.Withdrawn withdrawn_of (λ e. omega (arith, e)));
+  withheld = after_poll 25 _ (told_of 25 replies.Withheld withheld_of (λ e. omega (arith, e)));
   only = λ code. after_poll code _ (λ was count s t h. poll_code code was count s t h.ends);
   submitted_stays = λ code. after_poll code _ (λ was count s t h. h.commands.0);
   left_stays = λ code. after_poll code _ (λ was count s t h. h.commands.1);

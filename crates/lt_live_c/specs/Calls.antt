@@ -7,7 +7,7 @@ use Rattle.lt_modes.specs.declared.command.Command.TheVariants as commands
 use Rattle.lt_modes.specs.declared.mode.Mode.{Mode}
 use Rattle.lt_modes.specs.declared.mode.Mode.TheVariants as modes
 use Rattle.lt_spec.specs.NodeMove.{home}
-use Rattle.lt_spec.specs.Script.{HasTargets, HasModesOf, set_number}
+use Rattle.lt_spec.specs.Script.{HasTargets, IsOfVersion, set_number}
 use Rattle.lt_runner.specs.declared.turning.Turned.{Turned}
 use Rattle.lt_runner.specs.declared.turning.Turned.TheVariants as turns
 use Rattle.lt_live.specs.declared.reply.Reply.{Reply}
@@ -29,6 +29,8 @@ number_of_reply replies.NotHeld = 20
 number_of_reply replies.Changed = 21
 number_of_reply (replies.Dropped count) = 22
 number_of_reply replies.Busy = 23
+number_of_reply replies.Withdrawn = 24
+number_of_reply replies.Withheld = 25
 
 -- what stands in C's count after the reply: how many locks were dropped, or what stood there
 abbrev pub count_for_c : Reply → ℕ → ℕ
@@ -62,6 +64,10 @@ with_modes f None other = None
 with_modes f (Some mode) None = None
 with_modes f (Some mode) (Some other) = Some (f mode other)
 
+-- a withdraw names a client below 2^16, as a drop does
+abbrev pub withdraw_of : ℕ → ℕ → Option Command
+withdraw_of set client = if nat_lt client 65536 then Some (commands.Withdraw client set) else None
+
 -- a drop names a client below 2^16
 abbrev pub drop_of : ℕ → ℕ → Option Command
 drop_of set client = if nat_lt client 65536 then Some (commands.DropAll client set) else None
@@ -74,6 +80,7 @@ command_numbered kind set first second =
     else if kind == 2 then command_with_mode (λ mode. commands.Unlock set mode) (mode_numbered first)
     else if kind == 3 then with_modes (λ gives_up mode. commands.Change set gives_up mode) (mode_numbered first) (mode_numbered second)
     else if kind == 4 then drop_of set first
+    else if kind == 5 then withdraw_of set first
     else None
 
 -- What calls on stations and sessions do.
@@ -84,7 +91,7 @@ TurnsStation code a b = (turned : Turned) × (code ≡ number_of_turn turned) ×
 
 -- all that the command names is of the session's script
 abbrev pub MaySubmit : Session → Command → Type 0
-MaySubmit s command = HasTargets s.script.sets s.script.clients s.client command × HasModesOf s.script.version command
+MaySubmit s command = HasTargets s.script.sets s.script.clients s.client command × IsOfVersion s.script.version command
 
 -- the command is the next one of the session's client
 pub record IsSubmitted (command : Command) (s t : Session) : Type 0 where

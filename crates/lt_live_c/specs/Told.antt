@@ -3,7 +3,7 @@
 use Rattle.std.specs.Prelude.{◌≡◌, ◌≢◌, ◌<◌, ◌≤◌, ◌⊎◌, ◌+◌, ◌++◌, ◌∷◌, [], ℕ, IsTrue, Option, Some, None, length}
 use mathlib.Core.List.{IsPrefix}
 use Rattle.rtrb.specs.Ring.{known_free, producer_capacity}
-use Rattle.lt_modes.specs.declared.command.Command.TheVariants.{Lock, Try, Unlock, Change, DropAll}
+use Rattle.lt_modes.specs.declared.command.Command.TheVariants.{Lock, Try, Unlock, Change, DropAll, Withdraw}
 use Rattle.lt_modes.specs.declared.mode.Mode.TheVariants as modes
 use Rattle.lt_modes.specs.FiveModes.{is_of_version}
 use Rattle.lt_modes.specs.Script.{home_at}
@@ -55,6 +55,8 @@ pub record ReplyNumbersAre : Type 0 where
   pub changed : IsNumbered replies.Changed 21 9
   pub dropped : IsNumbered (replies.Dropped 3) 22 3
   pub busy : IsNumbered replies.Busy 23 9
+  pub withdrawn : IsNumbered replies.Withdrawn 24 9
+  pub withheld : IsNumbered replies.Withheld 25 9
 
 -- the number of each mode
 pub record ModeNumbersAre : Type 0 where
@@ -73,13 +75,15 @@ pub record CommandNumbersAre : Type 0 where
   pub unlock : command_numbered 2 7 4 9 ≡ Some (Unlock 7 modes.ReadIntentionWrite)
   pub change : command_numbered 3 7 2 5 ≡ Some (Change 7 modes.Upgrade modes.Write)
   pub drops : command_numbered 4 7 65535 9 ≡ Some (DropAll 65535 7)
+  pub withdraws : command_numbered 5 7 65535 9 ≡ Some (Withdraw 65535 7)
   pub no_lock : command_numbered 0 7 6 0 ≡ None
   pub no_try : command_numbered 1 7 6 0 ≡ None
   pub no_unlock : command_numbered 2 7 6 0 ≡ None
   pub no_change_from : command_numbered 3 7 6 5 ≡ None
   pub no_change_to : command_numbered 3 7 2 6 ≡ None
   pub no_drop : command_numbered 4 7 65536 0 ≡ None
-  pub no_kind : (kind set first second : ℕ) → 4 < kind → command_numbered kind set first second ≡ None
+  pub no_withdraw : command_numbered 5 7 65536 0 ≡ None
+  pub no_kind : (kind set first second : ℕ) → 5 < kind → command_numbered kind set first second ≡ None
 
 -- the handle stands for a station, or for a session, of which this is so
 abbrev pub OfStation : Option Content → (StationData → Type 0) → Type 0
@@ -140,6 +144,10 @@ pub record SubmitsTold : Type 0 where
   pub mode : AfterSubmit 0 0 4 (λ s t. IsTrue (is_of_version s.script.version modes.ReadIntentionWrite))
   pub client : AfterSubmit 0 4 3 (λ s t. 3 < length s.script.clients)
   pub neighbour : AfterSubmit 0 4 3 (λ s t. home_at s.script.clients 3 ≡ home_at s.script.clients s.client)
+  pub withdraw : AfterSubmit 0 5 3 (λ s t. submitted t ≡ submitted s ++ Withdraw 3 7 ∷ [])
+  pub version : AfterSubmit 0 5 3 (λ s t. s.script.version ≡ 3)
+  pub withdraw_client : AfterSubmit 0 5 3 (λ s t. 3 < length s.script.clients)
+  pub withdraw_neighbour : AfterSubmit 0 5 3 (λ s t. home_at s.script.clients 3 ≡ home_at s.script.clients s.client)
   pub no_command : AfterSubmit 0 0 6 (λ s t. ⊥)
   pub named : AfterSubmit 4 1 1 (λ s t.
       7 < length s.script.sets → IsTrue (is_of_version s.script.version modes.Read) → ⊥)
@@ -169,7 +177,9 @@ pub record PollsTold : Type 0 where
   pub granted_known : AfterPoll 16 (λ was count s t. IsPrefix (known_replies s) (replies.Granted ∷ known_replies t))
   pub granted_count : AfterPoll 16 (λ was count s t. count ≡ was)
   pub dropped : AfterPoll 22 (λ was count s t. polled t ≡ polled s ++ replies.Dropped count ∷ [])
-  pub only : (code : ℕ) → AfterPoll code (λ was count s t. (code ≡ 1) ⊎ ((16 ≤ code) × (code ≤ 23)))
+  pub withdrawn : AfterPoll 24 (λ was count s t. polled t ≡ polled s ++ replies.Withdrawn ∷ [])
+  pub withheld : AfterPoll 25 (λ was count s t. polled t ≡ polled s ++ replies.Withheld ∷ [])
+  pub only : (code : ℕ) → AfterPoll code (λ was count s t. (code ≡ 1) ⊎ ((16 ≤ code) × (code ≤ 25)))
   pub submitted_stays : (code : ℕ) → AfterPoll code (λ was count s t. submitted t ≡ submitted s)
   pub left_stays : (code : ℕ) → AfterPoll code (λ was count s t. t.left ≡ s.left)
 

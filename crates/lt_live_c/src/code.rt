@@ -1,6 +1,6 @@
 // Numbers for C: how a call ended, replies, modes and commands.
 ghost use Rattle.std.specs.Prelude.{◌≡◌};
-ghost use Rattle.lt_live_c.specs.Calls.{number_of_reply, count_for_c, number_of_turn, mode_numbered, command_numbered, command_with_mode, with_modes, drop_of};
+ghost use Rattle.lt_live_c.specs.Calls.{number_of_reply, count_for_c, number_of_turn, mode_numbered, command_numbered, command_with_mode, with_modes, drop_of, withdraw_of};
 ghost use Rattle.lt_modes.specs.declared.command.Command.TheVariants as commands;
 
 use lt_live::Reply;
@@ -68,6 +68,8 @@ pub fn number_of_reply(reply: Reply, count: &mut u64) -> u32
             22
         }
         Reply::Busy => 23,
+        Reply::Withdrawn => 24,
+        Reply::Withheld => 25,
     }
 }
 
@@ -81,6 +83,7 @@ pub fn command_numbered(kind: u32, set: u32, first: u32, second: u32) -> Option<
         2 => unlock(set, mode_numbered(first)),
         3 => change(set, mode_numbered(first), mode_numbered(second)),
         4 => drop_locks(set, first),
+        5 => withdraw(set, first),
         _ => None,
     }
 }
@@ -144,6 +147,19 @@ fn drop_locks(set: u32, client: u32) -> Option<Command>
 {
     if client < 65536 {
         Some(Command::DropAll {
+            client: client as u16,
+            set,
+        })
+    } else {
+        None
+    }
+}
+
+fn withdraw(set: u32, client: u32) -> Option<Command>
+    ensures { result ≡ withdraw_of set client }
+{
+    if client < 65536 {
+        Some(Command::Withdraw {
             client: client as u16,
             set,
         })

@@ -3,7 +3,7 @@ use Rattle.std.proofs.Common.{◌≡◌, ℕ, ◌+◌, Bool, true, false, true�
 use mathlib.Core.List.{IsPrefix}
 use Rattle.lt_modes.specs.declared.command.Command.{Command}
 use Rattle.lt_modes.specs.Script.{ScriptData}
-use Rattle.lt_spec.specs.Script.{HasTargets, HasModesOf}
+use Rattle.lt_spec.specs.Script.{HasTargets, IsOfVersion}
 use Rattle.lt_live.specs.declared.reply.Reply.{Reply}
 use Rattle.lt_live.specs.declared.ends.Session.{Session}
 use Rattle.lt_live.specs.Words.{submitted, polled, known_replies, command_held, SameSession}
@@ -44,7 +44,7 @@ names_same a b same none all k command here =
     names_as a b command same (all k command (ap (λ (list : List Command). slice_get list k) (sym none) ∙ here))
 
 pub names_more : (a b : Session) (command : Command) → SameSession a b → submitted b ≡ submitted a ++ command ∷ []
-    → HasTargets a.script.sets a.script.clients a.client command → HasModesOf a.script.version command → NamesAll a → NamesAll b
+    → HasTargets a.script.sets a.script.clients a.client command → IsOfVersion a.script.version command → NamesAll a → NamesAll b
 names_more a b command same more targets modes all k other here =
     elim (pushed (submitted a) command k other (ap (λ (list : List Command). slice_get list k) (sym more) ∙ here)) [
       | inl old ↦ names_as a b other same (all k other old)

@@ -2,15 +2,16 @@
 use Rattle.std.specs.Prelude.{◌≡◌, ◌<◌, ℕ, Some, length, slice_get}
 use Rattle.lt_modes.specs.Script.{ScriptData}
 use Rattle.lt_modes.specs.declared.command.Command.{Command}
-use Rattle.lt_spec.specs.Script.{HasTargets, HasModesOf}
+use Rattle.lt_spec.specs.Script.{HasTargets, IsOfVersion}
 use Rattle.lt_live.specs.declared.ends.Session.{Session}
 use Rattle.lt_live.specs.Words.{submitted, places}
 use Rattle.lt_live.specs.Stations.{equal_share}
 
--- all that the command names is of the script and of its version, and a client whose locks it drops is of the same node
+-- all that the command names is of the script and of its version, and a client whose locks it drops, or whose ask it
+-- gives up, is of the same node
 pub record NamesOwn (script : ScriptData) (client : ℕ) (command : Command) : Type 0 where
   pub targets : HasTargets script.sets script.clients client command
-  pub modes : HasModesOf script.version command
+  pub modes : IsOfVersion script.version command
 
 -- so does each command that was submitted
 abbrev pub NamesAll : Session → Type 0

@@ -7,7 +7,7 @@ use Rattle.std.specs.List.{AllByRecursion, cons_option}
 use Rattle.std.proofs.lemmas.List.Elements.{recursion_from_All}
 use Rattle.lt_modes.specs.declared.command.Command.{Command}
 use Rattle.lt_modes.specs.Script.{ScriptData}
-use Rattle.lt_spec.specs.Script.{IsScript, IsRequest, HasTargets, HasModesOf}
+use Rattle.lt_spec.specs.Script.{IsScript, IsRequest, HasTargets, IsOfVersion}
 use Rattle.lt_spec.specs.NodeMove.{commands_of, home, with_commands, command_if}
 use Rattle.lt_script.proofs.NameLemmas.{element_at}
 use Rattle.lt_threads.specs.Meeting.{InShares}
@@ -144,7 +144,7 @@ module _ (script : ScriptData) (stations : List StationData) (callers : List Cal
 
 -- the commands of a client name only what is of the script
 asks_from : (script : ScriptData) (client : ℕ) (commands : List (ℕ × Command)) → AllByRecursion (IsRequest script.sets script.clients) commands
-    → AllByRecursion (λ (request : ℕ × Command). HasModesOf script.version request.1) commands
+    → AllByRecursion (λ (request : ℕ × Command). IsOfVersion script.version request.1) commands
     → AsksAll script client (filter_map (command_if client) commands)
 asks_from script client [] targets modes = λ k command e. none_here k command e
 asks_from script client (request ∷ rest) targets modes =
@@ -164,7 +164,7 @@ asks_from script client (request ∷ rest) targets modes =
 pub asks_all : (script : ScriptData) (client : ℕ) → IsScript script → AsksAll (with_commands script []) client (commands_of script client)
 asks_all script client is_script =
     asks_from script client script.commands (recursion_from_All (IsRequest script.sets script.clients) script.commands is_script.requests)
-    (recursion_from_All (λ (request : ℕ × Command). HasModesOf script.version request.1) script.commands is_script.modes)
+    (recursion_from_All (λ (request : ℕ × Command). IsOfVersion script.version request.1) script.commands is_script.modes)
 
 -- a client that hasn't too many has no more than its share
 pub few_commands : (script : ScriptData) (client : ℕ) → is_over script client ≡ false → length (commands_of script client) ≤ equal_share script
@@ -269,7 +269,7 @@ pub targets_of : (c : Caller) (d command : Command) → c.next ≢ length c.comm
 targets_of c d command more is = has_targets c.session.script c.session.client command (asked c d command more is)
 
 pub modes_of : (c : Caller) (d command : Command) → c.next ≢ length c.commands.items → command ≡ slice_index_or c.commands.items c.next d
-    → HasModesOf c.session.script.version command
+    → IsOfVersion c.session.script.version command
 modes_of c d command more is = has_modes c.session.script c.session.client command (asked c d command more is)
 
 -- once it is submitted there is one more

@@ -212,6 +212,7 @@ same_ask script commands client (command.Try set mode) = refl
 same_ask script commands client (command.Unlock set mode) = refl
 same_ask script commands client (command.Change set gives_up mode) = refl
 same_ask script commands client (command.DropAll other set) = refl
+same_ask script commands client (command.Withdraw other set) = refl
 
 -- what stands after the first ones
 pub middle : {X : Type 0} (xs : List X) (x : X) (ys : List X) → slice_get ((xs ++ x ∷ []) ++ ys) (length xs) ≡ Some x

@@ -51,8 +51,8 @@ AllSubmitted callers = (k : ℕ) (c : Caller) → slice_get callers k ≡ Some c
 abbrev pub NoReplyWaits : List Seat → Type 0
 NoReplyWaits seats = (k : ℕ) (seat : Seat) → slice_get seats k ≡ Some seat → outbox_replies seat ≡ []
 
--- the station of the same node, where all sessions keep their other ends; it has forgotten nothing if it had not before,
--- and no reply waits if none did
+-- the station of the same node, where all sessions keep their other ends; it has forgotten nothing if it had not
+-- before, and no reply waits if none did
 pub record ServesOn (a b : StationData) : Type 0 where
   pub goes : StationGoesOn a b
   pub has_all : HasAll a.runner → HasAll b.runner
@@ -86,7 +86,8 @@ HaveHeard script n runners callers = (client : ℕ) (c : Caller) → client < n 
 
 -- Callers of new sessions.
 
--- a new session of a client of the script, which has no more commands than the session may submit, nor than it has places for
+-- a new session of a client of the script, which has no more commands than the session may submit, nor than it has
+-- places for
 pub record CanCall (script : ScriptData) (s : Session) : Type 0 where
   pub client : ℕ
   pub below : client < length script.clients

@@ -55,14 +55,15 @@ IsFirstOver script (Some client) = (client < length script.clients) × (is_over 
 -- Why an input is refused.
 
 -- the bytes have this fault, or memory was wanting, which is so only where there are some
-abbrev pub IsFaultOf : List ℕ → Status → Type 0
-IsFaultOf bytes (Refused fault) = read_of bytes ≡ Err fault
-IsFaultOf bytes NoMemory = 0 < length bytes
-IsFaultOf bytes other = ⊥
+abbrev pub IsFirstFaultOf : List ℕ → Status → Type 0
+IsFirstFaultOf bytes (Refused fault) = read_of bytes ≡ Err fault
+IsFirstFaultOf bytes NoMemory = 0 < length bytes
+IsFirstFaultOf bytes other = ⊥
 
 -- What came of a script: its run, and what the sessions polled.
 
--- if the bytes are known, they denote a script of which this client is the least that has more commands than its session may submit
+-- if the bytes are known, they denote a script of which this client is the least that has more commands than its
+-- session may submit
 abbrev pub IsOverShare : Option (List ℕ) → ℕ → Type 0
 IsOverShare None client = Unit {0}
 IsOverShare (Some bytes) client = (script : ScriptData) × (read_of bytes ≡ Ok script) × IsFirstOver script (Some client)
@@ -75,8 +76,8 @@ replies_below n run = gather_below n (λ client. map (λ (reply : Reply). (clien
 abbrev pub all_replies : ScriptData → List Logged → List (ℕ × Reply)
 all_replies script run = replies_below (length script.clients) run
 
--- a run of the script by all rules, its moves in the order of their stamps, that ended so and keeps all that is promised; and what
--- the sessions polled, which is every reply of it
+-- a run of the script by all rules, its moves in the order of their stamps, that ended so and keeps all that is
+-- promised; and what the sessions polled, which is every reply of it
 pub record LiveRun (end : Ending) (script : ScriptData) (run : List Logged) (polled : List (ℕ × Reply)) : Type 0 where
   pub is_script : IsScript script
   pub is_short : IsShort script
@@ -86,7 +87,8 @@ pub record LiveRun (end : Ending) (script : ScriptData) (run : List Logged) (pol
   pub ordered : IsOrdered script → end ≢ ending.Stuck
   pub polled_is : polled ≡ all_replies script run
 
--- such a run of the script that the bytes denote, in which no client has more commands than its session may submit, and its journal
+-- such a run of the script that the bytes denote, in which no client has more commands than its session may submit,
+-- and its journal
 pub record Journals (end : Ending) (left : Option (List ℕ)) (run : List Logged) (polled : List (ℕ × Reply)) (text : List ℕ) : Type 0 where
   pub script : ScriptData
   pub denoted : Denotes left script
@@ -96,7 +98,8 @@ pub record Journals (end : Ending) (left : Option (List ℕ)) (run : List Logged
   pub never_cut : (node : ℕ) → end ≢ ending.Cut node
   pub journal : text ≡ text_of script run (cut_node end)
 
--- All that the top call says of an answer: what was written, why the answer comes, and what it says of the source and the sink.
+-- All that the top call says of an answer: what was written, why the answer comes, and what it says of the source and
+-- the sink.
 
 -- it gives no run and no replies, and nothing was written
 abbrev pub DidNothing : List Logged → List (ℕ × Reply) → Option (List ℕ) → Option (List ℕ) → Type 0
@@ -137,7 +140,8 @@ IsUnfit left (Refused fault) = HasFault left fault
 IsUnfit left (Share client) = IsOverShare left client
 IsUnfit left other = ⊥
 
--- the source failed at no read and gave no more than the input may have, its script has no fault, and no client has too many commands
+-- the source failed at no read and gave no more than the input may have, its script has no fault, and no client has
+-- too many commands
 pub record IsGood (before after : SourceState) : Type 0 where
   pub no_read_fault : Rose before.faults after.faults → ⊥
   pub not_too_long : RoseBy (MAX_INPUT + 1) before.given after.given → ⊥

@@ -5,7 +5,7 @@ ghost use Rattle.lt_call.specs.Scripts.{Denotes};
 ghost use Rattle.lt_spec.specs.Script.{IsScript, IsShort};
 ghost use Rattle.lt_script.specs.Reading.{read_of};
 ghost use Rattle.lt_live_serve.specs.declared.limits.TheConstants.{MAX_INPUT};
-ghost use Rattle.lt_live_serve.specs.Serves.{IsFirstOver, IsUnfit, IsFaultOf};
+ghost use Rattle.lt_live_serve.specs.Serves.{IsFirstOver, IsUnfit, IsFirstFaultOf};
 ghost use Rattle.lt_live_serve.specs.Status.{outcome_of};
 
 use crate::limits::MAX_INPUT;
@@ -45,7 +45,7 @@ fn script_of(alloc: Global, bytes: &[u8]) -> Result<Script, Status>
     ensures kept { IfOk result IsScript }
     ensures short { IfOk result IsShort }
     ensures some { OnOk result (0 < length bytes.now) }
-    ensures refused { IfErr result (IsFaultOf bytes.now) }
+    ensures refused { IfErr result (IsFirstFaultOf bytes.now) }
 {
     match read_script(alloc, bytes) {
         Ok(script) => Ok(script),

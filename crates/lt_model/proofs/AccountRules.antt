@@ -1,15 +1,16 @@
 -- Rules of a node are steps of accounts.
+use Rattle.lt_law_accounts.specs.AccountSteps.{answering, delivering, voiding, voiding_copy}
 use Rattle.lt_model.proofs.NewsRules.{fails_within, routed, frozen_at}
 use Rattle.std.proofs.Common.{◌≡◌, ◌≢◌, ℕ, zero, suc, ◌+◌, ◌<◌, inl, inr, List, [], ◌∷◌, length, Option, Some, None, Bool, true, false, refl, sym, ap, subst, arith, ◌∙◌, ◌⊎◌, ◌||◌, ◌&&◌, ◌==◌, not, IsTrue, IsFalse, if◌then◌else◌, nat_lt, fold, is_some, remove, slice_index_or, slice_set, eq-eqb, ne_eqb, eqb-true, filter_map, get_or-set_same, get_or-set_other, length-set}
 use Rattle.std.proofs.lemmas.Bool.{both_ways, not-true, and_parts, or_cases, cases_eq}
 use Rattle.std.specs.List.{AllByRecursion, cons_option}
 use Rattle.lt_modes.specs.declared.ask.Ask.{Ask}
 use Rattle.lt_modes.specs.Modes.{no_modes, Modes, has, union, bars, covers, with_mode, other_modes, held_modes}
-use Rattle.lt_modes.specs.State.{SetState, Desk, Entry, Tell, Parked, ParkedAsk, ParkedTell, first_entry, no_ask, entry_of, record_of, own_owed, own_part, modes_at, others_below, others}
-use Rattle.lt_modes.specs.Serving.{told, ask_at, queue_of, queue_of_desk, next_at, next_from, is_served, is_free, is_local, is_copy, is_clear_at_home, served, owed_at, owing, settled, without_desk}
+use Rattle.lt_modes.specs.State.{SetState, Desk, Entry, Tell, Parked, ParkedAsk, ParkedTell, first_entry, no_ask, entry_of, record_of, own_owed, own_part, modes_at, others_below, others, without}
+use Rattle.lt_modes.specs.Serving.{told, ask_at, queue_of, queue_of_desk, next_at, next_from, is_served, is_free, is_local, is_copy, is_clear_at_home, served, owed_at, owing, settled, without_desk, is_gone, is_void, is_ready, answered}
 use Rattle.lt_modes.specs.declared.stamp.Stamp.{Stamp}
 use Rattle.lt_modes.specs.Freezing.{freeze_at}
-use Rattle.lt_modes.specs.SetMove.{tell_of, dealt}
+use Rattle.lt_modes.specs.SetMove.{tell_of, dealt, charged}
 use Rattle.lt_modes.proofs.ModeAlgebra.{same_modes-true}
 use Rattle.lt_modes.specs.Script.{ScriptData}
 use Rattle.lt_modes.specs.declared.parts.Link.{Link}
@@ -37,7 +38,7 @@ next_tested me s desk before first (ask ∷ rest) k e =
     by_test true test f again = let same : first ≡ k = cc in (0, omega (arith, same), before, test)
     by_test false test f again = let found = again f in (suc found.0, omega (arith, found.1), found.2, found.3)
 
-served_by_kind : (me : ℕ) (s : SetState) (desk : Desk) (seen : Modes) (ask : Ask) → is_served me s desk seen ask ≡ true
+served_by_kind : (me : ℕ) (s : SetState) (desk : Desk) (seen : Modes) (ask : Ask) → is_ready me s desk seen ask ≡ true
     → IsLocallyFree me s desk ask ⊎ IsCopyFree me s desk ask
 served_by_kind me s desk seen ask e =
     elim (or_cases (is_local me s desk ask) (is_copy me s desk ask) parts.1) [
@@ -77,7 +78,12 @@ serves_by_rule me k s desk here e =
     let queue : desk.queue ≡ queue_of s = ap queue_of_desk (sym here) in
     let ask : slice_index_or desk.queue found.0 no_ask ≡ ask_at s k =
     ap (λ (i : ℕ). slice_index_or desk.queue i no_ask) place ∙ ap (λ (l : List Ask). slice_index_or l k no_ask) queue in
-    served_by_kind me s desk found.2 (ask_at s k) (ap (is_served me s desk found.2) (sym ask) ∙ found.3)
+    by_void desk found.2 (is_void me s (ask_at s k)) refl (ap (is_served me s desk found.2) (sym ask) ∙ found.3)
+  where
+    by_void : (d : Desk) (seen : Modes) (void : Bool) → is_void me s (ask_at s k) ≡ void → (void || is_ready me s d seen (ask_at s k)) ≡ true
+        → IsTrue (is_void me s (ask_at s k)) ⊎ (IsLocallyFree me s d (ask_at s k) ⊎ IsCopyFree me s d (ask_at s k))
+    by_void d seen true is ready = inl is
+    by_void d seen false is ready = inr (served_by_kind me s d seen (ask_at s k) ready)
 
 -- an entry after one was put
 entry_put : (desk : Desk) (v x : ℕ) (entry : Entry) → v < length desk.entries
@@ -107,7 +113,8 @@ services_are_steps = record {
   stays = λ set clock k stamp ask s entry tells copies.
       ap (λ (b : Bool). record (own_account true clock entry tells copies s) { here = b }) (owed_at_some ask k s.desk);
   answers = λ clock k s entry tells copies.
-      ap (λ (b : Bool). record (own_account true clock entry tells copies (served s k)) { here = b }) (put_queue_some (remove (queue_of s) k) s.desk);
+      ap (λ (b : Bool). record (own_account true clock entry tells copies (served s k)) { here = b }) (put_queue_some (remove (queue_of s) k) s.desk)
+      ∙ void_or_answered clock k s entry tells copies (is_gone s (ask_at s k).client);
   owes = λ set k x stamp ask s desk left here there within.
       let one : owed_at ask k (Some desk) ≡ Some left = ap (owed_at ask k) (sym here) ∙ there in
       let same = some_desk _ left one in
@@ -117,8 +124,32 @@ services_are_steps = record {
     some_desk : (a b : Desk) → Some a ≡ Some b → a ≡ b
     some_desk a b e = cc
 
+    void_or_answered : (clock k : ℕ) (s : SetState) (entry : Entry) (tells : List Tell) (copies : List Ask) (gone : Bool)
+        → record (own_account true clock entry tells copies s) {
+          held = if gone then s.held else answered s.held (ask_at s k);
+          pending = without s.pending (ask_at s k).stamp;
+        }
+        ≡ (if gone
+        then voiding (ask_at s k) (own_account true clock entry tells copies s)
+        else answering (ask_at s k) (own_account true clock entry tells copies s))
+    void_or_answered clock k s entry tells copies true = refl
+    void_or_answered clock k s entry tells copies false = refl
+
 pub copies_are_delivered : CopiesAreDelivered
-copies_are_delivered set clock ask s entry tells copies left = refl
+copies_are_delivered set clock ask s entry tells copies left = by_gone (is_gone s ask.client)
+  where
+    by_gone : (gone : Bool)
+        → record (own_account true clock entry tells copies s) {
+          held = if gone then s.held else answered s.held ask;
+          pending = without s.pending ask.stamp;
+          charge = charged s ask;
+          copies = left;
+        }
+        ≡ (if gone
+        then voiding_copy ask left (own_account true clock entry tells copies s)
+        else delivering ask left (own_account true clock entry tells copies s))
+    by_gone true = refl
+    by_gone false = refl
 
 pub tells_are_applied : TellsAreApplied
 tells_are_applied x tell desk within = entry_made desk tell.node x (told tell) within

@@ -185,8 +185,10 @@ served_acts set stamp = record {
   changes = λ client gives_up mode t posts holds e h. tt;
   releases = λ client mode t posts e h. tt;
   drops = λ client t posts h. tt;
-  asks = λ client mode t posts e h. tt;
-  change_asks = λ client gives_up mode t posts holds e h. tt;
+  withdraws = λ other t posts waiting h. tt;
+  retakes = λ ask t posts gone same h. tt;
+  asks = λ client mode t posts e free h. tt;
+  change_asks = λ client gives_up mode t posts holds e free h. tt;
 }
 
 act_served : (script : ScriptData) (s q client : ℕ) (n : NodeState) → served_at q (n.set s) [] → served_at q ((node_act script q client n).node.set s) []

@@ -1,4 +1,5 @@
 -- What the effects of a move do to the number of locks and of asks that wait for an answer.
+use Rattle.lt_model.proofs.Voids.{local_by, copy_by, withdraws_ways}
 use Rattle.lt_model.proofs.HomesRows.{asks_parked, asks_in, asks_said, asks_carried, asks_sent, Counted, counted, joined_count, less_locks, some_locks, given_locks, answer_adds}
 use Rattle.std.proofs.Common.{◌≡◌, ℕ, ◌+◌, ◌<◌, ◌≤◌, List, [], ◌∷◌, ◌++◌, length, map, Option, Some, None, Bool, true, false, refl, ap, arith, take as take_first, drop as drop_front, length-append, ◌==◌, ◌&&◌, not, nat_lt, if◌then◌else◌, fold, remove, sum_by, take-append-drop}
 use Rattle.std.proofs.lemmas.List.Edits.{length-remove}
@@ -10,9 +11,9 @@ use Rattle.lt_modes.specs.declared.parts.Link.{Link}
 use Rattle.lt_modes.specs.declared.event.Event.TheVariants.{Wait, Freeze}
 use Rattle.lt_modes.specs.Modes.{Modes, excludes_itself, is_of, locks_in, held_modes}
 use Rattle.lt_modes.specs.State.{SetState, Desk, Body, AskBody, TellBody, CopyBody, TokenBody, FreezeBody, Letter, Parked, ParkedAsk, ParkedTell, Post, silent, post_of, entered, place}
-use Rattle.lt_modes.specs.Serving.{queue_of, queue_of_desk, ask_at, serve_one, serve_local, serve_copy, hand_over_to}
+use Rattle.lt_modes.specs.Serving.{queue_of, queue_of_desk, ask_at, serve_one, serve_local, serve_copy, hand_over_to, is_gone}
 use Rattle.lt_modes.specs.Freezing.{freeze, freeze_at, frozen_by, targets, number_after}
-use Rattle.lt_modes.specs.SetMove.{Way, Parks, Goes, learn, dealt, body_of, reversed, sent_on, route, tell_of, finish, take_body, arrive, ask_of, asked, dropped, take, drop}
+use Rattle.lt_modes.specs.SetMove.{Way, Parks, Goes, learn, dealt, body_of, reversed, sent_on, route, tell_of, finish, take_body, arrive, ask_of, asked, dropped, take, drop, withdrawn, withdraw}
 use Rattle.lt_modes.proofs.ServingLemmas.{queue_of-serve_one}
 use Rattle.lt_model.specs.Homes.{adds, added_by}
 use Rattle.lt_model.proofs.Effects.{route_ways}
@@ -88,10 +89,14 @@ serves_count set stamp t k within = by_test ((ask_at t k).node == stamp.node) (q
   where
     by_test : (own : Bool) → queue_of (if own then serve_local set k t else serve_copy set stamp k (ask_at t k) t).state ≡ remove (queue_of t) k
         → Counted 0 t (if own then serve_local set k t else serve_copy set stamp k (ask_at t k) t)
-    by_test true queue = record {
-      asks = omega (arith, answer_adds set (ask_at t k), ap (λ (l : List Ask). length l) queue, length-remove (queue_of t) k within);
-      locks = omega (arith, answer_adds set (ask_at t k), given_locks (ask_at t k).client (ask_at t k).mode (ask_at t k).gives_up t.held);
-    }
+    by_test true queue = by_gone (is_gone t (ask_at t k).client)
+      where
+        by_gone : (gone : Bool) → Counted 0 t (local_by set k t gone)
+        by_gone true = record { asks = omega (arith, ap (λ (l : List Ask). length l) queue, length-remove (queue_of t) k within); locks = omega arith }
+        by_gone false = record {
+          asks = omega (arith, answer_adds set (ask_at t k), ap (λ (l : List Ask). length l) queue, length-remove (queue_of t) k within);
+          locks = omega (arith, answer_adds set (ask_at t k), given_locks (ask_at t k).client (ask_at t k).mode (ask_at t k).gives_up t.held);
+        }
     by_test false queue = record {
       asks = omega (arith, ap (λ (l : List Ask). length l) queue, length-remove (queue_of t) k within);
       locks = omega arith;
@@ -167,6 +172,8 @@ count_acts set stamp client = record {
   changes = λ gives_up mode t. record { asks = omega arith; locks = omega (arith, given_locks client mode (Some gives_up) t.held) };
   releases = λ mode t. record { asks = omega arith; locks = omega (arith, less_locks client mode t.held) };
   asks = asks_count set stamp client;
+  retakes = λ mode t. record { asks = omega arith; locks = omega arith };
+  withheld = λ mode t. record { asks = omega arith; locks = omega arith };
   ended = λ t m a. joined_count 1 t m (finish set stamp) a (finish_count set stamp m.state);
 }
 
@@ -177,6 +184,12 @@ drop_count set stamp other t =
       asks = omega (arith, ended.asks);
       locks = omega (arith, ended.locks, some_locks (λ row. not (is_of other row)) t.held);
     }
+
+pub withdraw_count : (set : ℕ) (stamp : Stamp) (client other : ℕ) (t : SetState) → Counted 1 t (withdraw set stamp client other t)
+withdraw_count set stamp client other t =
+    joined_count 1 t (withdrawn set client other t) (finish set stamp)
+    (withdraws_ways (Counted 1 t) set client other t (λ waiting. record { asks = omega arith; locks = omega arith }) (λ idle. record { asks = omega arith; locks = omega arith }))
+    (finish_count set stamp (withdrawn set client other t).state)
 
 arrives_count : (stamp : Stamp) (letter : Letter) (t : SetState) → Counted (asks_said letter.body) t (arrive stamp letter t)
 arrives_count stamp letter t =
@@ -190,10 +203,14 @@ arrives_count stamp letter t =
     by_body : (body : Body) (u : SetState) → Counted (asks_said body) u (take_body letter.set stamp body u)
     by_body (AskBody ask marked) u = route_count letter.set stamp marked (ParkedAsk ask) u
     by_body (TellBody tell) u = route_count letter.set stamp false (ParkedTell tell) u
-    by_body (CopyBody ask) u = record {
-      asks = omega (arith, answer_adds letter.set ask);
-      locks = omega (arith, answer_adds letter.set ask, given_locks ask.client ask.mode ask.gives_up u.held);
-    }
+    by_body (CopyBody ask) u = by_gone (is_gone u ask.client)
+      where
+        by_gone : (gone : Bool) → Counted (asks_said (CopyBody ask)) u (copy_by letter.set ask u gone)
+        by_gone true = record { asks = omega arith; locks = omega arith }
+        by_gone false = record {
+          asks = omega (arith, answer_adds letter.set ask);
+          locks = omega (arith, answer_adds letter.set ask, given_locks ask.client ask.mode ask.gives_up u.held);
+        }
     by_body (TokenBody desk) u = record { asks = omega (arith, all_dealt_count u.parked desk); locks = omega arith }
     by_body (FreezeBody number modes) u = by_test (nat_lt u.number number)
       where

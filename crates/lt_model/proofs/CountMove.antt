@@ -4,7 +4,7 @@ use Rattle.std.specs.List.{AllByRecursion}
 use Rattle.std.proofs.lemmas.List.Sums.{sum_by-append, sum_by-cons, sum_by-le-sum_by}
 use Rattle.lt_modes.specs.declared.stamp.Stamp.{Stamp}
 use Rattle.lt_modes.specs.declared.command.Command.{Command}
-use Rattle.lt_modes.specs.declared.command.Command.TheVariants.{Lock, Unlock, Try, Change, DropAll}
+use Rattle.lt_modes.specs.declared.command.Command.TheVariants.{Lock, Unlock, Try, Change, DropAll, Withdraw}
 use Rattle.lt_modes.specs.declared.moves.Step.{Step}
 use Rattle.lt_modes.specs.declared.moves.Step.TheVariants.{Act, Take}
 use Rattle.lt_modes.specs.declared.event.Event.{Event}
@@ -22,7 +22,7 @@ use Rattle.lt_model.proofs.Letters.{mail_weight, IsCounted, mail_weight-sent, ma
 use Rattle.lt_lists.proofs.Puts.{put-same, put-other}
 use Rattle.lt_model.proofs.TryEffects.{command_rules}
 use Rattle.lt_model.proofs.HomesMove.{next_targets, related_below, drop_count as dropped_by, step_drops}
-use Rattle.lt_model.proofs.CountEffects.{finish_count, count_acts, drop_count, take_count}
+use Rattle.lt_model.proofs.CountEffects.{finish_count, count_acts, drop_count, take_count, withdraw_count}
 use Rattle.lt_model.proofs.HomesRows.{asks_in, asks_carried, asks_sent, Counted, some_locks}
 
 -- the asks and the locks of a node, in all sets
@@ -91,6 +91,8 @@ obey_count script stamp client (Unlock s mode) n targets =
     touched_count script 1 s n _ targets ((command_rules s stamp client _ (count_acts s stamp client)).unlocks mode (n.set s))
 obey_count script stamp client (Change s gives_up mode) n targets =
     touched_count script 1 s n _ targets ((command_rules s stamp client _ (count_acts s stamp client)).changes gives_up mode (n.set s))
+obey_count script stamp client (Withdraw other s) n targets =
+    touched_count script 1 s n _ targets.0 (withdraw_count s stamp client other (n.set s))
 obey_count script stamp client (DropAll other s) n targets = drop_all_count script stamp client other s n (node_waits script n other)
 
 act_count : (script : ScriptData) (q client : ℕ) (n : NodeState) → IsWhole script → MoveCounted script 1 n (node_act script q client n)
@@ -216,6 +218,7 @@ few_dropped script w q (Act client) below =
     by_command (Some (Unlock s mode)) = omega arith
     by_command (Some (Change s gives_up mode)) = omega arith
     by_command (Some (DropAll other s)) = family_locks script (w.node q) other s
+    by_command (Some (Withdraw other s)) = omega arith
 
 none_in_all : (n : ℕ) (f : ℕ → ℕ) → ((k : ℕ) → f k ≡ 0) → sum_below n f ≡ 0
 none_in_all n f none = sum_below-none n f (λ k below. none k)

@@ -1,15 +1,17 @@
 -- A node's move on one set as its effects in order: what each effect leads to, the move leads to.
 -- What holds is said of the state by now and of the letters sent so far.
+use Rattle.lt_modes.specs.Waiting.{pending_ask}
+use Rattle.lt_model.proofs.Voids.{asks_ways, withdraws_ways}
 use Rattle.std.proofs.Common.{◌≡◌, ℕ, zero, suc, ◌+◌, ◌<◌, ◌≤◌, List, [], ◌∷◌, ◌++◌, length, Option, Some, None, Bool, true, false, refl, sym, ap, subst, arith, ◌∙◌, ◌==◌, if◌then◌else◌, is_some, remove, append-nil, append_assoc}
 use Rattle.lt_modes.specs.declared.mode.Mode.{Mode}
 use Rattle.lt_modes.specs.declared.stamp.Stamp.{Stamp}
 use Rattle.lt_modes.specs.declared.ask.Ask.{Ask}
-use Rattle.lt_modes.specs.declared.event.Event.TheVariants.{Try, Unlock, NotHeld, Change}
+use Rattle.lt_modes.specs.declared.event.Event.TheVariants.{Try, Unlock, NotHeld, Change, Wait, Withheld, Withdraw}
 use Rattle.lt_modes.specs.Modes.{Modes, with_mode, bars, same_modes, count_of, take_lock, held_modes}
 use Rattle.lt_modes.specs.State.{SetState, Desk, Letter, Parked, Made, Post, silent, then_do}
 use Rattle.lt_modes.specs.Freezing.{can_grant, freeze}
-use Rattle.lt_modes.specs.Serving.{queue_of, queue_of_desk, ask_at, is_served, next_from, next_at, next_service, next_draw, serve, serve_up_to, serve_step, serve_one, serve_local, serve_copy, hand_over, hand_over_for, hand_over_to}
-use Rattle.lt_modes.specs.SetMove.{Way, dealt, way, sent_on, route, route_by, make_tell, finish, finish_by, arrive, answers, given, granted, ask_of, asked, locked, tried, unlocked, change_held, changed, dropped, lock, try, unlock, change, drop, take}
+use Rattle.lt_modes.specs.Serving.{queue_of, queue_of_desk, ask_at, is_served, next_from, next_at, next_service, next_draw, serve, serve_up_to, serve_step, serve_one, serve_local, serve_copy, hand_over, hand_over_for, hand_over_to, is_gone, without_gone, waits}
+use Rattle.lt_modes.specs.SetMove.{Way, dealt, way, sent_on, route, route_by, make_tell, finish, finish_by, arrive, answers, given, granted, ask_of, asked, locked, tried, unlocked, change_held, changed, dropped, lock, try, unlock, change, drop, take, asked_or_not, same_wish, given_up, withdrawn, withdraw}
 use Rattle.lt_modes.proofs.ServingLemmas.{length-serve_one}
 use Rattle.lt_model.proofs.PathsQuiet.{put_queue_some, owed_at_some}
 
@@ -49,10 +51,13 @@ pub record ActEffects (set : ℕ) (stamp : Stamp) (begun mid : Fact) : Type 0 wh
   pub releases : (client : ℕ) (mode : Mode) (t : SetState) (posts : List Post) → (count_of t.held client mode == 0) ≡ false → begun t posts
       → mid (record t { held = take_lock t.held client mode }) posts
   pub drops : (client : ℕ) (t : SetState) (posts : List Post) → begun t posts → mid (dropped client t) posts
-  pub asks : (client : ℕ) (mode : Mode) (t : SetState) (posts : List Post) → can_grant stamp.node t client mode ≡ false → begun t posts
+  pub withdraws : (other : ℕ) (t : SetState) (posts : List Post) → waits t other ≡ true → begun t posts → mid (record t { gone = other ∷ t.gone }) posts
+  pub retakes : (ask : Ask) (t : SetState) (posts : List Post) → is_gone t ask.client ≡ true → same_wish ask (pending_ask t ask.client) ≡ true → begun t posts
+      → mid (record t { gone = without_gone t.gone ask.client }) posts
+  pub asks : (client : ℕ) (mode : Mode) (t : SetState) (posts : List Post) → can_grant stamp.node t client mode ≡ false → is_gone t client ≡ false → begun t posts
       → HoldsOf mid posts (asked set stamp (ask_of stamp client mode None t) t)
   pub change_asks : (client : ℕ) (gives_up mode : Mode) (t : SetState) (posts : List Post) → (count_of t.held client gives_up == 0) ≡ false
-      → can_grant stamp.node t client mode ≡ false → begun t posts
+      → can_grant stamp.node t client mode ≡ false → is_gone t client ≡ false → begun t posts
       → HoldsOf mid posts (asked set stamp (ask_of stamp client mode (Some gives_up) t) t)
 
 pub holds_then : (fact : Fact) (posts : List Post) (m : Made) (rule : SetState → Made)
@@ -189,19 +194,36 @@ pub record ByEffects (set : ℕ) (stamp : Stamp) (begun ended : Fact) : Type 0 w
   pub changes : (client : ℕ) (gives_up mode : Mode) (t : SetState) (posts : List Post) → begun t posts
       → HoldsOf ended posts (change set stamp client gives_up mode t)
   pub drops : (client : ℕ) (t : SetState) (posts : List Post) → begun t posts → HoldsOf ended posts (drop set stamp client t)
+  pub withdraws : (client other : ℕ) (t : SetState) (posts : List Post) → begun t posts → HoldsOf ended posts (withdraw set stamp client other t)
   pub finishes : (t : SetState) (posts : List Post) → begun t posts → HoldsOf ended posts (finish set stamp t)
 
 pub quiet_made : (mid : Fact) (posts : List Post) (m : Made) → m.posts ≡ [] → mid m.state posts → HoldsOf mid posts m
 quiet_made mid posts m none h = subst (mid m.state) (sym (ap (λ (more : List Post). posts ++ more) none ∙ append-nil posts)) h
+
+-- an ask that can't be granted at once
+ask_by_effects : (set : ℕ) (stamp : Stamp) (begun mid : Fact) → ActEffects set stamp begun mid → (ask : Ask) (t : SetState) (posts : List Post) → begun t posts
+    → (is_gone t ask.client ≡ false → HoldsOf mid posts (asked set stamp ask t)) → HoldsOf mid posts (asked_or_not set stamp ask t)
+ask_by_effects set stamp begun mid acts ask t posts h asks =
+    asks_ways (HoldsOf mid posts) set stamp ask t asks
+    (λ gone same. quiet_made mid posts (answers (Wait ask.client set ask.mode) (record t { gone = without_gone t.gone ask.client })) refl
+    (acts.retakes ask t posts gone same h))
+    (quiet_made mid posts (answers (Withheld ask.client set ask.mode) t) refl (acts.nothing t posts h))
+
+withdraw_by_effects : (set : ℕ) (stamp : Stamp) (begun mid : Fact) → ActEffects set stamp begun mid → (client other : ℕ) (t : SetState) (posts : List Post)
+    → begun t posts → HoldsOf mid posts (withdrawn set client other t)
+withdraw_by_effects set stamp begun mid acts client other t posts h =
+    withdraws_ways (HoldsOf mid posts) set client other t
+    (λ waiting. quiet_made mid posts (given_up set client other t) refl (acts.withdraws other t posts waiting h))
+    (λ idle. quiet_made mid posts (answers (Withdraw client other set false) t) refl (acts.nothing t posts h))
 
 lock_by_effects : (set : ℕ) (stamp : Stamp) (begun mid : Fact) → ActEffects set stamp begun mid → (client : ℕ) (mode : Mode) (t : SetState) (posts : List Post)
     → begun t posts → HoldsOf mid posts (locked set stamp client mode t)
 lock_by_effects set stamp begun mid acts client mode t posts h = by_test (can_grant stamp.node t client mode) refl
   where
     by_test : (can : Bool) → can_grant stamp.node t client mode ≡ can
-        → HoldsOf mid posts (if can then granted set client mode t else asked set stamp (ask_of stamp client mode None t) t)
+        → HoldsOf mid posts (if can then granted set client mode t else asked_or_not set stamp (ask_of stamp client mode None t) t)
     by_test true e = quiet_made mid posts (granted set client mode t) refl (acts.grants client mode t posts e h)
-    by_test false e = acts.asks client mode t posts e h
+    by_test false e = ask_by_effects set stamp begun mid acts (ask_of stamp client mode None t) t posts h (λ free. acts.asks client mode t posts e free h)
 
 try_by_effects : (set : ℕ) (stamp : Stamp) (begun mid : Fact) → ActEffects set stamp begun mid → (client : ℕ) (mode : Mode) (t : SetState) (posts : List Post)
     → begun t posts → HoldsOf mid posts (tried set stamp client mode t)
@@ -228,10 +250,11 @@ change_by_effects set stamp begun mid acts client gives_up mode t posts h = by_c
   where
     by_test : (count_of t.held client gives_up == 0) ≡ false → (can : Bool) → can_grant stamp.node t client mode ≡ can
         → HoldsOf mid posts (if can then answers (Change client set gives_up mode) (given client mode (Some gives_up) t)
-        else asked set stamp (ask_of stamp client mode (Some gives_up) t) t)
+        else asked_or_not set stamp (ask_of stamp client mode (Some gives_up) t) t)
     by_test holds true e = quiet_made mid posts (answers (Change client set gives_up mode) (given client mode (Some gives_up) t)) refl
         (acts.changes client gives_up mode t posts holds e h)
-    by_test holds false e = acts.change_asks client gives_up mode t posts holds e h
+    by_test holds false e =
+        ask_by_effects set stamp begun mid acts (ask_of stamp client mode (Some gives_up) t) t posts h (λ free. acts.change_asks client gives_up mode t posts holds e free h)
 
     by_count : (none : Bool) → (count_of t.held client gives_up == 0) ≡ none
         → HoldsOf mid posts (if none then answers (NotHeld client set gives_up) t else change_held set stamp client gives_up mode t)
@@ -252,6 +275,8 @@ acts_by_effects set stamp begun mid frozen ended acts ends = record {
       ends_by_effects set stamp mid frozen ended ends (changed set stamp client gives_up mode t) posts
       (change_by_effects set stamp begun mid acts client gives_up mode t posts h);
   drops = λ client t posts h. finish_by_effects set stamp mid frozen ended ends (dropped client t) posts (acts.drops client t posts h);
+  withdraws = λ client other t posts h.
+      ends_by_effects set stamp mid frozen ended ends (withdrawn set client other t) posts (withdraw_by_effects set stamp begun mid acts client other t posts h);
   finishes = λ t posts h. finish_by_effects set stamp mid frozen ended ends t posts (acts.nothing t posts h);
 }
 

@@ -6,9 +6,9 @@ use Rattle.std.proofs.lemmas.Bool.{cases_eq, and_parts}
 use Rattle.std.proofs.lemmas.List.Sums.{sum_by-cons}
 use Rattle.lt_modes.specs.declared.stamp.Stamp.{Stamp}
 use Rattle.lt_modes.specs.declared.command.Command.{Command}
-use Rattle.lt_modes.specs.declared.command.Command.TheVariants.{Lock, Unlock, Try as TryCommand, Change, DropAll}
+use Rattle.lt_modes.specs.declared.command.Command.TheVariants.{Lock, Unlock, Try as TryCommand, Change, DropAll, Withdraw}
 use Rattle.lt_modes.specs.declared.event.Event.{Event}
-use Rattle.lt_modes.specs.declared.event.Event.TheVariants.{Grant, Wait, Try, Unlock as UnlockLine, NotHeld, Change as ChangeLine, DropAll as Dropped, Busy, Copy, Freeze, Token}
+use Rattle.lt_modes.specs.declared.event.Event.TheVariants.{Grant, Wait, Try, Unlock as UnlockLine, NotHeld, Change as ChangeLine, DropAll as Dropped, Busy, Copy, Freeze, Token, Withdraw as WithdrawLine, Withdrawn, Void, Withheld}
 use Rattle.lt_modes.specs.declared.moves.Step.{Step}
 use Rattle.lt_modes.specs.declared.moves.Step.TheVariants.{Act, Take}
 use Rattle.lt_modes.specs.Script.{ScriptData}
@@ -24,7 +24,7 @@ use Rattle.lt_spec.specs.World.{Logged, World, start, is_enabled, take_front, no
 use Rattle.lt_spec.specs.Facts.{state_at}
 use Rattle.lt_spec.specs.Promised.{IsNoTry, IsExactTry, IsOwnAnswer, of_set, sets_of_front, SameSet}
 use Rattle.lt_model.specs.Laws.{TryIsExact, TriesAreExact, TriesInRuns, OthersStay}
-use Rattle.lt_model.proofs.TryEffects.{AreNoTries, finish_none, lock_none, try_none, unlock_none, change_none, drop_none, take_none}
+use Rattle.lt_model.proofs.TryEffects.{AreNoTries, finish_none, lock_none, try_none, unlock_none, change_none, drop_none, take_none, withdraw_none}
 use Rattle.lt_model.proofs.HomesMove.{maker}
 use Rattle.lt_model.proofs.Letters.{letters_to, letters_to-same, letters_to-other}
 use Rattle.lt_model.proofs.SentInMove.{take-sent}
@@ -58,6 +58,7 @@ obey_answered script stamp client (Some (TryCommand s mode)) n = try_none s stam
 obey_answered script stamp client (Some (Unlock s mode)) n = unlock_none s stamp client mode (n.set s)
 obey_answered script stamp client (Some (Change s gives_up mode)) n = change_none s stamp client gives_up mode (n.set s)
 obey_answered script stamp client (Some (DropAll other s)) n = drop_all_none (node_waits script n other) stamp client other s (related script s) n
+obey_answered script stamp client (Some (Withdraw other s)) n = withdraw_none s stamp client other (n.set s)
 
 pub try_is_exact : TryIsExact
 try_is_exact script w q client s mode e =
@@ -76,6 +77,10 @@ any_exact script w q step (NotHeld client s mode) none = tt
 any_exact script w q step (ChangeLine client s gives_up mode) none = tt
 any_exact script w q step (Dropped client other s count) none = tt
 any_exact script w q step (Busy client other s) none = tt
+any_exact script w q step (WithdrawLine client other s got) none = tt
+any_exact script w q step (Withdrawn client s mode) none = tt
+any_exact script w q step (Void client s mode) none = tt
+any_exact script w q step (Withheld client s mode) none = tt
 any_exact script w q step (Copy s to client mode) none = tt
 any_exact script w q step (Freeze s to number modes) none = tt
 any_exact script w q step (Token s to epoch) none = tt
@@ -110,6 +115,8 @@ act_exact script w q client = by_command (next_command script (w.node q) client)
         none_exact script w q (Act client) _ (obey_answered script (act_stamp q (w.node q)) client (Some (Change s gives_up mode)) begins)
     by_command (Some (DropAll other s)) e =
         none_exact script w q (Act client) _ (obey_answered script (act_stamp q (w.node q)) client (Some (DropAll other s)) begins)
+    by_command (Some (Withdraw other s)) e =
+        none_exact script w q (Act client) _ (obey_answered script (act_stamp q (w.node q)) client (Some (Withdraw other s)) begins)
 
 move_exact : (script : ScriptData) (w : World) (q : ℕ) (step : Step) → ExactTries script w q step (node_move script w q step).events
 move_exact script w q (Act client) = act_exact script w q client
@@ -140,6 +147,10 @@ own_answer script w q step enabled (NotHeld client s mode) h = tt
 own_answer script w q step enabled (ChangeLine client s gives_up mode) h = tt
 own_answer script w q step enabled (Dropped client other s count) h = tt
 own_answer script w q step enabled (Busy client other s) h = tt
+own_answer script w q step enabled (WithdrawLine client other s got) h = tt
+own_answer script w q step enabled (Withdrawn client s mode) h = tt
+own_answer script w q step enabled (Void client s mode) h = tt
+own_answer script w q step enabled (Withheld client s mode) h = tt
 own_answer script w q step enabled (Copy s to client mode) h = tt
 own_answer script w q step enabled (Freeze s to number modes) h = tt
 own_answer script w q step enabled (Token s to epoch) h = tt

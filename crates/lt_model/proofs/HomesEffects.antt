@@ -1,4 +1,5 @@
 -- The effects of a move leave locks and asks at home, and their lines name what is of the script.
+use Rattle.lt_model.proofs.Voids.{local_by, copy_by, withdraws_ways}
 use Rattle.lt_model.proofs.HomesRows.{IsPostWithin, MadeAtHome, at_home, said_nothing, said_line, joined_home, less_home, answered_home, given_home, without_home, answer_within}
 use Rattle.lt_lists.proofs.AllLemmas.{remove_all, all_map, all_any}
 use Rattle.std.proofs.Common.{◌≡◌, ℕ, ◌<◌, ◌≤◌, List, [], ◌∷◌, ◌++◌, length, map, Option, Some, None, Bool, true, false, refl, subst, take as take_first, drop as drop_front, ◌==◌, ◌&&◌, not, nat_lt, if◌then◌else◌, All, fold, remove, eqb-true}
@@ -8,13 +9,13 @@ use Rattle.lt_modes.specs.declared.mode.Mode.{Mode}
 use Rattle.lt_modes.specs.declared.stamp.Stamp.{Stamp}
 use Rattle.lt_modes.specs.declared.ask.Ask.{Ask}
 use Rattle.lt_modes.specs.declared.parts.Link.{Link}
-use Rattle.lt_modes.specs.declared.event.Event.TheVariants.{Freeze}
+use Rattle.lt_modes.specs.declared.event.Event.TheVariants.{Freeze, Void}
 use Rattle.lt_modes.specs.Modes.{Modes, excludes_itself, is_of, held_modes}
 use Rattle.lt_modes.specs.Script.{ScriptData}
 use Rattle.lt_modes.specs.State.{SetState, Desk, Body, AskBody, TellBody, CopyBody, TokenBody, FreezeBody, Letter, Parked, ParkedAsk, ParkedTell, Post, silent, no_ask, entered, place}
-use Rattle.lt_modes.specs.Serving.{queue_of, queue_of_desk, put_queue, owed_at, answer_event, ask_at, serve_one, serve_local, serve_copy, hand_over_to}
+use Rattle.lt_modes.specs.Serving.{queue_of, queue_of_desk, put_queue, owed_at, answer_event, ask_at, serve_one, serve_local, serve_copy, hand_over_to, is_gone}
 use Rattle.lt_modes.specs.Freezing.{freeze, freeze_at, frozen_by, targets}
-use Rattle.lt_modes.specs.SetMove.{Way, Parks, Goes, learn, dealt, body_of, reversed, sent_on, route, tell_of, finish, take_body, arrive, ask_of, asked, dropped, take, drop}
+use Rattle.lt_modes.specs.SetMove.{Way, Parks, Goes, learn, dealt, body_of, reversed, sent_on, route, tell_of, finish, take_body, arrive, ask_of, asked, dropped, take, drop, withdrawn, withdraw}
 use Rattle.lt_spec.specs.NodeMove.{home}
 use Rattle.lt_model.specs.Homes.{IsRowAtHome, IsAskAtHome, IsAskOf, IsParkedAtHome, IsBodyAtHome, IsStateAtHome, IsLineWithin}
 use Rattle.lt_model.proofs.Effects.{route_ways}
@@ -92,15 +93,27 @@ serves_home script bound set stamp in_sets t k within h = by_test ((ask_at t k).
 
     by_test : (here : Bool) → ((ask_at t k).node == stamp.node) ≡ here
         → MadeAtHome script bound stamp.node (if here then serve_local set k t else serve_copy set stamp k (ask_at t k) t)
-    by_test true e = record {
-      state = record {
-        rows = answered_home script stamp.node ask t.held (own, eqb-true ask.node stamp.node e) h.rows;
-        pending = without_home (IsAskOf script stamp.node) t.pending ask.stamp h.pending;
-        parked = h.parked;
-        queue = put_home t.desk h.queue;
-      };
-      said = said_line script bound (answer_event set ask) (answer_within script bound set ask in_sets own.client);
-    }
+    by_test true e = by_gone (is_gone t ask.client)
+      where
+        by_gone : (gone : Bool) → MadeAtHome script bound stamp.node (local_by set k t gone)
+        by_gone true = record {
+          state = record {
+            rows = h.rows;
+            pending = without_home (IsAskOf script stamp.node) t.pending ask.stamp h.pending;
+            parked = h.parked;
+            queue = put_home t.desk h.queue;
+          };
+          said = said_line script bound (Void ask.client set ask.mode) (own.client, in_sets);
+        }
+        by_gone false = record {
+          state = record {
+            rows = answered_home script stamp.node ask t.held (own, eqb-true ask.node stamp.node e) h.rows;
+            pending = without_home (IsAskOf script stamp.node) t.pending ask.stamp h.pending;
+            parked = h.parked;
+            queue = put_home t.desk h.queue;
+          };
+          said = said_line script bound (answer_event set ask) (answer_within script bound set ask in_sets own.client);
+        }
     by_test false e = record {
       state = record { rows = h.rows; pending = h.pending; parked = h.parked; queue = owed_home t.desk h.queue };
       said = record { bodies = ((own, refl), tt); lines = λ within. ((in_sets, within.0.0, own.client), tt) };
@@ -189,6 +202,11 @@ home_acts script bound set stamp client in_sets known own in_nodes = record {
     said = said_line script bound _ (known, in_sets);
   };
   asks = λ mode gives_up t. asks_home script bound set stamp client in_sets known own mode gives_up t;
+  retakes = λ mode t h. record {
+    state = record { rows = h.rows; pending = h.pending; parked = h.parked; queue = h.queue };
+    said = said_line script bound _ (known, in_sets);
+  };
+  withheld = λ mode t h. record { state = h; said = said_line script bound _ (known, in_sets) };
   ended = λ t m a. joined_home script bound stamp.node t m (finish set stamp) a
       (finish_rule set stamp (at_home script bound stamp.node) (home_ends script bound set stamp in_sets in_nodes) m.state);
 }
@@ -208,6 +226,19 @@ drop_home script bound set stamp other in_sets in_nodes t h =
       queue = h.queue;
     })
 
+pub withdraw_home : (script : ScriptData) (bound set : ℕ) (stamp : Stamp) (client other : ℕ) → set < length script.sets → stamp.node < script.nodes
+    → client < length script.clients → other < length script.clients
+    → (t : SetState) → at_home script bound stamp.node t (withdraw set stamp client other t)
+withdraw_home script bound set stamp client other in_sets in_nodes known named t =
+    joined_home script bound stamp.node t (withdrawn set client other t) (finish set stamp)
+    (λ h. withdraws_ways (MadeAtHome script bound stamp.node) set client other t
+    (λ waiting. record {
+      state = record { rows = h.rows; pending = h.pending; parked = h.parked; queue = h.queue };
+      said = record { bodies = tt; lines = λ within. ((named, in_sets), ((known, named, in_sets), tt)) };
+    })
+    (λ idle. record { state = h; said = said_line script bound _ (known, named, in_sets) }))
+    (finish_home script bound set stamp in_sets in_nodes (withdrawn set client other t).state)
+
 learn_home : (script : ScriptData) (q : ℕ) (link : Link) (t : SetState) → IsStateAtHome script q t → IsStateAtHome script q (learn link t)
 learn_home script q link t h = by_test (nat_lt t.firm.epoch link.epoch)
   where
@@ -222,15 +253,27 @@ arrives_home script bound stamp letter in_sets own t h = by_body letter.body own
     by_body : (body : Body) → IsBodyAtHome script stamp.node body → (u : SetState) → at_home script bound stamp.node u (take_body letter.set stamp body u)
     by_body (AskBody ask marked) at u hu = route_home script bound stamp.node letter.set stamp marked (ParkedAsk ask) at u hu
     by_body (TellBody tell) at u hu = route_home script bound stamp.node letter.set stamp false (ParkedTell tell) at u hu
-    by_body (CopyBody ask) at u hu = record {
-      state = record {
-        rows = answered_home script stamp.node ask u.held at hu.rows;
-        pending = without_home (IsAskOf script stamp.node) u.pending ask.stamp hu.pending;
-        parked = hu.parked;
-        queue = hu.queue;
-      };
-      said = said_line script bound (answer_event letter.set ask) (answer_within script bound letter.set ask in_sets at.0.client);
-    }
+    by_body (CopyBody ask) at u hu = by_gone (is_gone u ask.client)
+      where
+        by_gone : (gone : Bool) → MadeAtHome script bound stamp.node (copy_by letter.set ask u gone)
+        by_gone true = record {
+          state = record {
+            rows = hu.rows;
+            pending = without_home (IsAskOf script stamp.node) u.pending ask.stamp hu.pending;
+            parked = hu.parked;
+            queue = hu.queue;
+          };
+          said = said_line script bound (Void ask.client letter.set ask.mode) (at.0.client, in_sets);
+        }
+        by_gone false = record {
+          state = record {
+            rows = answered_home script stamp.node ask u.held at hu.rows;
+            pending = without_home (IsAskOf script stamp.node) u.pending ask.stamp hu.pending;
+            parked = hu.parked;
+            queue = hu.queue;
+          };
+          said = said_line script bound (answer_event letter.set ask) (answer_within script bound letter.set ask in_sets at.0.client);
+        }
     by_body (TokenBody desk) at u hu = record {
       state = record {
         rows = hu.rows;

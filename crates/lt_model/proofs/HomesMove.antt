@@ -5,26 +5,26 @@ use Rattle.std.proofs.lemmas.Bool.{and_parts, cases_eq}
 use Rattle.std.proofs.lemmas.List.Elements.{All-nil, recursion_from_All}
 use Rattle.lt_modes.specs.declared.stamp.Stamp.{Stamp}
 use Rattle.lt_modes.specs.declared.command.Command.{Command}
-use Rattle.lt_modes.specs.declared.command.Command.TheVariants.{Lock, Unlock, Try, Change, DropAll}
+use Rattle.lt_modes.specs.declared.command.Command.TheVariants.{Lock, Unlock, Try, Change, DropAll, Withdraw}
 use Rattle.lt_modes.specs.declared.moves.Step.{Step}
 use Rattle.lt_modes.specs.declared.moves.Step.TheVariants.{Act, Take}
 use Rattle.lt_modes.specs.Freezing.{cons_if, places_from}
 use Rattle.lt_modes.specs.Script.{ScriptData, SetData}
 use Rattle.lt_modes.specs.State.{SetState, Letter, first_state, first_desk, Made, Post}
-use Rattle.lt_modes.specs.SetMove.{finish, drop, take}
+use Rattle.lt_modes.specs.SetMove.{finish, drop, take, withdraw}
 use Rattle.lt_lists.specs.Below.{put}
 use Rattle.lt_spec.specs.NodeMove.{command_if, commands_of, home, family, related, NodeState, NodeMade, node_waits, next_command, touched, each_touched, drop_all, locks_in_sets, act_stamp, take_stamp, at_clock, one_made, obey, node_act, node_take, HasTargetsAt, IsWhole}
 use Rattle.lt_spec.specs.World.{Logged, World, start, is_some_letter, is_enabled, opened, take_front, node_move, after, after_run, IsRunFrom}
 use Rattle.lt_model.specs.Homes.{IsStateAtHome, IsLetterAtHome, Homes, HomesKept, HomesInRuns}
 use Rattle.lt_model.proofs.Letters.{all_sent, before_take}
-use Rattle.lt_model.proofs.SentInMove.{AreSentIn, finish-sent, lock-sent, try-sent, unlock-sent, change-sent, drop-sent, take-sent}
+use Rattle.lt_model.proofs.SentInMove.{AreSentIn, finish-sent, lock-sent, try-sent, unlock-sent, change-sent, drop-sent, take-sent, withdraw-sent}
 use Rattle.lt_lists.proofs.AllLemmas.{all_append, all_weaker, all_both}
 use Rattle.lt_lists.proofs.Members.{none_in}
 use Rattle.lt_lists.proofs.Puts.{put-same, put-other}
 use Rattle.lt_model.proofs.PathsMove.{has_mail_parts}
 use Rattle.lt_model.proofs.ClocksGrow.{opened-node}
 use Rattle.lt_model.proofs.TryEffects.{command_rules}
-use Rattle.lt_model.proofs.HomesEffects.{home_acts, finish_home, drop_home, take_home}
+use Rattle.lt_model.proofs.HomesEffects.{home_acts, finish_home, drop_home, take_home, withdraw_home}
 use Rattle.lt_model.proofs.HomesRows.{AreAtHome, MadeAtHome, at_home, said_both, said_nothing}
 
 abbrev pub IsNodeAtHome : ScriptData → ℕ → NodeState → Type 0
@@ -87,6 +87,7 @@ drop_count script n (Some (Try s mode)) = 0
 drop_count script n (Some (Unlock s mode)) = 0
 drop_count script n (Some (Change s gives_up mode)) = 0
 drop_count script n (Some (DropAll other s)) = locks_in_sets n other (related script s)
+drop_count script n (Some (Withdraw other s)) = 0
 
 -- and how many the step drops
 abbrev pub step_drops : ScriptData → World → ℕ → Step → ℕ
@@ -131,6 +132,9 @@ obey_home script bound stamp client (Change s gives_up mode) n known own in_node
     let rules = command_rules s stamp client _ (home_acts script bound s stamp client targets known own in_nodes) in
     touched_home script bound stamp.node s stamp n _ targets (change-sent s stamp client gives_up mode (n.set s)) h
     (rules.changes gives_up mode (n.set s) (h s))
+obey_home script bound stamp client (Withdraw other s) n known own in_nodes targets h few =
+    touched_home script bound stamp.node s stamp n _ targets.0 (withdraw-sent s stamp client other (n.set s)) h
+    (withdraw_home script bound s stamp client other targets.0 in_nodes known targets.1 (n.set s) (h s))
 obey_home script bound stamp client (DropAll other s) n known own in_nodes targets h few =
     drop_all_home script bound stamp client other s n (node_waits script n other) known targets.1 targets.0 in_nodes h few
 

@@ -7,6 +7,7 @@ pub mod PathsWorld
 pub mod PathsGoing
 pub mod PathsMove
 pub mod Effects
+pub mod Voids
 pub mod TimedEffects
 pub mod NodeEffects
 pub mod TimedMove

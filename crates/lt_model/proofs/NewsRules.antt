@@ -1,4 +1,5 @@
 -- What is granted and asked is a step of the account.
+use Rattle.lt_modes.specs.Waiting.{pending_ask}
 use Rattle.std.proofs.Common.{◌≡◌, ℕ, inl, inr, List, [], ◌∷◌, ◌++◌, Option, Some, None, Bool, true, false, refl, sym, ap, subst, ◌∙◌, ◌≢◌, zero, suc, ◌+◌, ◌<◌, length, arith, ◌&&◌, ◌==◌, not, IsTrue, IsFalse, if◌then◌else◌, is_some, ◌⊎◌, ◌||◌, nat_lt, slice_index_or, eq-eqb, ne_eqb, get_or-set_same}
 use Rattle.std.proofs.lemmas.Bool.{not-true, and_parts, or_cases, or_right}
 use Rattle.lt_modes.specs.declared.mode.Mode.{Mode}
@@ -7,10 +8,10 @@ use Rattle.lt_modes.specs.Modes.{excludes_itself, Modes, has, union, bars, cover
 use Rattle.lt_modes.specs.State.{SetState, Desk, Entry, Tell, Parked, ParkedAsk, ParkedTell, modes_of_asks, own_owed, others, Made, first_entry, entry_of, record_of}
 use Rattle.lt_modes.specs.Freezing.{may_join, against, asks_before, places_from, map_from, cons_if, frozen_by, is_target, targets, number_after, frozen_entry, freeze_at}
 use Rattle.lt_modes.specs.declared.stamp.Stamp.{Stamp}
-use Rattle.lt_modes.specs.declared.event.Event.TheVariants.{Unlock, NotHeld}
-use Rattle.lt_modes.specs.SetMove.{answers, Way, Parks, Goes, reversed, sent_on, route}
+use Rattle.lt_modes.specs.declared.event.Event.TheVariants.{Unlock, NotHeld, Wait, Withheld, Withdraw}
+use Rattle.lt_modes.specs.SetMove.{answers, Way, Parks, Goes, reversed, sent_on, route, same_wish, given_up}
 use Rattle.lt_modes.specs.declared.parts.Hoped.{Hoped}
-use Rattle.lt_modes.specs.Serving.{settled, leaving, without_desk}
+use Rattle.lt_modes.specs.Serving.{settled, leaving, without_desk, waits, without_gone}
 use Rattle.lt_law_accounts.specs.Account.{owed_and_waiting}
 use Rattle.lt_law_accounts.specs.AccountSteps.{MayJoin, unlocking}
 use Rattle.lt_law_accounts.proofs.AccountFacts.{bars_not, not_bars, below_by_members, has-union, has-left, has-right}
@@ -86,8 +87,24 @@ commands_are_steps = record {
   asks = λ set clock stamp ask s entry tells copies.
       routed true set clock stamp false (ParkedAsk ask) (record s { pending = s.pending ++ ask ∷ [] }) entry tells copies;
   drops = λ clock client s entry tells copies. refl;
+  withdraws = λ set clock client other s entry tells copies. by_waits set clock client other s entry tells copies (waits s other);
+  retakes = λ set clock ask s entry tells copies. by_wish set clock ask s entry tells copies (same_wish ask (pending_ask s ask.client));
 }
   where
+    by_waits : (set clock client other : ℕ) (s : SetState) (entry : Entry) (tells : List Tell) (copies : List Ask) (waiting : Bool)
+        → own_account true clock entry tells copies
+        (if waiting then given_up set client other s else answers (Withdraw client other set false) s).state
+        ≡ own_account true clock entry tells copies s
+    by_waits set clock client other s entry tells copies true = refl
+    by_waits set clock client other s entry tells copies false = refl
+
+    by_wish : (set clock : ℕ) (ask : Ask) (s : SetState) (entry : Entry) (tells : List Tell) (copies : List Ask) (same : Bool)
+        → own_account true clock entry tells copies
+        (if same then answers (Wait ask.client set ask.mode) (record s { gone = without_gone s.gone ask.client }) else answers (Withheld ask.client set ask.mode) s).state
+        ≡ own_account true clock entry tells copies s
+    by_wish set clock ask s entry tells copies true = refl
+    by_wish set clock ask s entry tells copies false = refl
+
     by_count : (set clock client : ℕ) (mode : Mode) (s : SetState) (entry : Entry) (tells : List Tell) (copies : List Ask) (none : Bool)
         → own_account true clock entry tells copies
         (if none then answers (NotHeld client set mode) s else answers (Unlock client set mode) (record s { held = take_lock s.held client mode })).state

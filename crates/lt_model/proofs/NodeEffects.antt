@@ -4,12 +4,12 @@ use Rattle.std.specs.List.{AllByRecursion}
 use Rattle.std.proofs.lemmas.Bool.{cases_eq}
 use Rattle.lt_modes.specs.declared.stamp.Stamp.{Stamp}
 use Rattle.lt_modes.specs.declared.command.Command.{Command}
-use Rattle.lt_modes.specs.declared.command.Command.TheVariants.{Lock, Unlock, Try, Change, DropAll}
+use Rattle.lt_modes.specs.declared.command.Command.TheVariants.{Lock, Unlock, Try, Change, DropAll, Withdraw}
 use Rattle.lt_modes.specs.declared.moves.Step.{Step}
 use Rattle.lt_modes.specs.declared.moves.Step.TheVariants.{Act, Take}
 use Rattle.lt_modes.specs.Script.{ScriptData, SetData}
 use Rattle.lt_modes.specs.State.{SetState, Made, Post}
-use Rattle.lt_modes.specs.SetMove.{finish, drop, lock, try, unlock, change}
+use Rattle.lt_modes.specs.SetMove.{finish, drop, lock, try, unlock, change, withdraw}
 use Rattle.lt_modes.specs.Freezing.{cons_if, places_from}
 use Rattle.lt_lists.specs.Below.{put}
 use Rattle.lt_lists.proofs.AllLemmas.{all_append, all_weaker}
@@ -17,7 +17,7 @@ use Rattle.lt_lists.proofs.Puts.{put-other, put-same}
 use Rattle.lt_spec.specs.NodeMove.{related, NodeState, NodeMade, node_waits, touched, each_touched, drop_all, obey, family}
 use Rattle.lt_spec.specs.World.{World, node_move, after}
 use Rattle.lt_spec.specs.Promised.{sets_of_command}
-use Rattle.lt_model.proofs.SentInMove.{AreSentIn, finish-sent, lock-sent, try-sent, unlock-sent, change-sent, drop-sent}
+use Rattle.lt_model.proofs.SentInMove.{AreSentIn, finish-sent, lock-sent, try-sent, unlock-sent, change-sent, drop-sent, withdraw-sent}
 use Rattle.lt_model.proofs.Effects.{Fact, both, HoldsOf, ByEffects}
 
 -- the node's clock stays, and its letters have this stamp
@@ -48,6 +48,7 @@ obey-stamped script stamp client (Some (Try set mode)) n = touched-stamped set s
 obey-stamped script stamp client (Some (Unlock set mode)) n = touched-stamped set stamp n _ (unlock-sent set stamp client mode (n.set set))
 obey-stamped script stamp client (Some (Change set gives_up mode)) n =
     touched-stamped set stamp n _ (change-sent set stamp client gives_up mode (n.set set))
+obey-stamped script stamp client (Some (Withdraw other set)) n = touched-stamped set stamp n _ (withdraw-sent set stamp client other (n.set set))
 obey-stamped script stamp client (Some (DropAll other set)) n = by_test (node_waits script n other)
   where
     by_test : (waiting : Bool) → IsStamped stamp n (drop_all waiting stamp client other set (related script set) n)
@@ -92,6 +93,8 @@ obey-beside script s stamp client (Some (Unlock set mode)) n aside =
     touched-beside s set stamp n _ (unlock-sent set stamp client mode (n.set set)) aside.0
 obey-beside script s stamp client (Some (Change set gives_up mode)) n aside =
     touched-beside s set stamp n _ (change-sent set stamp client gives_up mode (n.set set)) aside.0
+obey-beside script s stamp client (Some (Withdraw other set)) n aside =
+    touched-beside s set stamp n _ (withdraw-sent set stamp client other (n.set set)) aside.0
 obey-beside script s stamp client (Some (DropAll other set)) n aside = by_test (node_waits script n other)
   where
     by_test : (waiting : Bool) → IsBeside s n (drop_all waiting stamp client other set (related script set) n)
@@ -160,6 +163,7 @@ once_or_aside script s (Some (Lock set mode)) = one_set set s
 once_or_aside script s (Some (Try set mode)) = one_set set s
 once_or_aside script s (Some (Unlock set mode)) = one_set set s
 once_or_aside script s (Some (Change set gives_up mode)) = one_set set s
+once_or_aside script s (Some (Withdraw other set)) = one_set set s
 once_or_aside script s (Some (DropAll other set)) = places_once (λ k (data_of : SetData). data_of.family == family script set) s 0 script.sets
 
 -- the rule on one set of the node, where it is this set
@@ -216,6 +220,10 @@ obey_by_effects script s client stamp begun ended begun_of ended_of by (Some (Un
 ]
 obey_by_effects script s client stamp begun ended begun_of ended_of by (Some (Change set gives_up mode)) n once h = elim (cases_eq set s) [
   | inl e ↦ touched_own s set n ended [] (λ k t. change k stamp client gives_up mode t) e (by.changes client gives_up mode (n.set s) [] h)
+  | inr d ↦ none_once set s d once
+]
+obey_by_effects script s client stamp begun ended begun_of ended_of by (Some (Withdraw other set)) n once h = elim (cases_eq set s) [
+  | inl e ↦ touched_own s set n ended [] (λ k t. withdraw k stamp client other t) e (by.withdraws client other (n.set s) [] h)
   | inr d ↦ none_once set s d once
 ]
 obey_by_effects script s client stamp begun ended begun_of ended_of by (Some (DropAll other set)) n once h = by_test (node_waits script n other)

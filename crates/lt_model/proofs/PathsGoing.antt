@@ -1,4 +1,5 @@
 -- A node without the desk sends no token and stays without it, unless a token comes.
+use Rattle.lt_model.proofs.Voids.{asks_ways, withdraws_ways}
 use Rattle.std.proofs.Common.{◌≡◌, ℕ, [], ◌∷◌, ◌++◌, Option, Some, None, Bool, true, false, ◌∙◌, ◌≢◌, ◌+◌, ◌<◌, ◌≤◌, inl, inr, List, refl, sym, ap, subst, arith, ◌==◌, if◌then◌else◌, is_some, filter_map, append-nil, append_assoc}
 use Rattle.std.specs.List.{AllByRecursion}
 use Rattle.std.proofs.Math.Path.{fun_ext}
@@ -11,7 +12,7 @@ use Rattle.lt_modes.specs.declared.event.Event.TheVariants.{Try, Unlock, NotHeld
 use Rattle.lt_modes.specs.Modes.{bars, same_modes, count_of, take_lock, held_modes}
 use Rattle.lt_modes.specs.State.{SetState, Desk, Parked, ParkedAsk, ParkedTell, Made, Post, silent, then_do, Letter}
 use Rattle.lt_modes.specs.Freezing.{can_grant}
-use Rattle.lt_modes.specs.SetMove.{Way, Parks, Goes, way, sent_on, route, route_by, tell_of, make_tell, finish, finish_by, answers, given, granted, ask_of, asked, locked, tried, unlocked, change_held, changed, dropped, lock, try, unlock, change, drop}
+use Rattle.lt_modes.specs.SetMove.{Way, Parks, Goes, way, sent_on, route, route_by, tell_of, make_tell, finish, finish_by, answers, given, granted, ask_of, asked, locked, tried, unlocked, change_held, changed, dropped, lock, try, unlock, change, drop, asked_or_not, withdrawn, withdraw}
 use Rattle.lt_lists.proofs.AllLemmas.{all_append, all_weaker}
 use Rattle.lt_lists.proofs.Puts.{put-put, put-same, put-other}
 use Rattle.lt_lists.specs.Below.{put, one_if}
@@ -23,7 +24,7 @@ use Rattle.lt_model.specs.Invariant.{StateOnPath}
 use Rattle.lt_model.proofs.Letters.{letters_to}
 use Rattle.lt_model.proofs.SentInMove.{IsSentIn, AreSentIn}
 use Rattle.lt_model.specs.PathEffects.{Ground, Moved}
-use Rattle.lt_model.proofs.PathsHandOver.{finish-moved, lock-moved, try-moved, unlock-moved, change-moved, drop-moved}
+use Rattle.lt_model.proofs.PathsHandOver.{finish-moved, lock-moved, try-moved, unlock-moved, change-moved, drop-moved, withdraw-moved}
 use Rattle.lt_model.proofs.PathsWorld.{no_token, PathsOf, after_moved, after_others, after_beyond}
 
 -- no desk is there afterwards, and no letter carries a token
@@ -68,12 +69,21 @@ asked-idle set stamp ask s away =
     let made = route-idle set stamp false (ParkedAsk ask) (record s { pending = s.pending ++ ask ∷ [] }) away in
     record { away = made.away; posts = made.posts }
 
+asked_or_not-idle : (set : ℕ) (stamp : Stamp) (ask : Ask) (s : SetState) → s.desk ≡ None → Idle (asked_or_not set stamp ask s)
+asked_or_not-idle set stamp ask s away =
+    asks_ways Idle set stamp ask s (λ free. asked-idle set stamp ask s away) (λ gone same. record { away = away; posts = tt }) (record { away = away; posts = tt })
+
+pub withdraw-idle : (set : ℕ) (stamp : Stamp) (client other : ℕ) (s : SetState) → s.desk ≡ None → Idle (withdraw set stamp client other s)
+withdraw-idle set stamp client other s away =
+    ends-idle set stamp (withdrawn set client other s)
+    (withdraws_ways Idle set client other s (λ waiting. record { away = away; posts = tt }) (λ idle. record { away = away; posts = tt }))
+
 pub lock-idle : (set : ℕ) (stamp : Stamp) (client : ℕ) (mode : Mode) (s : SetState) → s.desk ≡ None → Idle (lock set stamp client mode s)
 lock-idle set stamp client mode s away = ends-idle set stamp (locked set stamp client mode s) (by_test (can_grant stamp.node s client mode))
   where
-    by_test : (can : Bool) → Idle (if can then granted set client mode s else asked set stamp (ask_of stamp client mode None s) s)
+    by_test : (can : Bool) → Idle (if can then granted set client mode s else asked_or_not set stamp (ask_of stamp client mode None s) s)
     by_test true = record { away = away; posts = tt }
-    by_test false = asked-idle set stamp (ask_of stamp client mode None s) s away
+    by_test false = asked_or_not-idle set stamp (ask_of stamp client mode None s) s away
 
 pub try-idle : (set : ℕ) (stamp : Stamp) (client : ℕ) (mode : Mode) (s : SetState) → s.desk ≡ None → Idle (try set stamp client mode s)
 try-idle set stamp client mode s away = ends-idle set stamp (tried set stamp client mode s) (by_test (can_grant stamp.node s client mode))
@@ -92,9 +102,9 @@ unlock-idle set stamp client mode s away = ends-idle set stamp (unlocked set cli
 pub change-idle : (set : ℕ) (stamp : Stamp) (client : ℕ) (gives_up mode : Mode) (s : SetState) → s.desk ≡ None → Idle (change set stamp client gives_up mode s)
 change-idle set stamp client gives_up mode s away = ends-idle set stamp (changed set stamp client gives_up mode s) (by_count (count_of s.held client gives_up == 0))
   where
-    by_test : (can : Bool) → Idle (if can then answers (Change client set gives_up mode) (given client mode (Some gives_up) s) else asked set stamp (ask_of stamp client mode (Some gives_up) s) s)
+    by_test : (can : Bool) → Idle (if can then answers (Change client set gives_up mode) (given client mode (Some gives_up) s) else asked_or_not set stamp (ask_of stamp client mode (Some gives_up) s) s)
     by_test true = record { away = away; posts = tt }
-    by_test false = asked-idle set stamp (ask_of stamp client mode (Some gives_up) s) s away
+    by_test false = asked_or_not-idle set stamp (ask_of stamp client mode (Some gives_up) s) s away
 
     by_count : (none : Bool) → Idle (if none then answers (NotHeld client set gives_up) s else change_held set stamp client gives_up mode s)
     by_count true = record { away = away; posts = tt }
@@ -218,6 +228,7 @@ pub record ActsKeep (nodes s : ℕ) (stamp : Stamp) (state : ℕ → SetState) (
   pub unlocks : (client : ℕ) (mode : Mode) → KeepsGoing nodes s stamp.node state mail gone (unlock s stamp client mode)
   pub changes : (client : ℕ) (gives_up mode : Mode) → KeepsGoing nodes s stamp.node state mail gone (change s stamp client gives_up mode)
   pub drops : (client : ℕ) → KeepsGoing nodes s stamp.node state mail gone (drop s stamp client)
+  pub withdraws : (client other : ℕ) → KeepsGoing nodes s stamp.node state mail gone (withdraw s stamp client other)
   pub finishes : KeepsGoing nodes s stamp.node state mail gone (finish s stamp)
 
 pub acts_keep : (nodes s : ℕ) (stamp : Stamp) (state : ℕ → SetState) (mail : ℕ → ℕ → List Letter) (gone : List ℕ) → ActsKeep nodes s stamp state mail gone
@@ -233,6 +244,8 @@ acts_keep nodes s stamp state mail gone = elim (cases_lt stamp.node nodes) [
         (λ t went g on. change-moved nodes went s stamp client gives_up mode t below g on);
     drops = λ client. going_by_rule nodes s stamp.node state mail gone (drop s stamp client) below
         (λ t went g on. drop-moved nodes went s stamp client t g on);
+    withdraws = λ client other. going_by_rule nodes s stamp.node state mail gone (withdraw s stamp client other) below
+        (λ t went g on. withdraw-moved nodes went s stamp client other t g on);
     finishes = going_by_rule nodes s stamp.node state mail gone (finish s stamp) below
         (λ t went g on. finish-moved nodes went (one_if (is_some t.desk)) s stamp t g on refl);
   }
@@ -243,6 +256,7 @@ acts_keep nodes s stamp state mail gone = elim (cases_lt stamp.node nodes) [
     changes = λ client gives_up mode.
         going_beyond nodes s stamp.node state mail gone (change s stamp client gives_up mode) above (change-idle s stamp client gives_up mode);
     drops = λ client. going_beyond nodes s stamp.node state mail gone (drop s stamp client) above (drop-idle s stamp client);
+    withdraws = λ client other. going_beyond nodes s stamp.node state mail gone (withdraw s stamp client other) above (withdraw-idle s stamp client other);
     finishes = going_beyond nodes s stamp.node state mail gone (finish s stamp) above (finish-idle s stamp);
   }
 ]

@@ -1,4 +1,5 @@
 -- A move of a node on one set: it stays on the token's path, also where the token leaves.
+use Rattle.lt_model.proofs.Voids.{asks_ways, withdraws_ways}
 use Rattle.std.proofs.Common.{◌≡◌, ◌≢◌, ℕ, suc, ◌+◌, ◌<◌, ◌≤◌, inl, inr, List, [], ◌∷◌, ◌++◌, length, Option, Some, None, Bool, true, false, refl, sym, ap, subst, arith, ◌∙◌, ◌==◌, nat_lt, if◌then◌else◌, ◌⊎◌, is_some, slice_index, slice_index_or, eq-eqb, length-set}
 use Rattle.std.proofs.lemmas.Bool.{eqb-false, not-true, and_parts, cases_lt}
 use Rattle.std.proofs.lemmas.List.{get_or_push, length_push}
@@ -9,8 +10,8 @@ use Rattle.lt_modes.specs.declared.event.Event.TheVariants.{Try, Unlock, NotHeld
 use Rattle.lt_modes.specs.Modes.{Modes, with_mode, count_of, take_lock}
 use Rattle.lt_modes.specs.State.{SetState, Desk, Body, AskBody, TellBody, CopyBody, TokenBody, FreezeBody, Letter, ParkedAsk, ParkedTell, no_ask, Made, silent, then_do}
 use Rattle.lt_modes.specs.Freezing.{can_grant, freeze}
-use Rattle.lt_modes.specs.Serving.{queue_of_desk, ask_at, may_draw, draw_from, move_at, next_draw, serve, hand_over, hand_over_for, hand_over_to}
-use Rattle.lt_modes.specs.SetMove.{learn, tell, attend, finish, finish_by, take_body, arrive, answers, given, granted, ask_of, asked, locked, tried, unlocked, change_held, changed, dropped, lock, try, unlock, change, drop, take}
+use Rattle.lt_modes.specs.Serving.{queue_of_desk, ask_at, may_draw, draw_from, move_at, next_draw, serve, hand_over, hand_over_for, hand_over_to, without_gone}
+use Rattle.lt_modes.specs.SetMove.{learn, tell, attend, finish, finish_by, take_body, arrive, answers, given, granted, ask_of, asked, locked, tried, unlocked, change_held, changed, dropped, lock, try, unlock, change, drop, take, asked_or_not, withdrawn, withdraw}
 use Rattle.lt_lists.specs.Below.{one_if}
 use Rattle.lt_spec.specs.Facts.{tokens_in}
 use Rattle.lt_model.proofs.PathsWorld.{quiet-moved, moved_then}
@@ -147,15 +148,30 @@ asked-quiet nodes went set stamp ask s named g h =
     (record { link = h.link; way = h.way; hoped = h.hoped; parked = h.parked }) named refl in
     record { state = made.state; posts = made.posts; desk = made.desk }
 
+asked_or_not-quiet : (nodes : ℕ) (went : List ℕ) (set : ℕ) (stamp : Stamp) (ask : Ask) (s : SetState) → ask.node < nodes
+    → Ground nodes went → StateOnPath nodes went stamp.node s → Quiet nodes went stamp.node (one_if (is_some s.desk)) (asked_or_not set stamp ask s)
+asked_or_not-quiet nodes went set stamp ask s named g h =
+    asks_ways (Quiet nodes went stamp.node (one_if (is_some s.desk))) set stamp ask s (λ free. asked-quiet nodes went set stamp ask s named g h)
+    (λ gone same. record { state = record { link = h.link; way = h.way; hoped = h.hoped; parked = h.parked }; posts = tt; desk = refl })
+    (record { state = h; posts = tt; desk = refl })
+
+pub withdraw-moved : (nodes : ℕ) (went : List ℕ) (set : ℕ) (stamp : Stamp) (client other : ℕ) (s : SetState)
+    → Ground nodes went → StateOnPath nodes went stamp.node s → Moved nodes went set stamp.node (one_if (is_some s.desk)) (withdraw set stamp client other s)
+withdraw-moved nodes went set stamp client other s g h =
+    ends-moved nodes went (one_if (is_some s.desk)) set stamp (withdrawn set client other s) g
+    (withdraws_ways (Quiet nodes went stamp.node (one_if (is_some s.desk))) set client other s
+    (λ waiting. record { state = record { link = h.link; way = h.way; hoped = h.hoped; parked = h.parked }; posts = tt; desk = refl })
+    (λ idle. record { state = h; posts = tt; desk = refl }))
+
 pub lock-moved : (nodes : ℕ) (went : List ℕ) (set : ℕ) (stamp : Stamp) (client : ℕ) (mode : Mode) (s : SetState) → stamp.node < nodes
     → Ground nodes went → StateOnPath nodes went stamp.node s → Moved nodes went set stamp.node (one_if (is_some s.desk)) (lock set stamp client mode s)
 lock-moved nodes went set stamp client mode s named g h =
     ends-moved nodes went _ set stamp (locked set stamp client mode s) g (by_test (can_grant stamp.node s client mode))
   where
     by_test : (can : Bool) → Quiet nodes went stamp.node (one_if (is_some s.desk))
-        (if can then granted set client mode s else asked set stamp (ask_of stamp client mode None s) s)
+        (if can then granted set client mode s else asked_or_not set stamp (ask_of stamp client mode None s) s)
     by_test true = record { state = record { link = h.link; way = h.way; hoped = h.hoped; parked = h.parked }; posts = tt; desk = refl }
-    by_test false = asked-quiet nodes went set stamp (ask_of stamp client mode None s) s named g h
+    by_test false = asked_or_not-quiet nodes went set stamp (ask_of stamp client mode None s) s named g h
 
 pub try-moved : (nodes : ℕ) (went : List ℕ) (set : ℕ) (stamp : Stamp) (client : ℕ) (mode : Mode) (s : SetState)
     → Ground nodes went → StateOnPath nodes went stamp.node s → Moved nodes went set stamp.node (one_if (is_some s.desk)) (try set stamp client mode s)
@@ -183,9 +199,9 @@ change-moved nodes went set stamp client gives_up mode s named g h =
     ends-moved nodes went _ set stamp (changed set stamp client gives_up mode s) g (by_count (count_of s.held client gives_up == 0))
   where
     by_test : (can : Bool) → Quiet nodes went stamp.node (one_if (is_some s.desk))
-        (if can then answers (Change client set gives_up mode) (given client mode (Some gives_up) s) else asked set stamp (ask_of stamp client mode (Some gives_up) s) s)
+        (if can then answers (Change client set gives_up mode) (given client mode (Some gives_up) s) else asked_or_not set stamp (ask_of stamp client mode (Some gives_up) s) s)
     by_test true = record { state = record { link = h.link; way = h.way; hoped = h.hoped; parked = h.parked }; posts = tt; desk = refl }
-    by_test false = asked-quiet nodes went set stamp (ask_of stamp client mode (Some gives_up) s) s named g h
+    by_test false = asked_or_not-quiet nodes went set stamp (ask_of stamp client mode (Some gives_up) s) s named g h
 
     by_count : (none : Bool) → Quiet nodes went stamp.node (one_if (is_some s.desk))
         (if none then answers (NotHeld client set gives_up) s else change_held set stamp client gives_up mode s)
@@ -242,5 +258,6 @@ effects_on_path = record {
   unlocks = λ set client mode nodes went stamp s named g h. unlock-moved nodes went set stamp client mode s g h;
   changes = λ set client gives_up mode nodes went stamp s named g h. change-moved nodes went set stamp client gives_up mode s named g h;
   drops = λ set client nodes went stamp s named g h. drop-moved nodes went set stamp client s g h;
+  withdraws = λ set client other nodes went stamp s named g h. withdraw-moved nodes went set stamp client other s g h;
   takes = take-moved;
 }

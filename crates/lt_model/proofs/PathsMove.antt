@@ -9,10 +9,10 @@ use Rattle.lt_modes.specs.Sound.{SoundDesk}
 use Rattle.lt_modes.specs.Fits.{numbers_of}
 use Rattle.lt_modes.specs.declared.stamp.Stamp.{Stamp}
 use Rattle.lt_modes.specs.declared.command.Command.{Command}
-use Rattle.lt_modes.specs.declared.command.Command.TheVariants.{Lock, Unlock, Try, Change, DropAll}
+use Rattle.lt_modes.specs.declared.command.Command.TheVariants.{Lock, Unlock, Try, Change, DropAll, Withdraw}
 use Rattle.lt_modes.specs.declared.moves.Step.{Step}
 use Rattle.lt_modes.specs.declared.moves.Step.TheVariants.{Act, Take}
-use Rattle.lt_modes.specs.SetMove.{finish, lock, try, unlock, change, drop, take}
+use Rattle.lt_modes.specs.SetMove.{finish, lock, try, unlock, change, drop, take, withdraw}
 use Rattle.lt_lists.proofs.Puts.{put-itself, put-same, put-other}
 use Rattle.lt_lists.specs.Below.{put, one_if, sum_below}
 use Rattle.lt_lists.proofs.Sums.{sum_below-at, sum_below-some}
@@ -23,7 +23,7 @@ use Rattle.lt_spec.specs.NodeMove.{related, NodeState, NodeMade, node_waits, nex
 use Rattle.lt_model.specs.OnWay.{Between}
 use Rattle.lt_model.specs.Invariant.{AsksStand, Timed, SetKept, StateOnPath, LetterOnPath, Paths, DeskOnPath, HasWay, BodyOnPath}
 use Rattle.lt_model.proofs.PathsGoing.{sent-none, same_parts, Going, KeepsGoing, touched_going, each_going, ActsKeep, acts_keep}
-use Rattle.lt_model.proofs.SentInMove.{finish-sent, lock-sent, try-sent, unlock-sent, change-sent, drop-sent, take-sent}
+use Rattle.lt_model.proofs.SentInMove.{finish-sent, lock-sent, try-sent, unlock-sent, change-sent, drop-sent, take-sent, withdraw-sent}
 use Rattle.lt_model.specs.PathEffects.{token_weight, Moved}
 use Rattle.lt_model.proofs.PathsHandOver.{take-moved}
 use Rattle.lt_model.proofs.PathsWorld.{PathsOf, after_moved, after_others, opened_for, desks}
@@ -75,6 +75,10 @@ obey_going script s client stamp state mail gone (Some (Change set gives_up mode
     touched_going script.nodes s set stamp.node stamp state mail gone (change set stamp client gives_up mode) n []
     (λ e. subst (λ (k : ℕ). KeepsGoing script.nodes s stamp.node state mail gone (change k stamp client gives_up mode)) (sym e) (keep.changes client gives_up mode))
     (change-sent set stamp client gives_up mode (n.set set)) h
+obey_going script s client stamp state mail gone (Some (Withdraw other set)) n keep h =
+    touched_going script.nodes s set stamp.node stamp state mail gone (withdraw set stamp client other) n []
+    (λ e. subst (λ (k : ℕ). KeepsGoing script.nodes s stamp.node state mail gone (withdraw k stamp client other)) (sym e) (keep.withdraws client other))
+    (withdraw-sent set stamp client other (n.set set)) h
 obey_going script s client stamp state mail gone (Some (DropAll other set)) n keep h = by_test (node_waits script n other)
   where
     by_test : (waiting : Bool) → Going script.nodes s stamp.node state mail gone

@@ -10,7 +10,7 @@ use Rattle.lt_modes.specs.declared.parts.Link.{Link}
 use Rattle.lt_modes.specs.Modes.{bars, same_modes, held_modes, Modes, no_modes, has, union, covers, with_mode, other_modes}
 use Rattle.lt_modes.specs.State.{SetState, Desk, Entry, ParkedTell, place, no_ask, silent, first_entry, modes_of_owed, still_owed, own_owed, modes_at, others_below, others}
 use Rattle.lt_modes.specs.Freezing.{cons_if, places_from, map_from, freeze, freeze_at, frozen_by, frozen_entry, is_target, targets}
-use Rattle.lt_modes.specs.Serving.{queue_of, queue_of_desk, put_queue, owed_at, ask_at, next_service, serve, serve_up_to, serve_step, serve_one, serve_local, serve_copy, is_served, next_from, next_at}
+use Rattle.lt_modes.specs.Serving.{queue_of, queue_of_desk, put_queue, owed_at, ask_at, next_service, serve, serve_up_to, serve_step, serve_one, serve_local, serve_copy, is_served, next_from, next_at, is_void}
 use Rattle.lt_modes.specs.SetMove.{way, tell, tell_of, make_tell, take_token}
 use Rattle.lt_modes.specs.declared.parts.Owed.{Owed}
 use Rattle.lt_lists.specs.Below.{one_if}
@@ -249,9 +249,9 @@ same_served me s desk before ask =
     let rest = same_others me s desk ask.node in
     let own = same_own me s desk in
     let home = same_at me s desk ask.node in
-    λ i. not (has ask.mode (bars (union (rest i) before)))
+    λ i. is_void me s ask || (not (has ask.mode (bars (union (rest i) before)))
     && ((ask.node == me && not (has ask.mode (bars (union (other_modes s.held ask.client) (own i)))))
-    || (not (ask.node == me) && (covers (rest i) ask.mode && not (has ask.mode (bars (home i))))))
+    || (not (ask.node == me) && (covers (rest i) ask.mode && not (has ask.mode (bars (home i)))))))
 
 same_next : (me : ℕ) (s : SetState) (desk : Desk) (before : Modes) (k : ℕ) (queue : List Ask)
     → next_from me (frozen_state me s desk) (frozen_desk me desk) before k queue ≡ next_from me s desk before k queue

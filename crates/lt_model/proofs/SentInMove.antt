@@ -1,4 +1,5 @@
 -- The letters of a rule are of its set and have the stamp of its move.
+use Rattle.lt_model.proofs.Voids.{withdraws_ways}
 use Rattle.std.proofs.Common.{◌≡◌, ℕ, Option, Some, None, Bool, false, refl, ◌≢◌, ◌+◌, List, [], ◌∷◌, ◌++◌, true, sym, ap, subst, arith, eq-eqb, ◌==◌, ◌&&◌, not, if◌then◌else◌, All, AllPairs, fold, sum_by}
 use Rattle.std.specs.List.{AllByRecursion}
 use Rattle.std.proofs.lemmas.Bool.{cond_both}
@@ -9,7 +10,7 @@ use Rattle.lt_modes.specs.declared.ask.Ask.{Ask}
 use Rattle.lt_modes.specs.State.{SetState, Desk, Body, AskBody, TellBody, CopyBody, TokenBody, FreezeBody, Letter, Parked, ParkedAsk, ParkedTell, Made, Post, then_do, times_in}
 use Rattle.lt_modes.specs.Serving.{ask_at, serve_one, serve_local, serve_copy, hand_over_to, queue_of_desk}
 use Rattle.lt_modes.specs.Freezing.{freeze, freeze_at, frozen_by, targets}
-use Rattle.lt_modes.specs.SetMove.{Way, Parks, Goes, route, route_by, sent_on, way, learn, tell_of, tell, make_tell, finish, take_body, arrive, ask_of, asked, dropped, lock, try, unlock, change, drop, take, dealt, body_of, reversed}
+use Rattle.lt_modes.specs.SetMove.{Way, Parks, Goes, route, route_by, sent_on, way, learn, tell_of, tell, make_tell, finish, take_body, arrive, ask_of, asked, dropped, lock, try, unlock, change, drop, take, dealt, body_of, reversed, withdrawn, withdraw}
 use Rattle.lt_modes.specs.Modes.{excludes_itself}
 use Rattle.lt_lists.proofs.AllLemmas.{all_append, all_map, all_any}
 use Rattle.lt_spec.specs.Facts.{times_parked, places_in_state, places_in_body}
@@ -91,6 +92,8 @@ sent_commands set stamp client = command_rules set stamp client (sent set stamp)
   changes = λ gives_up mode t. tt;
   releases = λ mode t. tt;
   asks = λ mode gives_up t. asked-sent set stamp (ask_of stamp client mode gives_up t) t;
+  retakes = λ mode t. tt;
+  withheld = λ mode t. tt;
   ended = λ t m h. ends-sent set stamp m h;
 })
 
@@ -105,6 +108,10 @@ unlock-sent set stamp client = (sent_commands set stamp client).unlocks
 
 pub change-sent : (set : ℕ) (stamp : Stamp) (client : ℕ) (gives_up mode : Mode) (s : SetState) → AreSentIn set stamp (change set stamp client gives_up mode s)
 change-sent set stamp client = (sent_commands set stamp client).changes
+
+pub withdraw-sent : (set : ℕ) (stamp : Stamp) (client other : ℕ) (s : SetState) → AreSentIn set stamp (withdraw set stamp client other s)
+withdraw-sent set stamp client other s =
+    ends-sent set stamp (withdrawn set client other s) (withdraws_ways (AreSentIn set stamp) set client other s (λ waiting. tt) (λ idle. tt))
 
 pub drop-sent : (set : ℕ) (stamp : Stamp) (client : ℕ) (s : SetState) → AreSentIn set stamp (drop set stamp client s)
 drop-sent set stamp client s = finish-sent set stamp (dropped client s)

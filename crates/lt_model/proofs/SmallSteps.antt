@@ -4,11 +4,11 @@ use Rattle.std.proofs.Math.Path.{fun_ext}
 use Rattle.std.proofs.lemmas.List.Elements.{filter_map-append}
 use Rattle.lt_modes.specs.declared.stamp.Stamp.{Stamp}
 use Rattle.lt_modes.specs.declared.command.Command.{Command}
-use Rattle.lt_modes.specs.declared.command.Command.TheVariants.{Lock, Try, Unlock, Change, DropAll}
+use Rattle.lt_modes.specs.declared.command.Command.TheVariants.{Lock, Try, Unlock, Change, DropAll, Withdraw}
 use Rattle.lt_modes.specs.declared.moves.Step.TheVariants.{Act, Take}
 use Rattle.lt_modes.specs.Script.{ScriptData}
 use Rattle.lt_modes.specs.State.{SetState, Letter, Made, joined, then_do}
-use Rattle.lt_modes.specs.SetMove.{finish, arrive, locked, tried, unlocked, changed, drop}
+use Rattle.lt_modes.specs.SetMove.{finish, arrive, locked, tried, unlocked, changed, drop, withdrawn}
 use Rattle.lt_lists.specs.Below.{put}
 use Rattle.lt_spec.specs.NodeMove.{related, NodeState, NodeMade, no_move, node_waits, next_command, touched, each_touched, drop_all, act_stamp, take_stamp, at_clock, one_made, obey}
 use Rattle.lt_spec.specs.World.{World, is_some_letter, opened, front_stamp, take_front, token_to, after_made}
@@ -103,6 +103,7 @@ act_parts script q client stamp (Some (Lock s mode)) n w = two_parts q s stamp (
 act_parts script q client stamp (Some (Try s mode)) n w = two_parts q s stamp (tried s stamp client mode) n w
 act_parts script q client stamp (Some (Unlock s mode)) n w = two_parts q s stamp (unlocked s client mode) n w
 act_parts script q client stamp (Some (Change s gives_up mode)) n w = two_parts q s stamp (changed s stamp client gives_up mode) n w
+act_parts script q client stamp (Some (Withdraw other s)) n w = two_parts q s stamp (withdrawn s client other) n w
 act_parts script q client stamp (Some (DropAll other s)) n w = by_test (node_waits script n other)
   where
     by_test : (waiting : Bool) → after_made q (drop_all waiting stamp client other s (related script s) n) w

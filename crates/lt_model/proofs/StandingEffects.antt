@@ -185,8 +185,10 @@ standing_acts s below elsewhere unanswered stamp clock = record {
   changes = λ client gives_up mode t posts holds e h. let n = later t posts h in record { once = n.once; own = n.own; apart = n.apart; copies = n.copies };
   releases = λ client mode t posts e h. let n = later t posts h in record { once = n.once; own = n.own; apart = n.apart; copies = n.copies };
   drops = λ client t posts h. let n = later t posts h in record { once = n.once; own = n.own; apart = n.apart; copies = n.copies };
-  asks = λ client mode t posts e h. asks-stands s below elsewhere unanswered stamp (ask_of stamp client mode None t) t posts (omega (arith, clock)) refl refl h;
-  change_asks = λ client gives_up mode t posts holds e h.
+  withdraws = λ other t posts waiting h. let n = later t posts h in record { once = n.once; own = n.own; apart = n.apart; copies = n.copies };
+  retakes = λ ask t posts gone same h. let n = later t posts h in record { once = n.once; own = n.own; apart = n.apart; copies = n.copies };
+  asks = λ client mode t posts e free h. asks-stands s below elsewhere unanswered stamp (ask_of stamp client mode None t) t posts (omega (arith, clock)) refl refl h;
+  change_asks = λ client gives_up mode t posts holds e free h.
       asks-stands s below elsewhere unanswered stamp (ask_of stamp client mode (Some gives_up) t) t posts (omega (arith, clock)) refl refl h;
 }
   where

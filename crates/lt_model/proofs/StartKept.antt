@@ -35,6 +35,7 @@ state_if nodes here = record {
   pending = [];
   parked = [];
   desk = if here then Some (first_desk nodes) else None;
+  gone = [];
 }
 
 sound_if : (numbers : Numbers) (q : ℕ) (here : Bool) → 0 < numbers.nodes → SoundSet numbers q false false 0 (state_if numbers.nodes here)

@@ -185,8 +185,10 @@ timed_acts script s below stamp clock = record {
   changes = λ client gives_up mode t posts holds e h. (record { link = h.0.link; kept = h.0.kept; desk = h.0.desk }, h.1);
   releases = λ client mode t posts e h. (record { link = h.0.link; kept = h.0.kept; desk = h.0.desk }, h.1);
   drops = λ client t posts h. (record { link = h.0.link; kept = h.0.kept; desk = h.0.desk }, h.1);
-  asks = λ client mode t posts e h. asks-upto script s below below stamp (ask_of stamp client mode None t) t posts (omega (arith, clock)) h;
-  change_asks = λ client gives_up mode t posts holds e h.
+  withdraws = λ other t posts waiting h. (record { link = h.0.link; kept = h.0.kept; desk = h.0.desk }, h.1);
+  retakes = λ ask t posts gone same h. (record { link = h.0.link; kept = h.0.kept; desk = h.0.desk }, h.1);
+  asks = λ client mode t posts e free h. asks-upto script s below below stamp (ask_of stamp client mode None t) t posts (omega (arith, clock)) h;
+  change_asks = λ client gives_up mode t posts holds e free h.
       asks-upto script s below below stamp (ask_of stamp client mode (Some gives_up) t) t posts (omega (arith, clock)) h;
 }
 

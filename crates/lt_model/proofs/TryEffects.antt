@@ -1,14 +1,15 @@
 -- What holds between a state and what each effect made of it holds of the whole move on the set.
+use Rattle.lt_model.proofs.Voids.{asks_ways, withdraws_ways}
 use Rattle.std.proofs.Common.{◌≡◌, ℕ, zero, suc, ◌<◌, length, Option, Some, None, Bool, true, false, refl, List, [], ◌∷◌, ◌++◌, ◌==◌, if◌then◌else◌}
 use Rattle.std.specs.List.{AllByRecursion}
 use Rattle.lt_modes.specs.declared.mode.Mode.{Mode}
 use Rattle.lt_modes.specs.declared.stamp.Stamp.{Stamp}
-use Rattle.lt_modes.specs.declared.event.Event.TheVariants.{Try, Unlock, NotHeld, Change, Freeze}
+use Rattle.lt_modes.specs.declared.event.Event.TheVariants.{Try, Unlock, NotHeld, Change, Freeze, Wait, Withheld, Withdraw, Withdrawn, Void}
 use Rattle.lt_modes.specs.Modes.{bars, same_modes, count_of, take_lock, held_modes}
 use Rattle.lt_modes.specs.State.{SetState, Desk, Letter, Made, silent, then_do, Body, AskBody, TellBody, CopyBody, TokenBody, FreezeBody, Parked, ParkedAsk, ParkedTell}
 use Rattle.lt_modes.specs.Freezing.{can_grant, freeze, freeze_at, frozen_by, targets, number_after}
-use Rattle.lt_modes.specs.Serving.{queue_of, ask_at, next_service, next_draw, serve, serve_up_to, serve_step, serve_one, hand_over, hand_over_for, hand_over_to, answer_by, serve_local, serve_copy}
-use Rattle.lt_modes.specs.SetMove.{make_tell, finish, finish_by, arrive, answers, given, granted, ask_of, asked, locked, tried, unlocked, change_held, changed, lock, try, unlock, change, take, Way, Parks, Goes, learn, sent_on, route, tell_of, take_body, dropped, drop}
+use Rattle.lt_modes.specs.Serving.{queue_of, ask_at, next_service, next_draw, serve, serve_up_to, serve_step, serve_one, hand_over, hand_over_for, hand_over_to, answer_by, serve_local, serve_copy, without_gone, waits, is_gone, answer_event}
+use Rattle.lt_modes.specs.SetMove.{make_tell, finish, finish_by, arrive, answers, given, granted, ask_of, asked, locked, tried, unlocked, change_held, changed, lock, try, unlock, change, take, Way, Parks, Goes, learn, sent_on, route, tell_of, take_body, dropped, drop, asked_or_not, given_up, withdrawn, withdraw}
 use Rattle.lt_modes.specs.declared.ask.Ask.{Ask}
 use Rattle.lt_modes.specs.declared.event.Event.{Event}
 use Rattle.lt_lists.proofs.AllLemmas.{all_append, all_any, all_map}
@@ -37,6 +38,8 @@ pub record ActRules (set : ℕ) (stamp : Stamp) (client : ℕ) (A : Between) : T
   pub changes : (gives_up mode : Mode) (t : SetState) → A t (answers (Change client set gives_up mode) (given client mode (Some gives_up) t))
   pub releases : (mode : Mode) (t : SetState) → A t (answers (Unlock client set mode) (record t { held = take_lock t.held client mode }))
   pub asks : (mode : Mode) (gives_up : Option Mode) (t : SetState) → A t (asked set stamp (ask_of stamp client mode gives_up t) t)
+  pub retakes : (mode : Mode) (t : SetState) → A t (answers (Wait client set mode) (record t { gone = without_gone t.gone client }))
+  pub withheld : (mode : Mode) (t : SetState) → A t (answers (Withheld client set mode) t)
   pub ended : (t : SetState) (m : Made) → A t m → A t (then_do m (finish set stamp))
 
 -- the commands of a client on a set
@@ -90,10 +93,14 @@ command_rules set stamp client A acts = record {
   changes = λ gives_up mode t. acts.ended t (changed set stamp client gives_up mode t) (change_by gives_up mode t (count_of t.held client gives_up == 0));
 }
   where
+    ask_by : (mode : Mode) (gives_up : Option Mode) (t : SetState) → A t (asked_or_not set stamp (ask_of stamp client mode gives_up t) t)
+    ask_by mode gives_up t =
+        asks_ways (A t) set stamp (ask_of stamp client mode gives_up t) t (λ free. acts.asks mode gives_up t) (λ gone same. acts.retakes mode t) (acts.withheld mode t)
+
     lock_by : (mode : Mode) (t : SetState) (can : Bool)
-        → A t (if can then granted set client mode t else asked set stamp (ask_of stamp client mode None t) t)
+        → A t (if can then granted set client mode t else asked_or_not set stamp (ask_of stamp client mode None t) t)
     lock_by mode t true = acts.grants mode t
-    lock_by mode t false = acts.asks mode None t
+    lock_by mode t false = ask_by mode None t
 
     try_by : (mode : Mode) (t : SetState) (can : Bool)
         → A t (if can then answers (Try client set mode true) (given client mode None t) else answers (Try client set mode false) t)
@@ -107,9 +114,9 @@ command_rules set stamp client A acts = record {
 
     held_by : (gives_up mode : Mode) (t : SetState) (can : Bool)
         → A t (if can then answers (Change client set gives_up mode) (given client mode (Some gives_up) t)
-        else asked set stamp (ask_of stamp client mode (Some gives_up) t) t)
+        else asked_or_not set stamp (ask_of stamp client mode (Some gives_up) t) t)
     held_by gives_up mode t true = acts.changes gives_up mode t
-    held_by gives_up mode t false = acts.asks mode (Some gives_up) t
+    held_by gives_up mode t false = ask_by mode (Some gives_up) t
 
     change_by : (gives_up mode : Mode) (t : SetState) (none : Bool)
         → A t (if none then answers (NotHeld client set gives_up) t else change_held set stamp client gives_up mode t)
@@ -151,11 +158,15 @@ route_none set stamp marked item t =
 
 -- the end of a move
 
+end_none : (set : ℕ) (ask : Ask) (gone : Bool) → IsNoTry (if gone then Void ask.client set ask.mode else answer_event set ask)
+end_none set ask true = tt
+end_none set ask false = answer_none set ask ask.gives_up
+
 serves_none : (set : ℕ) (stamp : Stamp) (t : SetState) (k : ℕ) → AreNoTries (serve_one set stamp k t).events
 serves_none set stamp t k = by_test ((ask_at t k).node == stamp.node)
   where
     by_test : (own : Bool) → AreNoTries (if own then serve_local set k t else serve_copy set stamp k (ask_at t k) t).events
-    by_test true = (answer_none set (ask_at t k) (ask_at t k).gives_up, tt)
+    by_test true = (end_none set (ask_at t k) (is_gone t (ask_at t k).client), tt)
     by_test false = (tt, tt)
 
 freezes_none : (set : ℕ) (stamp : Stamp) (t : SetState) → AreNoTries (freeze set stamp t).events
@@ -192,14 +203,18 @@ finish_none set stamp t = finish_rule set stamp tries_none (none_ends set stamp)
 asked_none : (set : ℕ) (stamp : Stamp) (ask : Ask) (t : SetState) → AreNoTries (asked set stamp ask t).events
 asked_none set stamp ask t = (tt, route_none set stamp false (ParkedAsk ask) (record t { pending = t.pending ++ ask ∷ [] }))
 
+asked_or_not_none : (set : ℕ) (stamp : Stamp) (ask : Ask) (t : SetState) → AreNoTries (asked_or_not set stamp ask t).events
+asked_or_not_none set stamp ask t =
+    asks_ways (λ (m : Made). AreNoTries m.events) set stamp ask t (λ free. asked_none set stamp ask t) (λ gone same. (tt, tt)) (tt, tt)
+
 pub lock_none : (set : ℕ) (stamp : Stamp) (client : ℕ) (mode : Mode) (t : SetState) → AreNoTries (lock set stamp client mode t).events
 lock_none set stamp client mode t =
     none_joined (locked set stamp client mode t) (finish set stamp) (by_test (can_grant stamp.node t client mode))
     (finish_none set stamp (locked set stamp client mode t).state)
   where
-    by_test : (can : Bool) → AreNoTries (if can then granted set client mode t else asked set stamp (ask_of stamp client mode None t) t).events
+    by_test : (can : Bool) → AreNoTries (if can then granted set client mode t else asked_or_not set stamp (ask_of stamp client mode None t) t).events
     by_test true = (tt, tt)
-    by_test false = asked_none set stamp (ask_of stamp client mode None t) t
+    by_test false = asked_or_not_none set stamp (ask_of stamp client mode None t) t
 
 pub unlock_none : (set : ℕ) (stamp : Stamp) (client : ℕ) (mode : Mode) (t : SetState) → AreNoTries (unlock set stamp client mode t).events
 unlock_none set stamp client mode t =
@@ -218,9 +233,9 @@ change_none set stamp client gives_up mode t =
     (finish_none set stamp (changed set stamp client gives_up mode t).state)
   where
     by_test : (can : Bool) → AreNoTries (if can then answers (Change client set gives_up mode) (given client mode (Some gives_up) t)
-        else asked set stamp (ask_of stamp client mode (Some gives_up) t) t).events
+        else asked_or_not set stamp (ask_of stamp client mode (Some gives_up) t) t).events
     by_test true = (tt, tt)
-    by_test false = asked_none set stamp (ask_of stamp client mode (Some gives_up) t) t
+    by_test false = asked_or_not_none set stamp (ask_of stamp client mode (Some gives_up) t) t
 
     by_count : (none : Bool) → AreNoTries (if none then answers (NotHeld client set gives_up) t else change_held set stamp client gives_up mode t).events
     by_count true = (tt, tt)
@@ -241,6 +256,12 @@ try_none set stamp client mode t = by_test (can_grant stamp.node t client mode)
 pub drop_none : (set : ℕ) (stamp : Stamp) (other : ℕ) (t : SetState) → AreNoTries (drop set stamp other t).events
 drop_none set stamp other t = finish_none set stamp (dropped other t)
 
+pub withdraw_none : (set : ℕ) (stamp : Stamp) (client other : ℕ) (t : SetState) → AreNoTries (withdraw set stamp client other t).events
+withdraw_none set stamp client other t =
+    none_joined (withdrawn set client other t) (finish set stamp)
+    (withdraws_ways (λ (m : Made). AreNoTries m.events) set client other t (λ waiting. (tt, (tt, tt))) (λ idle. (tt, tt)))
+    (finish_none set stamp (withdrawn set client other t).state)
+
 -- letters
 
 pub take_none : (stamp : Stamp) (letter : Letter) (t : SetState) → AreNoTries (take stamp letter t).events
@@ -251,6 +272,6 @@ take_none stamp letter t =
     by_body : (body : Body) (u : SetState) → AreNoTries (take_body letter.set stamp body u).events
     by_body (AskBody ask marked) u = route_none letter.set stamp marked (ParkedAsk ask) u
     by_body (TellBody tell) u = route_none letter.set stamp false (ParkedTell tell) u
-    by_body (CopyBody ask) u = (answer_none letter.set ask ask.gives_up, tt)
+    by_body (CopyBody ask) u = (end_none letter.set ask (is_gone u ask.client), tt)
     by_body (TokenBody desk) u = tt
     by_body (FreezeBody number modes) u = tt

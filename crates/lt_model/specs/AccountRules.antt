@@ -9,16 +9,16 @@ use Rattle.lt_modes.specs.Modes.{Modes, has, union, bars, covers, same_modes, co
 use Rattle.lt_modes.specs.declared.parts.Link.{Link}
 use Rattle.lt_modes.specs.Script.{ScriptData}
 use Rattle.lt_modes.specs.State.{SetState, Desk, Entry, Tell, Parked, ParkedAsk, ParkedTell, entry_of, record_of, own_owed, modes_at, others}
-use Rattle.lt_modes.specs.Serving.{told, tell_applied, ask_at, next_service, served, serve_copy, owing, leaving, without_desk}
+use Rattle.lt_modes.specs.Serving.{told, tell_applied, ask_at, next_service, served, serve_copy, owing, leaving, without_desk, is_gone, is_void}
 use Rattle.lt_modes.specs.Freezing.{can_grant, frozen_by, is_target, freeze}
-use Rattle.lt_modes.specs.SetMove.{tell_of, make_tell, take_copy, take_freeze, take_token, learn, dealt, route, given, unlocked, asked, dropped}
+use Rattle.lt_modes.specs.SetMove.{tell_of, make_tell, take_copy, take_freeze, take_token, learn, dealt, route, given, unlocked, asked, dropped, withdrawn, retaken}
 use Rattle.lt_spec.specs.World.{World}
 use Rattle.lt_spec.specs.Facts.{state_at}
 use Rattle.lt_model.specs.OnWay.{Moment, tell_parked, account_of}
 use Rattle.lt_law_accounts.specs.Account.{Account, counted}
 use Rattle.lt_law_accounts.specs.AccountPlay.{others_counted}
 use Rattle.lt_model.specs.NewsRules.{frozen_desk}
-use Rattle.lt_law_accounts.specs.AccountSteps.{MayGrant, granting, unlocking, dropping, asking, answering, delivering, tell_by, telling, settling, arriving, MayRest}
+use Rattle.lt_law_accounts.specs.AccountSteps.{MayGrant, granting, unlocking, dropping, asking, answering, delivering, tell_by, telling, settling, arriving, MayRest, voiding, voiding_copy}
 
 -- the account of a node with this clock that keeps this for the set, with the desk here or not, in its move or not,
 -- and with this entry in the desk
@@ -64,6 +64,10 @@ pub record CommandsAreSteps : Type 0 where
       → own_account true clock entry tells copies (asked set stamp ask s).state ≡ asking ask (own_account true clock entry tells copies s)
   pub drops : (clock client : ℕ) (s : SetState) (entry : Entry) (tells : List Tell) (copies : List Ask)
       → own_account true clock entry tells copies (dropped client s) ≡ dropping client (own_account true clock entry tells copies s)
+  pub withdraws : (set clock client other : ℕ) (s : SetState) (entry : Entry) (tells : List Tell) (copies : List Ask)
+      → own_account true clock entry tells copies (withdrawn set client other s).state ≡ own_account true clock entry tells copies s
+  pub retakes : (set clock : ℕ) (ask : Ask) (s : SetState) (entry : Entry) (tells : List Tell) (copies : List Ask)
+      → own_account true clock entry tells copies (retaken set ask s).state ≡ own_account true clock entry tells copies s
 
 -- an ask of node `me` with the desk: no other node, no lock of another client here and no copy on its way here conflicts
 pub record IsLocallyFree (me : ℕ) (s : SetState) (desk : Desk) (ask : Ask) : Type 0 where
@@ -78,25 +82,31 @@ pub record IsCopyFree (me : ℕ) (s : SetState) (desk : Desk) (ask : Ask) : Type
   pub covered : IsTrue (covers (others me s desk ask.node) ask.mode)
   pub clear : IsFalse (has ask.mode (bars (record_of (entry_of desk ask.node))))
 
--- the next ask that is served is the one or the other
+-- the next ask that is served is void, or the one or the other
 abbrev pub ServesByRule : Type 0
 ServesByRule = (me k : ℕ) (s : SetState) (desk : Desk) → s.desk ≡ Some desk → next_service me s ≡ Some k
-    → IsLocallyFree me s desk (ask_at s k) ⊎ IsCopyFree me s desk (ask_at s k)
+    → IsTrue (is_void me s (ask_at s k)) ⊎ (IsLocallyFree me s desk (ask_at s k) ⊎ IsCopyFree me s desk (ask_at s k))
 
--- a local service is an answer; a copy is owed at the entry of its node alone, and changes nothing of what the desk's node keeps
+-- a local service is an answer, or void where the ask was given up; a copy is owed at the entry of its node alone, and changes nothing of what the desk's node keeps
 pub record ServicesAreSteps : Type 0 where
   pub stays : (set clock k : ℕ) (stamp : Stamp) (ask : Ask) (s : SetState) (entry : Entry) (tells : List Tell) (copies : List Ask)
       → own_account true clock entry tells copies (serve_copy set stamp k ask s).state ≡ own_account true clock entry tells copies s
   pub answers : (clock k : ℕ) (s : SetState) (entry : Entry) (tells : List Tell) (copies : List Ask)
-      → own_account true clock entry tells copies (served s k) ≡ answering (ask_at s k) (own_account true clock entry tells copies s)
+      → own_account true clock entry tells copies (served s k)
+      ≡ (if is_gone s (ask_at s k).client
+      then voiding (ask_at s k) (own_account true clock entry tells copies s)
+      else answering (ask_at s k) (own_account true clock entry tells copies s))
   pub owes : (set k x : ℕ) (stamp : Stamp) (ask : Ask) (s : SetState) (desk left : Desk) → s.desk ≡ Some desk
       → (serve_copy set stamp k ask s).state.desk ≡ Some left → ask.node < length desk.entries
       → entry_of left x ≡ (if x == ask.node then owing ask (entry_of desk x) else entry_of desk x)
 
--- a copy that is taken is delivered, and the charge rises by it where the desk isn't here
+-- a copy that is taken is delivered, or void where its ask was given up, and the charge rises by it where the desk isn't here
 abbrev pub CopiesAreDelivered : Type 0
 CopiesAreDelivered = (set clock : ℕ) (ask : Ask) (s : SetState) (entry : Entry) (tells : List Tell) (copies left : List Ask)
-    → own_account true clock entry tells left (take_copy set ask s).state ≡ delivering ask left (own_account true clock entry tells copies s)
+    → own_account true clock entry tells left (take_copy set ask s).state
+    ≡ (if is_gone s ask.client
+    then voiding_copy ask left (own_account true clock entry tells copies s)
+    else delivering ask left (own_account true clock entry tells copies s))
 
 -- a tell that the desk takes changes the entry of its node alone
 abbrev pub TellsAreApplied : Type 0

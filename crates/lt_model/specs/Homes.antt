@@ -1,7 +1,7 @@
 -- How many locks the lines of a run add.
 use Rattle.std.specs.Prelude.{ℕ, List, sum_by, ◌≡◌, ◌≤◌, ◌<◌, length, IsTrue, All, Contains, ◌≢◌, take}
 use Rattle.lt_modes.specs.declared.event.Event.{Event}
-use Rattle.lt_modes.specs.declared.event.Event.TheVariants.{Grant, Wait, Try, Unlock, NotHeld, Change, DropAll, Busy, Copy, Freeze, Token, Try as TryLine, Unlock as UnlockLine, Change as ChangeLine, DropAll as Dropped}
+use Rattle.lt_modes.specs.declared.event.Event.TheVariants.{Grant, Wait, Try, Unlock, NotHeld, Change, DropAll, Busy, Copy, Freeze, Token, Try as TryLine, Unlock as UnlockLine, Change as ChangeLine, DropAll as Dropped, Withdraw as WithdrawLine, Withdrawn, Void, Withheld}
 use Rattle.lt_modes.specs.declared.ask.Ask.{Ask}
 use Rattle.lt_modes.specs.declared.parts.Row.{Row}
 use Rattle.lt_modes.specs.declared.moves.Move.{Move}
@@ -28,6 +28,10 @@ adds (NotHeld client s mode) = 0
 adds (Change client s gives_up mode) = 1
 adds (DropAll client other s count) = 0
 adds (Busy client other s) = 0
+adds (WithdrawLine client other s got) = 0
+adds (Withdrawn client s mode) = 0
+adds (Void client s mode) = 0
+adds (Withheld client s mode) = 0
 adds (Copy s to client mode) = 0
 adds (Freeze s to number modes) = 0
 adds (Token s to epoch) = 0
@@ -118,6 +122,11 @@ IsLineWithin script bound (Dropped client other s count) =
     (client < length script.clients) × (other < length script.clients) × (s < length script.sets) × (count ≤ bound)
 IsLineWithin script bound (Busy client other s) =
     (client < length script.clients) × (other < length script.clients) × (s < length script.sets)
+IsLineWithin script bound (WithdrawLine client other s got) =
+    (client < length script.clients) × (other < length script.clients) × (s < length script.sets)
+IsLineWithin script bound (Withdrawn client s mode) = (client < length script.clients) × (s < length script.sets)
+IsLineWithin script bound (Void client s mode) = (client < length script.clients) × (s < length script.sets)
+IsLineWithin script bound (Withheld client s mode) = (client < length script.clients) × (s < length script.sets)
 IsLineWithin script bound (Copy s to client mode) = (s < length script.sets) × (to < script.nodes) × (client < length script.clients)
 IsLineWithin script bound (Freeze s to number modes) = (s < length script.sets) × (to < script.nodes) × (number ≤ bound)
 IsLineWithin script bound (Token s to epoch) = (s < length script.sets) × (to < script.nodes) × (epoch ≤ bound)

@@ -1,5 +1,5 @@
 -- The way of a set's token, and the links that lead to it.
-use Rattle.std.specs.Prelude.{◌≡◌, ◌≢◌, ◌⊎◌, ◌≤◌, ◌<◌, ℕ, ◌+◌, List, Option, Some, None, length, slice_index, IfSome, All, ◌&&◌, ◌==◌, false, count_by, is_none, ◌↔◌, [], IsTrue, Contains, AllPairs}
+use Rattle.std.specs.Prelude.{◌≡◌, ◌≢◌, ◌⊎◌, ◌≤◌, ◌<◌, ℕ, ◌+◌, List, Option, Some, None, length, slice_index, IfSome, All, ◌&&◌, ◌==◌, false, count_by, is_none, ◌↔◌, [], IsTrue, Contains, AllPairs, Bool, not}
 use Rattle.lt_modes.specs.declared.ask.Ask.{Ask}
 use Rattle.lt_modes.specs.declared.parts.Link.{Link}
 use Rattle.lt_modes.specs.declared.parts.Hoped.{Hoped}
@@ -10,7 +10,7 @@ use Rattle.lt_modes.specs.Fits.{numbers_of}
 use Rattle.lt_modes.specs.Sound.{SoundSet}
 use Rattle.lt_modes.specs.declared.mode.Mode.{Mode}
 use Rattle.lt_modes.specs.declared.event.Event.{Event}
-use Rattle.lt_modes.specs.Serving.{is_newer, next_service, next_draw}
+use Rattle.lt_modes.specs.Serving.{is_newer, next_service, next_draw, is_gone}
 use Rattle.lt_lists.specs.Below.{sum_below}
 use Rattle.lt_spec.specs.World.{World}
 use Rattle.lt_spec.specs.Facts.{state_at, token_count, OnWay, place_count, Comes, DeskIs}
@@ -85,22 +85,26 @@ pub record Paths (script : ScriptData) (w : World) (s : ℕ) : Type 0 where
 
 -- What holds of a node and of the world's numbers.
 
--- how many asks of the client are unanswered, over all sets
+-- the ask is one of the client, and wasn't given up
+abbrev pub is_live : SetState → ℕ → Ask → Bool
+is_live s client ask = not (is_gone s client) && ask.client == client
+
+-- how many asks of the client are unanswered and weren't given up, over all sets
 abbrev pub unanswered_asks : ScriptData → NodeState → ℕ → ℕ
 unanswered_asks script n client =
-    sum_below (length script.sets) (λ s. count_by (λ (ask : Ask). ask.client == client) (n.set s).pending)
+    sum_below (length script.sets) (λ s. count_by (is_live (n.set s) client) (n.set s).pending)
 
 -- how many of them give up no mode
 abbrev pub new_asks_of : ScriptData → NodeState → ℕ → ℕ
 new_asks_of script n client =
     sum_below (length script.sets)
-    (λ s. count_by (λ (ask : Ask). ask.client == client && is_none ask.gives_up) (n.set s).pending)
+    (λ s. count_by (λ (ask : Ask). is_live (n.set s) client ask && is_none ask.gives_up) (n.set s).pending)
 
 -- how many locks the client holds, over all sets
 abbrev pub locks_in_all : ScriptData → NodeState → ℕ → ℕ
 locks_in_all script n client = sum_below (length script.sets) (λ s. locks_of (n.set s).held client)
 
--- a client waits for at most one ask, and each of its locks and of its asks for one more came by a command of its own
+-- a client waits for at most one ask that wasn't given up, and each of its locks and of its asks for one more came by a command of its own
 pub record ClientsKept (script : ScriptData) (n : NodeState) : Type 0 where
   pub one_ask : (client : ℕ) → unanswered_asks script n client ≤ 1
   pub counts : (client : ℕ) → locks_in_all script n client + new_asks_of script n client ≤ n.made client

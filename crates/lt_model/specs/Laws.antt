@@ -2,7 +2,7 @@
 use Rattle.std.specs.Prelude.{◌≡◌, ◌≢◌, ◌≤◌, ◌<◌, ℕ, List, [], ◌∷◌, Option, Some, None, take, slice_get, IsTrue, All, Contains, Bool, if◌then◌else◌, map, fold}
 use Rattle.lt_modes.specs.declared.ask.Ask.{Ask}
 use Rattle.lt_modes.specs.declared.mode.Mode.{Mode}
-use Rattle.lt_modes.specs.declared.command.Command.TheVariants.{Try, Lock, Unlock, Change, DropAll}
+use Rattle.lt_modes.specs.declared.command.Command.TheVariants.{Try, Lock, Unlock, Change, DropAll, Withdraw}
 use Rattle.lt_modes.specs.declared.event.Event.{Event}
 use Rattle.lt_modes.specs.declared.event.Event.TheVariants.{Try as TryLine}
 use Rattle.lt_modes.specs.Freezing.{can_grant}
@@ -13,7 +13,7 @@ use Rattle.lt_modes.specs.State.{Desk, TokenBody, SetState, Letter, Made, joined
 use Rattle.lt_modes.specs.declared.stamp.Stamp.{Stamp}
 use Rattle.lt_modes.specs.declared.command.Command.{Command}
 use Rattle.lt_modes.specs.Modes.{bars, held_modes}
-use Rattle.lt_modes.specs.SetMove.{finish, arrive, locked, tried, unlocked, changed, drop}
+use Rattle.lt_modes.specs.SetMove.{finish, arrive, locked, tried, unlocked, changed, drop, withdrawn}
 use Rattle.lt_lists.specs.Below.{put}
 use Rattle.lt_spec.specs.World.{Logged, World, start, is_enabled, move_stamp, node_move, after, world_after, IsRun, opened, after_made}
 use Rattle.lt_spec.specs.NodeMove.{next_command, related, NodeState, NodeMade, node_waits, act_stamp, take_stamp, at_clock, one_made, touched, joined_moves}
@@ -186,6 +186,7 @@ parts_of_command script stamp client is_waiting (Some (DropAll other s)) =
     if is_waiting other
     then map (λ k. part_on k (finish k stamp)) (related script s)
     else map (λ k. part_on k (drop k stamp other)) (related script s)
+parts_of_command script stamp client is_waiting (Some (Withdraw other s)) = with_end s stamp (withdrawn s client other)
 
 -- the parts of the take of the front letter of this list
 abbrev pub parts_of_front : ℕ → NodeState → List Letter → List MovePart

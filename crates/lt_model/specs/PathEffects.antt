@@ -7,7 +7,7 @@ use Rattle.lt_modes.specs.declared.parts.Link.{Link}
 use Rattle.lt_modes.specs.State.{SetState, Desk, Letter, Parked, Made, Post}
 use Rattle.lt_modes.specs.Serving.{serve, hand_over}
 use Rattle.lt_modes.specs.Freezing.{freeze}
-use Rattle.lt_modes.specs.SetMove.{learn, route, tell, finish, take_token, lock, try, unlock, change, drop, take}
+use Rattle.lt_modes.specs.SetMove.{learn, route, tell, finish, take_token, lock, try, unlock, change, drop, take, withdraw}
 use Rattle.lt_spec.specs.World.{token_to}
 use Rattle.lt_spec.specs.Facts.{tokens_in}
 use Rattle.lt_lists.specs.Below.{one_if}
@@ -82,6 +82,7 @@ pub record EffectsOnPath : Type 0 where
   pub unlocks : (set client : ℕ) (mode : Mode) → KeepsPath set (λ stamp. unlock set stamp client mode)
   pub changes : (set client : ℕ) (gives_up mode : Mode) → KeepsPath set (λ stamp. change set stamp client gives_up mode)
   pub drops : (set client : ℕ) → KeepsPath set (λ stamp. drop set stamp client)
+  pub withdraws : (set client other : ℕ) → KeepsPath set (λ stamp. withdraw set stamp client other)
   pub takes : (nodes : ℕ) (went : List ℕ) (p : ℕ) (stamp : Stamp) (letter : Letter) (s : SetState)
       → Ground nodes went → StateOnPath nodes went stamp.node s → LetterOnPath nodes went p stamp.node letter
       → one_if (is_some s.desk) + tokens_in letter.body ≤ 1

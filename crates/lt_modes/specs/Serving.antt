@@ -8,7 +8,7 @@ use Rattle.lt_modes.specs.declared.mode.Mode.{Mode}
 use Rattle.lt_modes.specs.declared.ask.Ask.{Ask}
 use Rattle.lt_modes.specs.declared.parts.Row.{Row}
 use Rattle.lt_modes.specs.declared.event.Event.{Event}
-use Rattle.lt_modes.specs.declared.event.Event.TheVariants.{Grant, Change, Copy, Token}
+use Rattle.lt_modes.specs.declared.event.Event.TheVariants.{Grant, Change, Void, Copy, Token}
 use Rattle.lt_modes.specs.Modes.{Modes, no_modes, has, union, bars, with_mode, covers, add_lock, take_lock, other_modes, held_modes}
 
 -- the first stamp is greater: by clock, then by node
@@ -63,6 +63,18 @@ abbrev pub put_queue : List Ask → Option Desk → Option Desk
 put_queue queue None = None
 put_queue queue (Some desk) = Some (record desk { queue = queue })
 
+-- the client's unanswered ask here was given up
+abbrev pub is_gone : SetState → ℕ → Bool
+is_gone s client = list_any (λ other. other == client) s.gone
+
+-- the clients without this one
+abbrev pub without_gone : List ℕ → ℕ → List ℕ
+without_gone gone client = filter (λ other. not (other == client)) gone
+
+-- the ask is of this node, and was given up
+abbrev pub is_void : ℕ → SetState → Ask → Bool
+is_void me s ask = ask.node == me && is_gone s ask.client
+
 -- neither another node nor an ask before it conflicts with the ask
 abbrev pub is_free : ℕ → SetState → Desk → Modes → Ask → Bool
 is_free me s desk before ask = not (has ask.mode (bars (union (others me s desk ask.node) before)))
@@ -82,8 +94,12 @@ is_copy me s desk ask =
     not (ask.node == me) && (covers (others me s desk ask.node) ask.mode && is_clear_at_home me s desk ask)
 
 -- the ask is free, and either local or a copy
+abbrev pub is_ready : ℕ → SetState → Desk → Modes → Ask → Bool
+is_ready me s desk before ask = is_free me s desk before ask && (is_local me s desk ask || is_copy me s desk ask)
+
+-- the ask is ready, or one of this node that was given up: that one leaves the queue, whatever conflicts with it
 abbrev pub is_served : ℕ → SetState → Desk → Modes → Ask → Bool
-is_served me s desk before ask = is_free me s desk before ask && (is_local me s desk ask || is_copy me s desk ask)
+is_served me s desk before ask = is_void me s ask || is_ready me s desk before ask
 
 -- the first ask that is served, of those from place k on
 abbrev pub next_from : ℕ → SetState → Desk → Modes → ℕ → List Ask → Option ℕ
@@ -115,21 +131,30 @@ answer_by set ask (Some mode) = Change ask.client set mode ask.mode
 abbrev pub answer_event : ℕ → Ask → Event
 answer_event set ask = answer_by set ask ask.gives_up
 
+-- the rows once the ask is answered: one that was given up gets nothing
+abbrev pub rows_after : SetState → Ask → List Row
+rows_after s ask = if is_gone s ask.client then s.held else answered s.held ask
+
+-- the line that tells the answer
+abbrev pub end_event : ℕ → SetState → Ask → Event
+end_event set s ask = if is_gone s ask.client then Void ask.client set ask.mode else answer_event set ask
+
 -- the ask at place k of the queue
 abbrev pub ask_at : SetState → ℕ → Ask
 ask_at s k = slice_index_or (queue_of s) k no_ask
 
--- the ask at place k is granted and waits no more
+-- the ask at place k is answered and waits no more
 abbrev pub served : SetState → ℕ → SetState
 served s k = record s {
-  held = answered s.held (ask_at s k);
+  held = rows_after s (ask_at s k);
   pending = without s.pending (ask_at s k).stamp;
+  gone = without_gone s.gone (ask_at s k).client;
   desk = put_queue (remove (queue_of s) k) s.desk;
 }
 
--- a local ask: its client gets the lock
+-- a local ask: its client gets the lock, unless the ask was given up
 abbrev pub serve_local : ℕ → ℕ → SetState → Made
-serve_local set k s = record { state = served s k; posts = []; events = answer_event set (ask_at s k) ∷ [] }
+serve_local set k s = record { state = served s k; posts = []; events = end_event set s (ask_at s k) ∷ [] }
 
 -- the entry of a node that was sent a copy for the ask
 abbrev pub owing : Ask → Entry → Entry
@@ -184,9 +209,9 @@ move_at me s (Some desk) = draw_from me s desk no_modes 0 desk.queue
 abbrev pub next_draw : ℕ → SetState → Option ℕ
 next_draw me s = move_at me s s.desk
 
--- an ask of the client is unanswered
+-- an ask of the client is unanswered, and wasn't given up
 abbrev pub waits : SetState → ℕ → Bool
-waits s client = list_any (λ (ask : Ask). ask.client == client) s.pending
+waits s client = list_any (λ (ask : Ask). ask.client == client) s.pending && not (is_gone s client)
 
 -- Handing over: the desk goes to another node, in a letter.
 

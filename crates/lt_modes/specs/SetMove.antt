@@ -1,17 +1,18 @@
 -- The way of asks and tells to the desk.
+use Rattle.lt_modes.specs.Waiting.{pending_ask}
 use Rattle.std.specs.Prelude.{Bool, true, false, ◌&&◌, ◌==◌, not, nat_lt, ℕ, List, [], ◌∷◌, ◌++◌, Option, Some, None, if◌then◌else◌, is_some, fold}
 use Rattle.std.specs.List.{list_any}
 use Rattle.lt_modes.specs.declared.stamp.Stamp.{Stamp}
 use Rattle.lt_modes.specs.declared.ask.Ask.{Ask}
 use Rattle.lt_modes.specs.declared.parts.Link.{Link}
 use Rattle.lt_modes.specs.declared.parts.Hoped.{Hoped}
-use Rattle.lt_modes.specs.Modes.{excludes_itself, bars, same_modes, held_modes, Modes, with_mode, count_of, add_lock, take_lock, without_client}
-use Rattle.lt_modes.specs.State.{SetState, Desk, Body, AskBody, TellBody, Parked, ParkedAsk, ParkedTell, entered, Made, silent, post_of, Tell, then_do, CopyBody, TokenBody, FreezeBody, Letter, without}
-use Rattle.lt_modes.specs.Serving.{is_newer, tell_applied, serve, hand_over, stamps_of, answered, answer_event, give_up}
+use Rattle.lt_modes.specs.Modes.{excludes_itself, bars, same_modes, held_modes, Modes, with_mode, count_of, add_lock, take_lock, without_client, same_mode}
+use Rattle.lt_modes.specs.State.{SetState, Desk, Body, AskBody, TellBody, Parked, ParkedAsk, ParkedTell, entered, Made, silent, post_of, Tell, then_do, CopyBody, TokenBody, FreezeBody, Letter, without, no_ask, same_choice}
+use Rattle.lt_modes.specs.Serving.{is_newer, tell_applied, serve, hand_over, stamps_of, rows_after, end_event, give_up, is_gone, without_gone, waits}
 use Rattle.lt_modes.specs.Freezing.{freeze, is_holder, can_grant}
 use Rattle.lt_modes.specs.declared.mode.Mode.{Mode}
 use Rattle.lt_modes.specs.declared.event.Event.{Event}
-use Rattle.lt_modes.specs.declared.event.Event.TheVariants.{Grant, Wait, Try, Unlock, NotHeld, Change}
+use Rattle.lt_modes.specs.declared.event.Event.TheVariants.{Grant, Wait, Try, Unlock, NotHeld, Change, Withdraw, Withdrawn, Withheld}
 
 -- a link with a greater epoch becomes firm, and then nothing is hoped
 abbrev pub learn : Link → SetState → SetState
@@ -113,12 +114,17 @@ finish set stamp s = finish_by set stamp s s.desk
 abbrev pub charged : SetState → Ask → Modes
 charged s ask = if is_some s.desk then s.charge else with_mode s.charge ask.mode
 
--- a copy answers its ask
+-- a copy answers its ask; where that was given up, nothing but the charge is gained, and the end of the move tells the desk
 abbrev pub take_copy : ℕ → Ask → SetState → Made
 take_copy set ask s = record {
-  state = record s { held = answered s.held ask; pending = without s.pending ask.stamp; charge = charged s ask };
+  state = record s {
+    held = rows_after s ask;
+    pending = without s.pending ask.stamp;
+    gone = without_gone s.gone ask.client;
+    charge = charged s ask;
+  };
   posts = [];
-  events = answer_event set ask ∷ [];
+  events = end_event set s ask ∷ [];
 }
 
 -- a freeze is kept where its number is greater
@@ -178,11 +184,27 @@ asked set stamp ask s =
     (answers (Wait ask.client set ask.mode) (record s { pending = s.pending ++ ask ∷ [] }))
     (route set stamp false (ParkedAsk ask))
 
+-- the asks want the same, and give up the same
+abbrev pub same_wish : Ask → Option Ask → Bool
+same_wish ask None = false
+same_wish ask (Some old) = same_mode ask.mode old.mode && same_choice ask.gives_up old.gives_up
+
+-- the client has an ask here that was given up: it takes up one that wants the same; for another it can't ask
+abbrev pub retaken : ℕ → Ask → SetState → Made
+retaken set ask s =
+    if same_wish ask (pending_ask s ask.client)
+    then answers (Wait ask.client set ask.mode) (record s { gone = without_gone s.gone ask.client })
+    else answers (Withheld ask.client set ask.mode) s
+
+-- the client asks, unless an ask of it that was given up is still here
+abbrev pub asked_or_not : ℕ → Stamp → Ask → SetState → Made
+asked_or_not set stamp ask s = if is_gone s ask.client then retaken set ask s else asked set stamp ask s
+
 abbrev pub locked : ℕ → Stamp → ℕ → Mode → SetState → Made
 locked set stamp client mode s =
     if can_grant stamp.node s client mode
     then granted set client mode s
-    else asked set stamp (ask_of stamp client mode None s) s
+    else asked_or_not set stamp (ask_of stamp client mode None s) s
 
 abbrev pub tried : ℕ → Stamp → ℕ → Mode → SetState → Made
 tried set stamp client mode s =
@@ -200,7 +222,7 @@ abbrev pub change_held : ℕ → Stamp → ℕ → Mode → Mode → SetState �
 change_held set stamp client gives_up mode s =
     if can_grant stamp.node s client mode
     then answers (Change client set gives_up mode) (given client mode (Some gives_up) s)
-    else asked set stamp (ask_of stamp client mode (Some gives_up) s) s
+    else asked_or_not set stamp (ask_of stamp client mode (Some gives_up) s) s
 
 abbrev pub changed : ℕ → Stamp → ℕ → Mode → Mode → SetState → Made
 changed set stamp client gives_up mode s =
@@ -211,6 +233,23 @@ changed set stamp client gives_up mode s =
 -- the client has no lock in the set any more
 abbrev pub dropped : ℕ → SetState → SetState
 dropped client s = record s { held = without_client s.held client }
+
+-- the mode that the ask wants
+abbrev pub mode_wanted : Option Ask → Mode
+mode_wanted None = no_ask.mode
+mode_wanted (Some ask) = ask.mode
+
+-- what the other client waits for here is given up: its ask stays where it stands
+abbrev pub given_up : ℕ → ℕ → ℕ → SetState → Made
+given_up set client other s = record {
+  state = record s { gone = other ∷ s.gone };
+  posts = [];
+  events = Withdrawn other set (mode_wanted (pending_ask s other)) ∷ Withdraw client other set true ∷ [];
+}
+
+abbrev pub withdrawn : ℕ → ℕ → ℕ → SetState → Made
+withdrawn set client other s =
+    if waits s other then given_up set client other s else answers (Withdraw client other set false) s
 
 -- a `lock` of the client at its node, in a move with this stamp
 abbrev pub lock : ℕ → Stamp → ℕ → Mode → SetState → Made
@@ -231,6 +270,10 @@ change set stamp client gives_up mode s = then_do (changed set stamp client give
 -- the part of a `drop` in one set of the family: all locks of the client go; the answer stands before all sets
 abbrev pub drop : ℕ → Stamp → ℕ → SetState → Made
 drop set stamp client s = finish set stamp (dropped client s)
+
+-- a `withdraw`: the client gives up what another one of its node, or it itself, waits for here
+abbrev pub withdraw : ℕ → Stamp → ℕ → ℕ → SetState → Made
+withdraw set stamp client other s = then_do (withdrawn set client other s) (finish set stamp)
 
 -- a letter is taken
 abbrev pub take : Stamp → Letter → SetState → Made

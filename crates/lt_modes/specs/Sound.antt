@@ -1,4 +1,5 @@
 -- What holds of the state that a node keeps for a set, at the start and after each move.
+use Rattle.lt_modes.specs.Serving.{is_gone}
 use Rattle.std.specs.Prelude.{◌≡◌, ◌≢◌, ◌⊎◌, ◌≤◌, ◌<◌, Bool, true, false, ℕ, List, [], Option, Some, None, IsTrue, IfSome, All, AllPairs, length, slice_index}
 use Rattle.lt_modes.specs.declared.mode.Mode.{Mode}
 use Rattle.lt_modes.specs.declared.ask.Ask.{Ask}
@@ -30,12 +31,13 @@ abbrev pub HoldsGivenUp : List Row → ℕ → Option Mode → Type 0
 HoldsGivenUp held client None = Unit {0}
 HoldsGivenUp held client (Some mode) = 1 ≤ count_of held client mode
 
--- an unanswered ask of node q was made by a client of it, in a move of it, and what it gives up is held
-pub record SoundPending (numbers : Numbers) (q : ℕ) (held : List Row) (ask : Ask) : Type 0 where
+-- an unanswered ask of node q was made by a client of it, in a move of it, and what it gives up is held, unless the ask
+-- itself was given up
+pub record SoundPending (numbers : Numbers) (q : ℕ) (s : SetState) (ask : Ask) : Type 0 where
   pub home : IsTrue (is_at_home numbers ask)
   pub node : ask.node ≡ q
   pub maker : ask.stamp.node ≡ q
-  pub gives_up : HoldsGivenUp held ask.client ask.gives_up
+  pub gives_up : is_gone s ask.client ≡ false → HoldsGivenUp s.held ask.client ask.gives_up
 
 -- an ask that is parked or queued at node q is of a client of its node; where that is q, it is unanswered
 pub record SoundHere (numbers : Numbers) (q : ℕ) (s : SetState) (ask : Ask) : Type 0 where
@@ -63,7 +65,7 @@ SoundParked numbers (ParkedTell tell) = tell.node < numbers.nodes
 pub record SoundSet (numbers : Numbers) (q : ℕ) (moving unfrozen : Bool) (clock : ℕ) (s : SetState) : Type 0 where
   pub rows : All (SoundRow numbers q) s.held
   pub rows_apart : AllPairs (λ (a b : Row). (a.client ≢ b.client) ⊎ (a.mode ≢ b.mode)) s.held
-  pub pending : All (SoundPending numbers q s.held) s.pending
+  pub pending : All (SoundPending numbers q s) s.pending
   pub one_ask : AllPairs (λ (a b : Ask). a.client ≢ b.client) s.pending
   pub stamps_apart : AllPairs (λ (a b : Ask). a.stamp ≢ b.stamp) s.pending
   pub made : All (λ (ask : Ask). ask.stamp.clock ≤ clock) s.pending

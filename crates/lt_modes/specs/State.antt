@@ -54,7 +54,7 @@ pub data Parked : Type 0 where
   ParkedAsk : Ask → Parked
   ParkedTell : Tell → Parked
 
--- what a node keeps for one set
+-- what a node keeps for one set; `gone` are the clients whose unanswered ask here was given up
 pub record SetState : Type 0 where
   pub held : List Row
   pub charge : Modes
@@ -65,6 +65,7 @@ pub record SetState : Type 0 where
   pub pending : List Ask
   pub parked : List Parked
   pub desk : Option Desk
+  pub gone : List ℕ
 
 -- the desk knows nothing of a node yet
 abbrev pub first_entry : Entry
@@ -82,6 +83,7 @@ lone_state held pending queue = record {
   pending = pending;
   parked = [];
   desk = Some (record { epoch = 0; number = 0; queue = queue; entries = first_entry ∷ [] });
+  gone = [];
 }
 
 -- the desk of a set in which nothing was asked, with an entry for each of so many nodes
@@ -100,6 +102,7 @@ first_state nodes q = record {
   pending = [];
   parked = [];
   desk = if q == 0 then Some (first_desk nodes) else None;
+  gone = [];
 }
 
 -- What a rule makes of one set at one node: the new state, letters and event lines.

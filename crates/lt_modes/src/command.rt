@@ -25,4 +25,9 @@ pub enum Command {
         client: u16,
         set: u32,
     },
+    /// Gives up what `client` waits for in `set`; its locks stay.
+    Withdraw {
+        client: u16,
+        set: u32,
+    },
 }

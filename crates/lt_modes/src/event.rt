@@ -49,6 +49,31 @@ pub enum Event {
         other: u16,
         set: u32,
     },
+    /// `client` gave up what `other` waited for in `set`, or `other` waited for nothing there.
+    Withdraw {
+        client: u16,
+        other: u16,
+        set: u32,
+        got: bool,
+    },
+    /// `client` waited for this, and waits no more.
+    Withdrawn {
+        client: u16,
+        set: u32,
+        mode: Mode,
+    },
+    /// An ask of `client` that was given up is answered; the client gets nothing.
+    Void {
+        client: u16,
+        set: u32,
+        mode: Mode,
+    },
+    /// `client` can't ask, since an ask of it that was given up is still unanswered in the set.
+    Withheld {
+        client: u16,
+        set: u32,
+        mode: Mode,
+    },
     Copy {
         set: u32,
         to: u8,

@@ -45,9 +45,9 @@ transaction_form t (verb ∷ a ∷ b ∷ []) = long_form t verb a b
 transaction_form t words = None
 
 -- the form of a line with these words: the first word decides whether it declares a set
-abbrev pub line_form : List (List ℕ) → Option NestFormData
-line_form [] = None
-line_form (w ∷ ws) = if bytes_eq w (codes "set") then set_line_form ws else transaction_form w ws
+abbrev pub form_of_words : List (List ℕ) → Option NestFormData
+form_of_words [] = None
+form_of_words (w ∷ ws) = if bytes_eq w (codes "set") then set_line_form ws else transaction_form w ws
 
 -- what the code's values stand for
 abbrev pub form_data : Form → NestFormData

@@ -10,7 +10,7 @@ use Rattle.lt_nest_lines.specs.declared.order.Order.{Order}
 use Rattle.lt_nest_lines.specs.declared.order.Order.TheVariants.{Begin, BeginIn, Lock, Try, Commit, Abort}
 use Rattle.lt_nest_lines.specs.declared.reading.ReadError.{ReadError}
 use Rattle.lt_nest_lines.specs.declared.reading.ReadError.TheVariants as errors
-use Rattle.lt_nest_lines.specs.Forms.{NestFormData, SetForm, BeginForm, BeginInForm, LockForm, TryForm, CommitForm, AbortForm, line_form}
+use Rattle.lt_nest_lines.specs.Forms.{NestFormData, SetForm, BeginForm, BeginInForm, LockForm, TryForm, CommitForm, AbortForm, form_of_words}
 
 -- the sets and transactions that lines declare, in order, and what the other lines order
 pub record InputData : Type 0 where
@@ -112,7 +112,7 @@ input_after_words d (Some form) = if nat_lt (line_count d) MAX_LINES then input_
 
 -- the input after a line; none where it is refused
 unfoldable pub input_after_line : InputData → List ℕ → Option InputData
-input_after_line d line = if says_nothing (words line) then Some d else input_after_words d (line_form (words line))
+input_after_line d line = if says_nothing (words line) then Some d else input_after_words d (form_of_words (words line))
 
 -- what the rest makes of the input after the line with this number, or that number where it is refused
 abbrev pub read_further : ℕ → (InputData → Result InputData ℕ) → Option InputData → Result InputData ℕ

@@ -22,7 +22,8 @@ pub record PlayState : Type 0 where
 abbrev pub first_play : ℕ → PlayState
 first_play sets = record { nest = new_nest sets; numbers = [] }
 
--- the number in the nest of the declared transaction t; one that wasn't begun has a number that no transaction of a nest has
+-- the number in the nest of the declared transaction t; one that wasn't begun has a number that no transaction of a
+-- nest has
 abbrev pub nest_number_of : PlayState → ℕ → ℕ
 nest_number_of p t = unwrap_or (slice_index_or p.numbers t None) NOBODY
 

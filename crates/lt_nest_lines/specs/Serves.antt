@@ -56,7 +56,8 @@ Repeated = written_of (input_of (codes "set s\ns begin\n")) ≡ Err 2
 abbrev pub BeginIsNoName : Type 0
 BeginIsNoName = written_of (input_of (codes "begin begin\n")) ≡ Err 1
 
--- All that the top call says of an answer: what was written, why the answer comes, and what it says of the source and the sink.
+-- All that the top call says of an answer: what was written, why the answer comes, and what it says of the source and
+-- the sink.
 
 -- no line of the bytes is refused, and this is what is written of them
 abbrev pub IsTextOf : List ℕ → List ℕ → Type 0
@@ -87,8 +88,8 @@ IsInputFault bytes (Refused line) = input_of bytes ≡ Err line
 IsInputFault bytes NoMemory = LinesMayWantMemory bytes
 IsInputFault bytes other = ⊥
 
--- where memory may be wanting: bytes came, but the end was not found; or all was read, and if it is known, its first line
--- that isn't skipped is not refused
+-- where memory may be wanting: bytes came, but the end was not found; or all was read, and if it is known, its first
+-- line that isn't skipped is not refused
 abbrev pub LinesWantMemory : SourceState → SourceState → Type 0
 LinesWantMemory before after =
     CameInPart before after ⊎ (IsReadWhole MAX_INPUT before after × IfSome before.left LinesMayWantMemory)

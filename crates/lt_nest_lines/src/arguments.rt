@@ -18,8 +18,10 @@ pub fn program<S: Source, K: Sink>(
     sink: &mut K,
 ) -> Answer
     ensures served { IfOk words.now (λ texts. ServesLines S.state K.held K.faults K.pace (length texts.items) result source.old source.new sink.old sink.new) }
-    ensures no_memory { IfErr words.now (λ error. error_kind error ≡ ErrorKind.OutOfMemory → outcome_of result ≡ Outcome.NoMemory) }
-    ensures no_text { IfErr words.now (λ error. error_kind error ≢ ErrorKind.OutOfMemory → outcome_of result ≡ Outcome.Usage) }
+    ensures no_memory { IfErr words.now (λ error. error_kind error ≡ ErrorKind.OutOfMemory
+        → outcome_of result ≡ Outcome.NoMemory) }
+    ensures no_text { IfErr words.now (λ error. error_kind error ≢ ErrorKind.OutOfMemory
+        → outcome_of result ≡ Outcome.Usage) }
     ensures unread { IfErr words.now (λ error. source.new ≡ source.old) }
     ensures unwritten { IfErr words.now (λ error. sink.new ≡ sink.old) }
 {

@@ -21,7 +21,8 @@ pub(crate) fn push_closing(out: &mut Vec<u8>, input: &Input, play: &Play) -> Res
 // Writes the lines of all locks, by transaction.
 fn push_held(out: &mut Vec<u8>, input: &Input, play: &Play) -> Result<(), AllocError>
     requires { length play.now.nest.sets ≡ length input.now.sets }
-    ensures { OnOk result (out.new.items ≡ out.old.items ++ each_below (length input.now.transactions) (held_text_of input.now play.now)) }
+    ensures { OnOk result (out.new.items ≡ out.old.items
+        ++ each_below (length input.now.transactions) (held_text_of input.now play.now)) }
 {
     for transaction in 0..input.transactions() {
         push_held_by(out, input, play, transaction)?;
@@ -94,7 +95,8 @@ fn push_last_number(out: &mut Vec<u8>, number: u32) -> Result<(), AllocError>
 
 // Writes the lines of the transactions that wait, in order.
 fn push_waiting(out: &mut Vec<u8>, input: &Input, play: &Play) -> Result<(), AllocError>
-    ensures { OnOk result (out.new.items ≡ out.old.items ++ each_below (length input.now.transactions) (waiting_text_of input.now play.now)) }
+    ensures { OnOk result (out.new.items ≡ out.old.items
+        ++ each_below (length input.now.transactions) (waiting_text_of input.now play.now)) }
 {
     for transaction in 0..input.transactions() {
         push_waiting_line(out, input, transaction, play.waiting(transaction))?;

@@ -1,6 +1,6 @@
 ghost use Rattle.std.specs.Prelude.{◌≡◌, option_map};
 ghost use Rattle.lt_text.specs.Text.{words};
-ghost use Rattle.lt_nest_lines.specs.Forms.{form_data, line_form, set_line_form, transaction_form, short_form, long_form, begin_in_form};
+ghost use Rattle.lt_nest_lines.specs.Forms.{form_data, form_of_words, set_line_form, transaction_form, short_form, long_form, begin_in_form};
 
 use lt_text::{is, next_word};
 
@@ -37,7 +37,7 @@ pub enum Form<'a> {
 
 /// The form of a line; none if it has none.
 pub fn form_of<'a>(line: &'a [u8]) -> Option<Form<'a>>
-    ensures { option_map form_data result ≡ line_form (words line.now) }
+    ensures { option_map form_data result ≡ form_of_words (words line.now) }
 {
     let Some((word, rest)) = next_word(line) else {
         return None;

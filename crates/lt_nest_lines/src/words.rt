@@ -14,7 +14,8 @@ pub(crate) fn push_begin(
     transaction: &[u8],
     parent: &[u8],
 ) -> Result<(), AllocError>
-    ensures { OnOk result (out.new.items ≡ out.old.items ++ line_of_words (begin_answer_words begun transaction.now parent.now)) }
+    ensures { OnOk result (out.new.items ≡ out.old.items
+        ++ line_of_words (begin_answer_words begun transaction.now parent.now)) }
 {
     if begun {
         push_short(out, "begin", transaction)
@@ -31,7 +32,8 @@ pub(crate) fn push_lock(
     set: &[u8],
     mode: Mode,
 ) -> Result<(), AllocError>
-    ensures { OnOk result (out.new.items ≡ out.old.items ++ line_of_words (lock_answer_words answer transaction.now set.now (word_of mode))) }
+    ensures { OnOk result (out.new.items ≡ out.old.items
+        ++ line_of_words (lock_answer_words answer transaction.now set.now (word_of mode))) }
 {
     match answer {
         Asked::Granted => push_ask(out, "grant", transaction, set, mode),
@@ -49,7 +51,8 @@ pub(crate) fn push_try(
     set: &[u8],
     mode: Mode,
 ) -> Result<(), AllocError>
-    ensures { OnOk result (out.new.items ≡ out.old.items ++ line_of_words (try_answer_words answer transaction.now set.now (word_of mode))) }
+    ensures { OnOk result (out.new.items ≡ out.old.items
+        ++ line_of_words (try_answer_words answer transaction.now set.now (word_of mode))) }
 {
     match answer {
         Asked::Granted => push_tried(out, transaction, set, mode, "true"),
@@ -66,7 +69,8 @@ pub(crate) fn push_end(
     answer: Ended,
     transaction: &[u8],
 ) -> Result<(), AllocError>
-    ensures { OnOk result (out.new.items ≡ out.old.items ++ line_of_words (end_answer_words done.now answer transaction.now)) }
+    ensures { OnOk result (out.new.items ≡ out.old.items
+        ++ line_of_words (end_answer_words done.now answer transaction.now)) }
 {
     match answer {
         Ended::Done => push_short(out, done, transaction),
@@ -97,7 +101,8 @@ pub(crate) fn push_ask(
     set: &[u8],
     mode: Mode,
 ) -> Result<(), AllocError>
-    ensures { OnOk result (out.new.items ≡ out.old.items ++ line_of_words (first.now ∷ transaction.now ∷ set.now ∷ word_of mode ∷ [])) }
+    ensures { OnOk result (out.new.items ≡ out.old.items
+        ++ line_of_words (first.now ∷ transaction.now ∷ set.now ∷ word_of mode ∷ [])) }
 {
     push_text(out, first)?;
     push_lock_words(out, transaction, set, mode)?;
@@ -112,7 +117,8 @@ fn push_tried(
     mode: Mode,
     got: &str,
 ) -> Result<(), AllocError>
-    ensures { OnOk result (out.new.items ≡ out.old.items ++ line_of_words (codes "try" ∷ transaction.now ∷ set.now ∷ word_of mode ∷ got.now ∷ [])) }
+    ensures { OnOk result (out.new.items ≡ out.old.items
+        ++ line_of_words (codes "try" ∷ transaction.now ∷ set.now ∷ word_of mode ∷ got.now ∷ [])) }
 {
     push_text(out, "try")?;
     push_lock_words(out, transaction, set, mode)?;
@@ -127,7 +133,8 @@ pub(crate) fn push_lock_words(
     set: &[u8],
     mode: Mode,
 ) -> Result<(), AllocError>
-    ensures { OnOk result (out.new.items ≡ out.old.items ++ each_after_space (transaction.now ∷ set.now ∷ word_of mode ∷ [])) }
+    ensures { OnOk result (out.new.items ≡ out.old.items
+        ++ each_after_space (transaction.now ∷ set.now ∷ word_of mode ∷ [])) }
 {
     push_word(out, transaction)?;
     push_word(out, set)?;

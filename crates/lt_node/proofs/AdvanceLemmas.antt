@@ -11,7 +11,7 @@ use Rattle.lt_modes.specs.declared.command.Command.{Command}
 use Rattle.lt_modes.specs.Script.{ScriptData}
 use Rattle.lt_lists.specs.Below.{put}
 use Rattle.lt_lists.proofs.Members.{few_filtered, filter_map-which, some_equal}
-use Rattle.lt_spec.specs.Script.{IsScript, IsRequest, HasTargets, HasModesOf}
+use Rattle.lt_spec.specs.Script.{IsScript, IsRequest, HasTargets, IsOfVersion}
 use Rattle.lt_spec.specs.NodeMove.{commands_of, command_if, home, NodeState, next_command, has_command, one_made, at_clock}
 use Rattle.lt_spec.specs.declared.limits.TheConstants.{MAX_COMMANDS_OF_SERVICE}
 use Rattle.lt_script.proofs.ScriptLemmas.{command_added}
@@ -201,7 +201,7 @@ pub record MayAppend (n : NodeData) (client : ℕ) (command : Command) : Type 0 
   pub inside : client < length n.script.clients
   pub here : home n.script client ≡ n.me
   pub targets : HasTargets n.script.sets n.script.clients client command
-  pub modes : HasModesOf n.script.version command
+  pub modes : IsOfVersion n.script.version command
   pub room : length n.script.commands < MAX_COMMANDS_OF_SERVICE
 
 appended_here : (m : NodeData) (homes : List ℕ) (clients : List Progress) (client : ℕ) (progress : Progress) (command : Command)

@@ -1,7 +1,8 @@
 -- In how many sets a client waits.
-use Rattle.std.proofs.Common.{◌≡◌, ◌≢◌, ◌+◌, ◌<◌, ◌≤◌, ◌==◌, ◌||◌, ◌∙◌, Bool, true, false, ℕ, zero, suc, List, length, take, refl, sym, ap, arith, inl, inr, not, slice_index_or, if◌then◌else◌, eq-eqb, ne_eqb}
+use Rattle.std.proofs.Common.{◌≡◌, ◌≢◌, ◌+◌, ◌<◌, ◌≤◌, ◌==◌, ◌||◌, ◌&&◌, ◌∙◌, Bool, true, false, ℕ, zero, suc, List, length, take, refl, sym, ap, arith, inl, inr, not, slice_index_or, if◌then◌else◌, eq-eqb, ne_eqb}
+use Rattle.std.specs.List.{list_any}
 use Rattle.std.proofs.Math.Bool.{or-false, or-true}
-use Rattle.std.proofs.lemmas.Bool.{cases_eq, cases_lt, cases_Bool, eqb-true, not-true, not-false}
+use Rattle.std.proofs.lemmas.Bool.{and_parts, cases_eq, cases_lt, cases_Bool, eqb-true, not-true}
 use Rattle.std.proofs.lemmas.List.Folds.{list_any_more}
 use Rattle.std.proofs.lemmas.List.{get_or_default, get_or_past, get_or-take, length-take-le}
 use Rattle.lt_modes.specs.declared.ask.Ask.{Ask}
@@ -85,101 +86,140 @@ found_before asks j k before inside same =
 abbrev client_at : List Ask → ℕ → ℕ
 client_at asks k = (slice_index_or asks k no_ask).client
 
--- no ask before it is of its client
-abbrev IsNew : List Ask → ℕ → Type 0
-IsNew asks k = not (has_client (client_at asks k) (take k asks)) ≡ true
+-- the client isn't among these
+abbrev lives : List ℕ → ℕ → Bool
+lives gone client = not (list_any (λ other. other == client) gone)
 
-abbrev IsOld : List Ask → ℕ → Type 0
-IsOld asks k = not (has_client (client_at asks k) (take k asks)) ≡ false
+-- no ask before it is of its client, and it wasn't given up
+abbrev IsNew : List Ask → List ℕ → ℕ → Type 0
+IsNew asks gone k = (not (has_client (client_at asks k) (take k asks)) && lives gone (client_at asks k)) ≡ true
 
-none_yet : (asks : List Ask) (k : ℕ) → IsNew asks k → asks_of (take k asks) (client_at asks k) ≡ 0
-none_yet asks k new = ap one_here (not-true _ new)
+abbrev IsOld : List Ask → List ℕ → ℕ → Type 0
+IsOld asks gone k = (not (has_client (client_at asks k) (take k asks)) && lives gone (client_at asks k)) ≡ false
 
-asks_more : (asks : List Ask) (k client : ℕ) → k < length asks
-    → asks_of (take (k + 1) asks) client ≡ one_here (has_client client (take k asks) || (client_at asks k == client))
-asks_more asks k client inside = ap one_here (list_any_more (λ (a : Ask). a.client == client) asks k no_ask inside)
+-- what counts in a list of asks, where one is of the client
+abbrev counted : List ℕ → ℕ → Bool → ℕ
+counted gone client b = one_here (b && lives gone client)
+
+none_yet : (asks : List Ask) (gone : List ℕ) (k : ℕ) → IsNew asks gone k → asks_of (take k asks) gone (client_at asks k) ≡ 0
+none_yet asks gone k new = ap (counted gone (client_at asks k)) (not-true _ (and_parts _ _ new).0)
+
+asks_more : (asks : List Ask) (gone : List ℕ) (k client : ℕ) → k < length asks
+    → asks_of (take (k + 1) asks) gone client ≡ counted gone client (has_client client (take k asks) || (client_at asks k == client))
+asks_more asks gone k client inside = ap (counted gone client) (list_any_more (λ (a : Ask). a.client == client) asks k no_ask inside)
+
+-- an ask of another client changes nothing
+other_more : (asks : List Ask) (gone : List ℕ) (k client : ℕ) → k < length asks → (client_at asks k == client) ≡ false
+    → asks_of (take (k + 1) asks) gone client ≡ asks_of (take k asks) gone client
+other_more asks gone k client inside other =
+    asks_more asks gone k client inside ∙ ap (λ (b : Bool). counted gone client (has_client client (take k asks) || b)) other
+    ∙ ap (counted gone client) (or-false (has_client client (take k asks)))
 
 -- it is of one client more
-new_more : (asks : List Ask) (k client : ℕ) → k < length asks → IsNew asks k
-    → asks_of (take (k + 1) asks) client ≡ asks_of (take k asks) client + (if client_at asks k == client then 1 else 0)
-new_more asks k client inside new = elim (cases_Bool (client_at asks k == client)) [
+new_more : (asks : List Ask) (gone : List ℕ) (k client : ℕ) → k < length asks → IsNew asks gone k
+    → asks_of (take (k + 1) asks) gone client ≡ asks_of (take k asks) gone client + (if client_at asks k == client then 1 else 0)
+new_more asks gone k client inside new = elim (cases_Bool (client_at asks k == client)) [
   | inl same ↦
-      let none : asks_of (take k asks) client ≡ 0 = ap (asks_of (take k asks)) (sym (eqb-true _ _ same)) ∙ none_yet asks k new in
-      let more : asks_of (take (k + 1) asks) client ≡ 1 =
-      asks_more asks k client inside ∙ ap (λ (b : Bool). one_here (has_client client (take k asks) || b)) same ∙ ap one_here (or-true (has_client client (take k asks))) in
+      let is = eqb-true _ _ same in
+      let none : asks_of (take k asks) gone client ≡ 0 = ap (asks_of (take k asks) gone) (sym is) ∙ none_yet asks gone k new in
+      let live : lives gone client ≡ true =
+      ap (lives gone) (sym is) ∙ (and_parts (not (has_client (client_at asks k) (take k asks))) (lives gone (client_at asks k)) new).1 in
+      let more : asks_of (take (k + 1) asks) gone client ≡ 1 =
+      asks_more asks gone k client inside ∙ ap (λ (b : Bool). counted gone client (has_client client (take k asks) || b)) same
+      ∙ ap (counted gone client) (or-true (has_client client (take k asks))) ∙ ap one_here live in
       let one : one_here (client_at asks k == client) ≡ 1 = ap one_here same in
       omega (arith, none, more, one)
   | inr other ↦
-      let more : asks_of (take (k + 1) asks) client ≡ asks_of (take k asks) client =
-      asks_more asks k client inside ∙ ap (λ (b : Bool). one_here (has_client client (take k asks) || b)) other ∙ ap one_here (or-false (has_client client (take k asks))) in
       let zero_here : one_here (client_at asks k == client) ≡ 0 = ap one_here other in
-      omega (arith, more, zero_here)
+      omega (arith, other_more asks gone k client inside other, zero_here)
 ]
 
--- it is of one that was there
-old_more : (asks : List Ask) (k client : ℕ) → k < length asks → IsOld asks k
-    → asks_of (take (k + 1) asks) client ≡ asks_of (take k asks) client
-old_more asks k client inside old = asks_more asks k client inside ∙ elim (cases_Bool (client_at asks k == client)) [
+dead_counts : (b live : Bool) → live ≡ false → one_here (b && live) ≡ 0
+dead_counts true live dead = ap one_here dead
+dead_counts false live dead = refl
+
+-- where an ask before it is of its client, or it was given up, it counts nothing
+same_again : (asks : List Ask) (gone : List ℕ) (k client : ℕ) → k < length asks
+    → (has live : Bool) → has_client client (take k asks) ≡ has → lives gone client ≡ live → (not has && live) ≡ false
+    → asks_of (take (k + 1) asks) gone client ≡ asks_of (take k asks) gone client
+same_again asks gone k client inside true live here is old =
+    asks_more asks gone k client inside ∙ ap (λ (b : Bool). counted gone client (b || (client_at asks k == client))) here
+    ∙ sym (ap (counted gone client) here)
+same_again asks gone k client inside false live here is old =
+    asks_more asks gone k client inside ∙ dead_counts _ _ (is ∙ old) ∙ sym (dead_counts _ _ (is ∙ old))
+
+-- it is of one that was there, or was given up
+old_more : (asks : List Ask) (gone : List ℕ) (k client : ℕ) → k < length asks → IsOld asks gone k
+    → asks_of (take (k + 1) asks) gone client ≡ asks_of (take k asks) gone client
+old_more asks gone k client inside old = elim (cases_Bool (client_at asks k == client)) [
   | inl same ↦
-      let here : has_client client (take k asks) ≡ true = ap (λ (c : ℕ). has_client c (take k asks)) (sym (eqb-true _ _ same)) ∙ not-false _ old in
-      ap (λ (b : Bool). one_here (b || (client_at asks k == client))) here ∙ sym (ap one_here here)
-  | inr other ↦ ap (λ (b : Bool). one_here (has_client client (take k asks) || b)) other ∙ ap one_here (or-false (has_client client (take k asks)))
+      same_again asks gone k client inside (has_client client (take k asks)) (lives gone client) refl refl
+      (ap (λ (c : ℕ). not (has_client c (take k asks)) && lives gone c) (sym (eqb-true _ _ same)) ∙ old)
+  | inr other ↦ other_more asks gone k client inside other
 ]
 
-pub WaitMore_new : (asks : List Ask) (k : ℕ) (old mid new : List ℕ) → k < length asks → IsNew asks k → WaitMore (take k asks) old mid → length new ≡ length mid
+pub WaitMore_new : (asks : List Ask) (gone : List ℕ) (k : ℕ) (old mid new : List ℕ) → k < length asks → IsNew asks gone k
+    → WaitMore (take k asks) gone old mid → length new ≡ length mid
     → ((other : ℕ) → other < length mid → slice_index_or new other 0 ≡ slice_index_or mid other 0 + (if client_at asks k == other then 1 else 0))
-    → WaitMore (take (k + 1) asks) old new
-WaitMore_new asks k old mid new inside is_new more count each = record {
+    → WaitMore (take (k + 1) asks) gone old new
+WaitMore_new asks gone k old mid new inside is_new more count each = record {
   count = count ∙ more.count;
-  each = λ client within. omega (arith, each client (omega (arith, within, more.count)), more.each client within, new_more asks k client inside is_new);
+  each = λ client within. omega (arith, each client (omega (arith, within, more.count)), more.each client within, new_more asks gone k client inside is_new);
 }
 
-pub WaitMore_old : (asks : List Ask) (k : ℕ) (old mid : List ℕ) → k < length asks → IsOld asks k → WaitMore (take k asks) old mid → WaitMore (take (k + 1) asks) old mid
-WaitMore_old asks k old mid inside is_old more = record {
+pub WaitMore_old : (asks : List Ask) (gone : List ℕ) (k : ℕ) (old mid : List ℕ) → k < length asks → IsOld asks gone k
+    → WaitMore (take k asks) gone old mid → WaitMore (take (k + 1) asks) gone old mid
+WaitMore_old asks gone k old mid inside is_old more = record {
   count = more.count;
-  each = λ client within. more.each client within ∙ ap (λ (n : ℕ). slice_index_or old client 0 + n) (sym (old_more asks k client inside is_old));
+  each = λ client within. more.each client within ∙ ap (λ (n : ℕ). slice_index_or old client 0 + n) (sym (old_more asks gone k client inside is_old));
 }
 
-pub WaitLess_new : (asks : List Ask) (k : ℕ) (old mid new : List ℕ) → k < length asks → IsNew asks k → WaitLess (take k asks) old mid → length new ≡ length mid
+pub WaitLess_new : (asks : List Ask) (gone : List ℕ) (k : ℕ) (old mid new : List ℕ) → k < length asks → IsNew asks gone k
+    → WaitLess (take k asks) gone old mid → length new ≡ length mid
     → ((other : ℕ) → other < length mid → slice_index_or new other 0 + (if client_at asks k == other then 1 else 0) ≡ slice_index_or mid other 0)
-    → WaitLess (take (k + 1) asks) old new
-WaitLess_new asks k old mid new inside is_new less count each = record {
+    → WaitLess (take (k + 1) asks) gone old new
+WaitLess_new asks gone k old mid new inside is_new less count each = record {
   count = count ∙ less.count;
-  each = λ client within. omega (arith, each client (omega (arith, within, less.count)), less.each client within, new_more asks k client inside is_new);
+  each = λ client within. omega (arith, each client (omega (arith, within, less.count)), less.each client within, new_more asks gone k client inside is_new);
 }
 
-pub WaitLess_old : (asks : List Ask) (k : ℕ) (old mid : List ℕ) → k < length asks → IsOld asks k → WaitLess (take k asks) old mid → WaitLess (take (k + 1) asks) old mid
-WaitLess_old asks k old mid inside is_old less = record {
+pub WaitLess_old : (asks : List Ask) (gone : List ℕ) (k : ℕ) (old mid : List ℕ) → k < length asks → IsOld asks gone k
+    → WaitLess (take k asks) gone old mid → WaitLess (take (k + 1) asks) gone old mid
+WaitLess_old asks gone k old mid inside is_old less = record {
   count = less.count;
-  each = λ client within. ap (λ (n : ℕ). slice_index_or mid client 0 + n) (old_more asks k client inside is_old) ∙ less.each client within;
+  each = λ client within. ap (λ (n : ℕ). slice_index_or mid client 0 + n) (old_more asks gone k client inside is_old) ∙ less.each client within;
 }
 
 -- its client's number is still as it was
-pub still_few : (asks : List Ask) (k : ℕ) (old mid : List ℕ) → IsNew asks k → WaitMore (take k asks) old mid → ((client : ℕ) → slice_index_or old client 0 ≤ MAX_SETS_OF_SERVICE)
+pub still_few : (asks : List Ask) (gone : List ℕ) (k : ℕ) (old mid : List ℕ) → IsNew asks gone k → WaitMore (take k asks) gone old mid
+    → ((client : ℕ) → slice_index_or old client 0 ≤ MAX_SETS_OF_SERVICE)
     → slice_index_or mid (client_at asks k) 0 ≤ MAX_SETS_OF_SERVICE
-still_few asks k old mid new more few = elim (cases_lt (client_at asks k) (length old)) [
-  | inl within ↦ omega (arith, few (client_at asks k), more.each (client_at asks k) within, none_yet asks k new)
+still_few asks gone k old mid new more few = elim (cases_lt (client_at asks k) (length old)) [
+  | inl within ↦ omega (arith, few (client_at asks k), more.each (client_at asks k) within, none_yet asks gone k new)
   | inr past ↦ omega (arith, get_or_past mid (client_at asks k) 0 (omega (arith, past, more.count)))
 ]
 
-pub some_left : (asks : List Ask) (k : ℕ) (old mid : List ℕ) → k < length asks → IsNew asks k → WaitLess (take k asks) old mid
-    → ((client : ℕ) → client < length old → asks_of asks client ≤ slice_index_or old client 0) → client_at asks k < length mid
+pub some_left : (asks : List Ask) (gone : List ℕ) (k : ℕ) (old mid : List ℕ) → k < length asks → IsNew asks gone k → WaitLess (take k asks) gone old mid
+    → ((client : ℕ) → client < length old → asks_of asks gone client ≤ slice_index_or old client 0) → client_at asks k < length mid
     → 0 < slice_index_or mid (client_at asks k) 0
-some_left asks k old mid inside new less enough within =
+some_left asks gone k old mid inside new less enough within =
     let client = client_at asks k in
     let in_old : client < length old = omega (arith, within, less.count) in
-    let one : asks_of asks client ≡ 1 = ap one_here (list_any-at (λ (a : Ask). a.client == client) asks (slice_index_or asks k no_ask) (k, inside, get_or_default asks k (slice_index_or asks k no_ask) no_ask inside) (eq-eqb client client refl)) in
-    omega (arith, enough client in_old, less.each client in_old, none_yet asks k new, one)
+    let some = list_any-at (λ (a : Ask). a.client == client) asks (slice_index_or asks k no_ask) (k, inside, get_or_default asks k (slice_index_or asks k no_ask) no_ask inside) (eq-eqb client client refl) in
+    let one : asks_of asks gone client ≡ 1 = ap (counted gone client) some
+    ∙ ap one_here (and_parts (not (has_client client (take k asks))) (lives gone client) new).1 in
+    omega (arith, enough client in_old, less.each client in_old, none_yet asks gone k new, one)
 
 -- The counts of a node's sets.
 
 -- those who wait in a set may wait in one less
-pub may_less : (sets s : ℕ) (core : ℕ → CoreData) (asks : List Ask) (counts : List ℕ) → TellWaiting sets core counts → s < sets → asks ≡ (core s).state.pending
-    → (client : ℕ) → client < length counts → asks_of asks client ≤ slice_index_or counts client 0
-may_less sets s core asks counts tells inside are client within = elim (cases_Bool (has_client client asks)) [
+pub may_less : (sets s : ℕ) (core : ℕ → CoreData) (asks : List Ask) (gone counts : List ℕ) → TellWaiting sets core counts → s < sets
+    → asks ≡ (core s).state.pending → gone ≡ (core s).state.gone
+    → (client : ℕ) → client < length counts → asks_of asks gone client ≤ slice_index_or counts client 0
+may_less sets s core asks gone counts tells inside are marked client within = elim (cases_Bool (has_client client asks && lives gone client)) [
   | inl waiting ↦
       let one = ap one_here waiting in
-      let some = count_at sets s (λ k. waits (core k).state client) inside (sym (ap (has_client client) are) ∙ waiting) in
+      let some = count_at sets s (λ k. waits (core k).state client) inside (sym (λ i. has_client client (are i) && lives (marked i) client) ∙ waiting) in
       omega (arith, one, some, tells client within)
   | inr none ↦
       let zero_here = ap one_here none in
@@ -187,9 +227,9 @@ may_less sets s core asks counts tells inside are client within = elim (cases_Bo
 ]
 
 -- and then all wait in few
-pub few_left : (sets : ℕ) (core : ℕ → CoreData) (asks : List Ask) (old mid : List ℕ) → TellWaiting sets core old → sets ≤ MAX_SETS_OF_SERVICE → WaitLess asks old mid
-    → (client : ℕ) → slice_index_or mid client 0 ≤ MAX_SETS_OF_SERVICE
-few_left sets core asks old mid tells few less client = elim (cases_lt client (length old)) [
+pub few_left : (sets : ℕ) (core : ℕ → CoreData) (asks : List Ask) (gone old mid : List ℕ) → TellWaiting sets core old → sets ≤ MAX_SETS_OF_SERVICE
+    → WaitLess asks gone old mid → (client : ℕ) → slice_index_or mid client 0 ≤ MAX_SETS_OF_SERVICE
+few_left sets core asks gone old mid tells few less client = elim (cases_lt client (length old)) [
   | inl inside ↦
       let most = count_most sets (λ s. waits (core s).state client) in
       omega (arith, most, few, tells client inside, less.each client inside)
@@ -197,16 +237,16 @@ few_left sets core asks old mid tells few less client = elim (cases_lt client (l
 ]
 
 -- one set changed
-pub waiting_changed : (sets s : ℕ) (core new : ℕ → CoreData) (asks later : List Ask) (old mid counts : List ℕ) → TellWaiting sets core old → s < sets
-    → asks ≡ (core s).state.pending → later ≡ (new s).state.pending → ((k : ℕ) → k ≢ s → new k ≡ core k) → WaitLess asks old mid → WaitMore later mid counts
-    → TellWaiting sets new counts
-waiting_changed sets s core new asks later old mid counts tells inside are become others less more = λ client within.
+pub waiting_changed : (sets s : ℕ) (core new : ℕ → CoreData) (asks later : List Ask) (gone left old mid counts : List ℕ) → TellWaiting sets core old → s < sets
+    → asks ≡ (core s).state.pending → gone ≡ (core s).state.gone → later ≡ (new s).state.pending → left ≡ (new s).state.gone
+    → ((k : ℕ) → k ≢ s → new k ≡ core k) → WaitLess asks gone old mid → WaitMore later left mid counts → TellWaiting sets new counts
+waiting_changed sets s core new asks later gone left old mid counts tells inside are marked become remarked others less more = λ client within.
     let in_mid : client < length mid = omega (arith, within, more.count) in
     let in_old : client < length old = omega (arith, in_mid, less.count) in
     let changed = count_changed sets s (λ k. waits (core k).state client) (λ k. waits (new k).state client) inside
     (λ k apart. ap (λ (c : CoreData). waits c.state client) (others k apart)) in
-    let was = ap (λ (l : List Ask). asks_of l client) are in
-    let is = ap (λ (l : List Ask). asks_of l client) become in
+    let was : asks_of asks gone client ≡ asks_of (core s).state.pending (core s).state.gone client = λ i. asks_of (are i) (marked i) client in
+    let is : asks_of later left client ≡ asks_of (new s).state.pending (new s).state.gone client = λ i. asks_of (become i) (remarked i) client in
     omega (arith, tells client in_old, less.each client in_old, more.each client in_mid, changed, was, is)
 
 -- where memory is taken, all wait as before

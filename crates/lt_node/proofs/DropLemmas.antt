@@ -1,5 +1,5 @@
 -- A drop: its line, and then what the sets make.
-use Rattle.std.proofs.Common.{◌≡◌, ◌+◌, ◌++◌, ◌∷◌, [], Bool, true, false, ℕ, List, Option, Some, None, arith, refl, sum_by, sym, ap, subst, ◌∙◌, append_assoc}
+use Rattle.std.proofs.Common.{◌≡◌, ◌++◌, ◌∷◌, [], Bool, true, false, ℕ, List, Option, Some, None, arith, refl, sum_by, sym, ap, subst, ◌∙◌, append_assoc}
 use Rattle.std.proofs.lemmas.List.{length_push}
 use Rattle.lt_modes.specs.declared.stamp.Stamp.{Stamp}
 use Rattle.lt_modes.specs.declared.event.Event.{Event}
@@ -98,3 +98,4 @@ answer_after script q client clock maker n (commands.Try s mode) = refl
 answer_after script q client clock maker n (commands.Unlock s mode) = refl
 answer_after script q client clock maker n (commands.Change s gives_up mode) = refl
 answer_after script q client clock maker n (commands.DropAll other s) = refl
+answer_after script q client clock maker n (commands.Withdraw other s) = refl

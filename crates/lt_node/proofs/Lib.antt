@@ -16,3 +16,4 @@ pub mod CountLemmas
 pub mod SetsLemmas
 pub mod StoredLemmas
 pub mod NodeSets
+pub mod FreeLemmas

@@ -1,9 +1,9 @@
 -- The clients of a node, in order, and the first of them that can act.
-use Rattle.std.proofs.Common.{◌≡◌, ◌≢◌, ◌+◌, ◌<◌, ◌≤◌, ◌++◌, ◌&&◌, ◌∙◌, not, true, false, Bool, ℕ, List, [], ◌∷◌, None, Some, drop, slice_index_or, length, arith, sym, subst, ap, inl, inr, eq-eqb, ne_eqb}
+use Rattle.std.proofs.Common.{◌≡◌, ◌≢◌, ◌+◌, ◌<◌, ◌≤◌, ◌++◌, ◌&&◌, ◌∙◌, true, false, Bool, ℕ, List, [], ◌∷◌, None, Some, drop, slice_index_or, length, arith, sym, subst, ap, inl, inr, eq-eqb, ne_eqb}
 use Rattle.std.proofs.lemmas.Bool.{cases_eq, cases_lt}
 use Rattle.std.proofs.lemmas.List.{drop_all, drop_more}
 use Rattle.lt_modes.specs.Script.{ScriptData, ClientData, home_at}
-use Rattle.lt_spec.specs.NodeMove.{NodeState, has_command, node_waits}
+use Rattle.lt_spec.specs.NodeMove.{NodeState, has_command, is_free_at}
 use Rattle.lt_node.specs.Clients.{AreOwn, IsFirstOwn, IsLeast, is_runnable_here}
 
 -- the next number isn't that of a client of the node
@@ -55,17 +55,17 @@ module _ (script : ScriptData) (q : ℕ) (n : NodeState) (own : List ℕ) (place
   none_below : (k : ℕ) → k < client → is_runnable_here script q n k ≡ false
   none_below k below = elim (cases_lt k before.from) [
     | inl earlier ↦ before.none k earlier
-    | inr later ↦ ap (λ (b : Bool). b && (not (node_waits script n k) && has_command script n k)) (ne_eqb _ q (rest.0.none k later below))
+    | inr later ↦ ap (λ (b : Bool). b && (is_free_at script n k && has_command script n k)) (ne_eqb _ q (rest.0.none k later below))
   ]
 
   -- it is one of the node's, so it can act where it doesn't wait and has a command left
-  runs : (b : Bool) → b ≡ (not (node_waits script n client) && has_command script n client) → is_runnable_here script q n client ≡ b
-  runs b is = ap (λ (t : Bool). t && (not (node_waits script n client) && has_command script n client)) (eq-eqb _ q rest.0.here) ∙ sym is
+  runs : (b : Bool) → b ≡ (is_free_at script n client && has_command script n client) → is_runnable_here script q n client ≡ b
+  runs b is = ap (λ (t : Bool). t && (is_free_at script n client && has_command script n client)) (eq-eqb _ q rest.0.here) ∙ sym is
 
-  pub found_first : true ≡ (not (node_waits script n client) && has_command script n client) → IsLeast (length script.clients) (is_runnable_here script q n) (Some client)
+  pub found_first : true ≡ (is_free_at script n client && has_command script n client) → IsLeast (length script.clients) (is_runnable_here script q n) (Some client)
   found_first is = (rest.0.below, runs true is, none_below)
 
-  pub none_next : false ≡ (not (node_waits script n client) && has_command script n client) → NoneBefore script q n (drop (place + 1) own)
+  pub none_next : false ≡ (is_free_at script n client && has_command script n client) → NoneBefore script q n (drop (place + 1) own)
   none_next is = record {
     from = client + 1;
     own = rest.1;
@@ -81,5 +81,5 @@ none_at_all script q n own place end before = λ k inside. elim (cases_lt k befo
   | inl earlier ↦ before.none k earlier
   | inr later ↦
       let none = subst (AreOwn script.clients q before.from (length script.clients)) (drop_all place own end) before.own in
-      ap (λ (b : Bool). b && (not (node_waits script n k) && has_command script n k)) (ne_eqb _ q (none k later inside))
+      ap (λ (b : Bool). b && (is_free_at script n k && has_command script n k)) (ne_eqb _ q (none k later inside))
 ]

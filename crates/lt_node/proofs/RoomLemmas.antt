@@ -26,7 +26,7 @@ use Rattle.lt_node.specs.NodeData.{NodeData, KeptData, IsNode, SameNode, HasFewA
 use Rattle.lt_node.specs.Sets.{SetsData, AreSetsOf, SameSets, core_in}
 use Rattle.lt_node.specs.Clients.{Progress, next_of}
 use Rattle.lt_node.specs.Forgetting.{without_first}
-use Rattle.lt_node.specs.Touched.{touched_sets, touched_by, named_set, sets_within, leaves_room_to_act, leaves_room_to_take, RoomToAct, HaveFewAsks, HaveMemory, sent_by, touches}
+use Rattle.lt_node.specs.Touched.{LeavesMark, touched_sets, touched_by, named_set, sets_within, leaves_room_to_act, leaves_room_to_take, RoomToAct, HaveFewAsks, HaveMemory, sent_by, touches}
 use Rattle.lt_node.proofs.AdvanceLemmas.{HasNext, next_is, next_targets}
 use Rattle.lt_node.proofs.NodeLemmas.{node_is, set_numbers}
 use Rattle.lt_node.proofs.TokenLemmas.{few_brought, fitting}
@@ -176,6 +176,19 @@ names_one command s names = elim names [
   ]
 ]
 
+-- such a command leaves no mark
+pub mark_one : (core : ℕ → CoreData) (command : Command) (s : ℕ) → NamesOne command s → LeavesMark core (Some command)
+mark_one core command s names = elim names [
+  | inl h ↦ subst (λ (c : Command). LeavesMark core (Some c)) (sym h.1) tt
+  | inr more ↦ elim more [
+    | inl h ↦ subst (λ (c : Command). LeavesMark core (Some c)) (sym h.1) tt
+    | inr rest ↦ elim rest [
+      | inl h ↦ subst (λ (c : Command). LeavesMark core (Some c)) (sym h.1) tt
+      | inr h ↦ subst (λ (c : Command). LeavesMark core (Some c)) (sym h.2) tt
+    ]
+  ]
+]
+
 -- a node, and the storage of its sets: commands that were forgotten change no set
 touched_same : (script : ScriptData) (gone : ℕ) (command : Command) → touched_sets (without_first gone script) command ≡ touched_sets script command
 touched_same script gone (commands.Lock s mode) = refl
@@ -183,10 +196,12 @@ touched_same script gone (commands.Try s mode) = refl
 touched_same script gone (commands.Unlock s mode) = refl
 touched_same script gone (commands.Change s gives_up mode) = refl
 touched_same script gone (commands.DropAll other s) = refl
+touched_same script gone (commands.Withdraw other s) = refl
 
 -- the client's next command is this one, which a node reads in this script, and its sets in this storage
 pub record IsNextHere (n : NodeData) (client : ℕ) (script : ScriptData) (command : Command) (sets : SetsData) : Type 0 where
   pub cores : core_at n ≡ core_in sets
+  pub next : next_command n.script (state_of n) client ≡ Some command
   pub touched : touches n.script (state_of n) client ≡ touched_sets script command
   pub named : named_set command < length script.sets
   pub few : HaveFewAsks sets (touched_sets script command)
@@ -211,6 +226,7 @@ next_here m n client progress script command sets same node are kept next is rea
     let inside : named_set (next_of progress) < length n.script.sets = named_inside n.script client (next_of progress) (next_targets n client progress (node_is m n same node) next) in
     record {
       cores = cores;
+      next = asked;
       touched = touched;
       named = subst (λ (command : Command). named_set command < length script.sets) (sym is)
           (subst (λ (sets : List SetData). named_set (next_of progress) < length sets) (sym (ap (λ (s : ScriptData). s.sets) read ∙ ap (λ (n : NodeData). n.script.sets) same)) inside);
@@ -224,6 +240,11 @@ had_memory n client script command sets out here room =
     subst (λ (numbers : List ℕ). HaveMemory sets numbers) here.touched
     (subst (λ (core : ℕ → CoreData). All (λ s. HasMemory 0 (core s)) (touches n.script (state_of n) client)) here.cores room.cores)
 
+pub had_mark : (n : NodeData) (client : ℕ) (script : ScriptData) (command : Command) (sets : SetsData) (out : OutData) → IsNextHere n client script command sets → RoomToAct client n out
+    → LeavesMark (core_in sets) (Some command)
+had_mark n client script command sets out here room =
+    subst (λ (core : ℕ → CoreData). LeavesMark core (Some command)) here.cores (subst (LeavesMark (core_at n)) here.next room.mark)
+
 pub had_to_send : (n : NodeData) (client sent : ℕ) (script : ScriptData) (command : Command) (old new : SetsData) → IsNextHere n client script command old → SameSets old new
     → sent ≡ sent_by new (touched_sets script command) → sent ≡ sum_by (λ s. most_sent (core_at n s)) (touches n.script (state_of n) client)
 had_to_send n client sent script command old new here same is =
@@ -232,11 +253,12 @@ had_to_send n client sent script command old new here same is =
 
 -- and what was made
 pub room_made : {T E : Type 0} (r : Result T E) (n new : NodeData) (client touched : ℕ) (script : ScriptData) (command : Command) (sets : SetsData) (had out : OutData)
-    → touches n.script (state_of n) client ≡ touched_sets script command → SameNode n new → AreSetsOf new.script new.me sets → new.cores ≡ sets.cores → HaveMemory sets (touched_sets script command)
+    → touches n.script (state_of n) client ≡ touched_sets script command → next_command n.script (state_of n) client ≡ Some command
+    → LeavesMark (core_in sets) (Some command) → SameNode n new → AreSetsOf new.script new.me sets → new.cores ≡ sets.cores → HaveMemory sets (touched_sets script command)
     → touched ≡ sent_by sets (touched_sets script command) → out.posts ≡ had.posts → out.events ≡ had.events
     → OnOk r (length had.posts + (touched + 1) ≤ out.post_room) → OnOk r (length had.events + (touched + 1) ≤ out.event_room) → OnOk r (RoomToAct client new out)
-room_made (Err e) n new client touched script command sets had out asked same are kept memory is posts events letters lines = record {}
-room_made (Ok x) n new client touched script command sets had out asked same are kept memory is posts events letters lines =
+room_made (Err e) n new client touched script command sets had out asked next mark same are kept memory is posts events letters lines = record {}
+room_made (Ok x) n new client touched script command sets had out asked next mark same are kept memory is posts events letters lines =
     let cores = core_held new new sets refl kept are in
     let numbers : touches new.script (state_of new) client ≡ touched_sets script command =
     ap (λ (s : ScriptData). touches s (state_of new) client) same.script ∙ ap (λ (s : NodeState). touches n.script s client) same.state ∙ asked in
@@ -245,6 +267,9 @@ room_made (Ok x) n new client touched script command sets had out asked same are
     record {
       cores = subst (λ (core : ℕ → CoreData). All (λ s. HasMemory 0 (core s)) (touches new.script (state_of new) client)) (sym cores)
           (subst (λ (l : List ℕ). HaveMemory sets l) (sym numbers) memory);
+      mark = subst (LeavesMark (core_at new))
+          (sym (ap (λ (s : ScriptData). next_command s (state_of new) client) same.script ∙ ap (λ (s : NodeState). next_command n.script s client) same.state ∙ next))
+          (subst (λ (core : ℕ → CoreData). LeavesMark core (Some command)) (sym cores) mark);
       send = record {
         posts = omega (arith, letters, sent, ap (λ (l : List Post). length l) posts);
         events = omega (arith, lines, sent, ap (λ (l : List Event). length l) events);

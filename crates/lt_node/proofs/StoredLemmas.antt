@@ -5,7 +5,7 @@ use Rattle.std.proofs.lemmas.List.{get_or_default}
 use Rattle.lt_modes.specs.declared.ask.Ask.{Ask}
 use Rattle.lt_modes.specs.State.{SetState, Made}
 use Rattle.lt_desk.specs.DeskData.{OutData}
-use Rattle.lt_core.specs.CoreData.{CoreData, Does, HasMemory}
+use Rattle.lt_core.specs.CoreData.{CoreData, Does, HasMemory, KeepsRoom, waiting_here}
 use Rattle.lt_node.specs.NodeData.{IsCoreOf, KeptData, kept_of, untouched}
 use Rattle.lt_node.specs.Sets.{SetsData, AreStored, SameSets, SetDoes, IsTouched, WaitLess, WaitMore, asks_of, core_by, core_of, cores_by, core_in}
 use Rattle.lt_node.proofs.CountLemmas.{may_less, waiting_changed, waiting_kept}
@@ -104,19 +104,24 @@ module _ (nodes me : ℕ) (first : CoreData) (places : List ℕ) (cores : List C
 
   -- A move is made.
 
-  pub may_leave : (asks : List Ask) → asks ≡ core.state.pending → (client : ℕ) → client < length counts → asks_of asks client ≤ slice_index_or counts client 0
-  may_leave asks are =
-      may_less (length places) s (core_of nodes me places cores) asks counts stored.waiting hand.inside
+  pub may_leave : (asks : List Ask) (gone : List ℕ) → asks ≡ core.state.pending → gone ≡ core.state.gone
+      → (client : ℕ) → client < length counts → asks_of asks gone client ≤ slice_index_or counts client 0
+  may_leave asks gone are marked =
+      may_less (length places) s (core_of nodes me places cores) asks gone counts stored.waiting hand.inside
       (are ∙ ap (λ (c : CoreData). c.state.pending) (sym hand.core_of_is))
+      (marked ∙ ap (λ (c : CoreData). c.state.gone) (sym hand.core_of_is))
 
-  pub stored_moved : (made : Made) (had out : OutData) (asks later : List Ask) (mid after : List ℕ) → Does made core had new out → asks ≡ core.state.pending → later ≡ new.state.pending
-      → WaitLess asks counts mid → WaitMore later mid after → AreStored nodes me first places (slice_set cores k new) after
-  stored_moved made had out asks later mid after does are become less more =
+  pub stored_moved : (made : Made) (had out : OutData) (asks later : List Ask) (gone left mid after : List ℕ) → Does made core had new out
+      → asks ≡ core.state.pending → gone ≡ core.state.gone → later ≡ new.state.pending → left ≡ new.state.gone
+      → WaitLess asks gone counts mid → WaitMore later left mid after → AreStored nodes me first places (slice_set cores k new) after
+  stored_moved made had out asks later gone left mid after does are marked become remarked less more =
       stored_written nodes me first places cores counts stored s k hand.placed new after
       (record { node = does.node ∙ hand.own.node; set = does.set ∙ hand.own.set })
-      (waiting_changed (length places) s (core_of nodes me places cores) (core_of nodes me places (slice_set cores k new)) asks later counts mid after stored.waiting hand.inside
+      (waiting_changed (length places) s (core_of nodes me places cores) (core_of nodes me places (slice_set cores k new)) asks later gone left counts mid after stored.waiting hand.inside
       (are ∙ ap (λ (c : CoreData). c.state.pending) (sym hand.core_of_is))
+      (marked ∙ ap (λ (c : CoreData). c.state.gone) (sym hand.core_of_is))
       (become ∙ ap (λ (c : CoreData). c.state.pending) (sym (written_here nodes me first places cores counts stored s k hand.placed new)))
+      (remarked ∙ ap (λ (c : CoreData). c.state.gone) (sym (written_here nodes me first places cores counts stored s k hand.placed new)))
       (written_other nodes me first places cores counts stored s k hand.placed new) less more)
 
   one_changed : sets_of nodes me places (slice_set cores k new) ≡ record n { cores = slice_set n.cores s (core_in (sets_of nodes me places (slice_set cores k new)) s) }
@@ -146,6 +151,15 @@ memory_less brought core memory = record {
   rows = omega (arith, memory.rows);
   parked = memory.parked;
   tells = memory.tells;
+}
+
+-- where room is kept, memory is
+pub memory_kept : (old new : CoreData) → new.state ≡ old.state → KeepsRoom old new → HasMemory 0 old → HasMemory 0 new
+memory_kept old new same kept memory = record {
+  asks = omega (arith, memory.asks, kept.asks, ap waiting_here same);
+  rows = omega (arith, memory.rows, kept.rows, ap waiting_here same);
+  parked = omega (arith, memory.parked, kept.parked);
+  tells = omega (arith, memory.tells, kept.tells);
 }
 
 -- Other memory changes nothing else.

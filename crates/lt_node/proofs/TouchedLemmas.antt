@@ -41,6 +41,7 @@ touched_below script client (commands.Lock s mode) inside = (inside, record {})
 touched_below script client (commands.Try s mode) inside = (inside, record {})
 touched_below script client (commands.Unlock s mode) inside = (inside, record {})
 touched_below script client (commands.Change s gives_up mode) inside = (inside, record {})
+touched_below script client (commands.Withdraw other s) targets = (targets.0, record {})
 touched_below script client (commands.DropAll other s) targets =
     places_below (λ k (set : SetData). set.family == family script s) (length script.sets) 0 script.sets (omega arith)
 
@@ -62,9 +63,10 @@ within_at : (script : ScriptData) (n : NodeState) → IsTrue (node_within script
 within_at script n within s inside =
     not-false (set_within n.clock (n.set s)) (any_below_none (length script.sets) (λ k. not (set_within n.clock (n.set k))) (not-true _ within) s inside)
 
-asks_at : (script : ScriptData) (n : NodeState) → IsTrue (leaves_asks script n) → (s : ℕ) → s < length script.sets → leaves_ask (n.set s) ≡ true
-asks_at script n asks s inside =
-    not-false (leaves_ask (n.set s)) (any_below_none (length script.sets) (λ k. not (leaves_ask (n.set k))) (not-true _ asks) s inside)
+asks_at : (script : ScriptData) (n : NodeState) (client : ℕ) → IsTrue (leaves_asks script n client) → (s : ℕ) → s < length script.sets
+    → leaves_ask client (n.set s) ≡ true
+asks_at script n client asks s inside =
+    not-false (leaves_ask client (n.set s)) (any_below_none (length script.sets) (λ k. not (leaves_ask client (n.set k))) (not-true _ asks) s inside)
 
 abbrev FewLocks : ScriptData → NodeState → Type 0
 FewLocks script n = (client s : ℕ) → locks_in_sets n client (related script s) ≤ MAX_COMMANDS_OF_SERVICE
@@ -76,16 +78,17 @@ few_dropped script n (Some (commands.Try s mode)) few = refl
 few_dropped script n (Some (commands.Unlock s mode)) few = refl
 few_dropped script n (Some (commands.Change s gives_up mode)) few = refl
 few_dropped script n (Some (commands.DropAll other s)) few = le-leb _ _ (few other s)
+few_dropped script n (Some (commands.Withdraw other s)) few = refl
 
-pub room_to_act : (script : ScriptData) (n : NodeState) (client : ℕ) → IsScript script → IsTrue (node_within script n) → IsTrue (leaves_asks script n)
+pub room_to_act : (script : ScriptData) (n : NodeState) (client : ℕ) → IsScript script → IsTrue (node_within script n) → IsTrue (leaves_asks script n client)
     → ((c s : ℕ) → locks_in_sets n c (related script s) ≤ MAX_COMMANDS_OF_SERVICE) → IsTrue (leaves_room_to_act script n client)
 room_to_act script n client known within asks few =
     let command = next_command script n client in
     let below = listed_below script client (n.made client) command known refl in
-    and_from (sets_within n (touched_by script command)) (sets_leave_asks n (touched_by script command) && drops_few script n command)
+    and_from (sets_within n (touched_by script command)) (sets_leave_asks n client (touched_by script command) && drops_few script n command)
     (all_true (λ s. set_within n.clock (n.set s)) (length script.sets) (touched_by script command) (within_at script n within) below)
-    (and_from (sets_leave_asks n (touched_by script command)) (drops_few script n command)
-    (all_true (λ s. leaves_ask (n.set s)) (length script.sets) (touched_by script command) (asks_at script n asks) below)
+    (and_from (sets_leave_asks n client (touched_by script command)) (drops_few script n command)
+    (all_true (λ s. leaves_ask client (n.set s)) (length script.sets) (touched_by script command) (asks_at script n client asks) below)
     (few_dropped script n command few))
 
 pub room_to_take : (script : ScriptData) (n : NodeState) (letter : Letter) → IsTrue (node_within script n) → letter.set < length script.sets → IsTrue (leaves_room_to_take n letter)
@@ -94,40 +97,40 @@ room_to_take script n letter within inside = within_at script n within letter.se
 -- One set.
 
 -- the locks that are counted with those of a set are few
-pub few_held : (n : NodeState) (s client : ℕ) → leaves_room_in n s ≡ true → locks_of (n.set s).held client ≤ MAX_COMMANDS_OF_SERVICE
-few_held n s client room =
-    let within = (and_parts (set_within n.clock (n.set s)) (leaves_ask (n.set s)) room).0 in
+pub few_held : (n : NodeState) (maker s client : ℕ) → leaves_room_in n maker s ≡ true → locks_of (n.set s).held client ≤ MAX_COMMANDS_OF_SERVICE
+few_held n maker s client room =
+    let within = (and_parts (set_within n.clock (n.set s)) (leaves_ask maker (n.set s)) room).0 in
     omega (arith, leb-true (locks_in (n.set s).held) MAX_COMMANDS_OF_SERVICE (and_parts (nat_le (locks_in (n.set s).held) MAX_COMMANDS_OF_SERVICE) _ within).0, sum_by-filter_both (is_of client) (λ (row : Row). not (is_of client row)) (λ row. refl) (λ (row : Row). row.count) (n.set s).held)
 
 -- The sets of a family, one after the other.
 
 -- those from place k on leave room for a drop where all do, and so many locks are counted in those before it
-pub record IsCountedTo (script : ScriptData) (n : NodeState) (set client k locks : ℕ) : Type 0 where
+pub record IsCountedTo (script : ScriptData) (n : NodeState) (maker set client k locks : ℕ) : Type 0 where
   pub within : sets_within n (related_from script set k) ≡ sets_within n (related script set)
-  pub asks : sets_leave_asks n (related_from script set k) ≡ sets_leave_asks n (related script set)
+  pub asks : sets_leave_asks n maker (related_from script set k) ≡ sets_leave_asks n maker (related script set)
   pub all : locks + locks_in_sets n client (related_from script set k) ≡ locks_in_sets n client (related script set)
   pub few : locks ≤ MAX_COMMANDS_OF_SERVICE
 
-pub counted_past : (script : ScriptData) (n : NodeState) (set client locks : ℕ) → GoesOn script.sets (family script set) (λ k. IsCountedTo script n set client k locks)
-counted_past script n set client locks from to gap counted =
+pub counted_past : (script : ScriptData) (n : NodeState) (maker set client locks : ℕ) → GoesOn script.sets (family script set) (λ k. IsCountedTo script n maker set client k locks)
+counted_past script n maker set client locks from to gap counted =
     let same = sym (related_gap script set from to gap) in
     record {
       within = ap (sets_within n) same ∙ counted.within;
-      asks = ap (sets_leave_asks n) same ∙ counted.asks;
+      asks = ap (sets_leave_asks n maker) same ∙ counted.asks;
       all = ap (λ (l : List ℕ). locks + locks_in_sets n client l) same ∙ counted.all;
       few = counted.few;
     }
 
 -- the set at place k is one of the family
-counted_next : (script : ScriptData) (n : NodeState) (set client k locks : ℕ) → k < length script.sets → (family_at script.sets k == family script set) ≡ true → IsCountedTo script n set client k locks
+counted_next : (script : ScriptData) (n : NodeState) (maker set client k locks : ℕ) → k < length script.sets → (family_at script.sets k == family script set) ≡ true → IsCountedTo script n maker set client k locks
     → ((set_within n.clock (n.set k) && sets_within n (related_from script set (k + 1))) ≡ sets_within n (related script set))
-    × ((leaves_ask (n.set k) && sets_leave_asks n (related_from script set (k + 1))) ≡ sets_leave_asks n (related script set))
+    × ((leaves_ask maker (n.set k) && sets_leave_asks n maker (related_from script set (k + 1))) ≡ sets_leave_asks n maker (related script set))
     × ((locks + locks_of (n.set k).held client) + locks_in_sets n client (related_from script set (k + 1)) ≡ locks_in_sets n client (related script set))
-counted_next script n set client k locks inside mine counted =
+counted_next script n maker set client k locks inside mine counted =
     let first = sym (related_in script set k inside mine) in
     let rest = related_from script set (k + 1) in (
       ap (sets_within n) first ∙ counted.within,
-      ap (sets_leave_asks n) first ∙ counted.asks,
+      ap (sets_leave_asks n maker) first ∙ counted.asks,
       omega (arith, ap (λ (l : List ℕ). locks_in_sets n client l) first, counted.all, sum_by-cons (λ (s : ℕ). locks_of (n.set s).held client) k rest),
     )
 
@@ -139,17 +142,17 @@ when_none : (b : Bool) (x : ℕ) → (if b then Some x else None) ≡ None → b
 when_none true x e = cc
 when_none false x e = refl
 
-pub counted_more : (script : ScriptData) (n : NodeState) (set client k locks more : ℕ) → IsCountedTo script n set client k locks
-    → k < length script.sets → (family_at script.sets k == family script set) ≡ true → with_dropped n k client locks ≡ Some more → IsCountedTo script n set client (k + 1) more
-counted_more script n set client k locks more counted inside mine some =
-    let next = counted_next script n set client k locks inside mine counted in
-    let got = when_some (leaves_room_in n k && nat_le (locks + locks_of (n.set k).held client) MAX_COMMANDS_OF_SERVICE) (locks + locks_of (n.set k).held client) more some in
-    let room = and_parts (leaves_room_in n k) (nat_le (locks + locks_of (n.set k).held client) MAX_COMMANDS_OF_SERVICE) got.0 in
-    let parts = and_parts (set_within n.clock (n.set k)) (leaves_ask (n.set k)) room.0 in
+pub counted_more : (script : ScriptData) (n : NodeState) (maker set client k locks more : ℕ) → IsCountedTo script n maker set client k locks
+    → k < length script.sets → (family_at script.sets k == family script set) ≡ true → with_dropped n maker k client locks ≡ Some more → IsCountedTo script n maker set client (k + 1) more
+counted_more script n maker set client k locks more counted inside mine some =
+    let next = counted_next script n maker set client k locks inside mine counted in
+    let got = when_some (leaves_room_in n maker k && nat_le (locks + locks_of (n.set k).held client) MAX_COMMANDS_OF_SERVICE) (locks + locks_of (n.set k).held client) more some in
+    let room = and_parts (leaves_room_in n maker k) (nat_le (locks + locks_of (n.set k).held client) MAX_COMMANDS_OF_SERVICE) got.0 in
+    let parts = and_parts (set_within n.clock (n.set k)) (leaves_ask maker (n.set k)) room.0 in
     let rest = related_from script set (k + 1) in
     record {
       within = sym (ap (λ (b : Bool). b && sets_within n rest) parts.0) ∙ next.0;
-      asks = sym (ap (λ (b : Bool). b && sets_leave_asks n rest) parts.1) ∙ next.1;
+      asks = sym (ap (λ (b : Bool). b && sets_leave_asks n maker rest) parts.1) ∙ next.1;
       all = omega (arith, next.2, got.1);
       few = omega (arith, got.1, leb-true (locks + locks_of (n.set k).held client) MAX_COMMANDS_OF_SERVICE room.1);
     }
@@ -166,34 +169,34 @@ none_left true true few later others all none many = rw (many none) (no_room lat
     no_room true false = refl
     no_room true true = refl
 
-pub counted_out_of_room : (script : ScriptData) (n : NodeState) (set client k locks : ℕ) → IsCountedTo script n set client k locks
-    → k < length script.sets → (family_at script.sets k == family script set) ≡ true → with_dropped n k client locks ≡ None
-    → leaves_room_to_obey script n (Some (commands.DropAll client set)) ≡ false
-counted_out_of_room script n set client k locks counted inside mine none =
-    let next = counted_next script n set client k locks inside mine counted in
+pub counted_out_of_room : (script : ScriptData) (n : NodeState) (maker set client k locks : ℕ) → IsCountedTo script n maker set client k locks
+    → k < length script.sets → (family_at script.sets k == family script set) ≡ true → with_dropped n maker k client locks ≡ None
+    → leaves_room_to_obey script n maker (Some (commands.DropAll client set)) ≡ false
+counted_out_of_room script n maker set client k locks counted inside mine none =
+    let next = counted_next script n maker set client k locks inside mine counted in
     let sum = locks + locks_of (n.set k).held client in
     let all = locks_in_sets n client (related script set) in
     let rest = related_from script set (k + 1) in
-    let out = when_none (leaves_room_in n k && nat_le sum MAX_COMMANDS_OF_SERVICE) sum none in
+    let out = when_none (leaves_room_in n maker k && nat_le sum MAX_COMMANDS_OF_SERVICE) sum none in
     let many : nat_le sum MAX_COMMANDS_OF_SERVICE ≡ false → nat_le all MAX_COMMANDS_OF_SERVICE ≡ false = λ e.
     lt-leb all MAX_COMMANDS_OF_SERVICE (omega (arith, leb-false sum MAX_COMMANDS_OF_SERVICE e, next.2)) in
-    ap (λ (b : Bool). b && (sets_leave_asks n (related script set) && nat_le all MAX_COMMANDS_OF_SERVICE)) (sym next.0)
+    ap (λ (b : Bool). b && (sets_leave_asks n maker (related script set) && nat_le all MAX_COMMANDS_OF_SERVICE)) (sym next.0)
     ∙ ap (λ (b : Bool). (set_within n.clock (n.set k) && sets_within n rest) && (b && nat_le all MAX_COMMANDS_OF_SERVICE)) (sym next.1)
-    ∙ none_left (set_within n.clock (n.set k)) (leaves_ask (n.set k)) (nat_le sum MAX_COMMANDS_OF_SERVICE) (sets_within n rest) (sets_leave_asks n rest) (nat_le all MAX_COMMANDS_OF_SERVICE) out many
+    ∙ none_left (set_within n.clock (n.set k)) (leaves_ask maker (n.set k)) (nat_le sum MAX_COMMANDS_OF_SERVICE) (sets_within n rest) (sets_leave_asks n maker rest) (nat_le all MAX_COMMANDS_OF_SERVICE) out many
 
 pub related_none : (script : ScriptData) (set k : ℕ) → length script.sets ≤ k → related_from script set k ≡ []
 related_none script set k past = ap (λ (l : List SetData). places_from (λ j (x : SetData). x.family == family script set) k l) (drop_all k script.sets past)
 
 -- where all sets were counted, there is room
-pub counted_all : (script : ScriptData) (n : NodeState) (set client locks : ℕ) → IsCountedTo script n set client (length script.sets) locks
-    → leaves_room_to_obey script n (Some (commands.DropAll client set)) ≡ true
-counted_all script n set client locks counted =
+pub counted_all : (script : ScriptData) (n : NodeState) (maker set client locks : ℕ) → IsCountedTo script n maker set client (length script.sets) locks
+    → leaves_room_to_obey script n maker (Some (commands.DropAll client set)) ≡ true
+counted_all script n maker set client locks counted =
     let none = related_none script set (length script.sets) (omega arith) in
     let within : sets_within n (related script set) ≡ true = sym counted.within ∙ ap (sets_within n) none in
-    let asks : sets_leave_asks n (related script set) ≡ true = sym counted.asks ∙ ap (sets_leave_asks n) none in
+    let asks : sets_leave_asks n maker (related script set) ≡ true = sym counted.asks ∙ ap (sets_leave_asks n maker) none in
     let all : locks_in_sets n client (related script set) ≤ MAX_COMMANDS_OF_SERVICE = omega (arith, counted.few, counted.all, ap (λ (l : List ℕ). locks_in_sets n client l) none) in
     let few : nat_le (locks_in_sets n client (related script set)) MAX_COMMANDS_OF_SERVICE ≡ true = le-leb (locks_in_sets n client (related script set)) MAX_COMMANDS_OF_SERVICE all in
-    ap (λ (b : Bool). b && (sets_leave_asks n (related script set) && nat_le (locks_in_sets n client (related script set)) MAX_COMMANDS_OF_SERVICE)) within
+    ap (λ (b : Bool). b && (sets_leave_asks n maker (related script set) && nat_le (locks_in_sets n client (related script set)) MAX_COMMANDS_OF_SERVICE)) within
     ∙ ap (λ (b : Bool). b && nat_le (locks_in_sets n client (related script set)) MAX_COMMANDS_OF_SERVICE) asks ∙ few
 
 -- the set that a command names is one of the script
@@ -203,6 +206,7 @@ named_inside script client (commands.Try s mode) inside = inside
 named_inside script client (commands.Unlock s mode) inside = inside
 named_inside script client (commands.Change s gives_up mode) inside = inside
 named_inside script client (commands.DropAll other s) targets = targets.0
+named_inside script client (commands.Withdraw other s) targets = targets.0
 
 -- what a test says of all sets it says of each
 pub all_true_each : (test : ℕ → Bool) (sets : List ℕ) → list_all test sets ≡ true → AllByRecursion (λ s. test s ≡ true) sets

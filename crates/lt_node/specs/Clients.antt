@@ -1,12 +1,12 @@
 -- What a client is told at once.
-use Rattle.std.specs.Prelude.{ℕ, Option, Some, None, if◌then◌else◌, ◌≡◌, ◌≢◌, ◌<◌, ◌≤◌, ◌+◌, ◌==◌, ◌&&◌, Bool, true, false, not, List, [], ◌∷◌, ◌++◌, length, map, take, filter_map, slice_index_or, slice_set}
+use Rattle.std.specs.Prelude.{ℕ, Option, Some, None, if◌then◌else◌, ◌≡◌, ◌≢◌, ◌<◌, ◌≤◌, ◌+◌, ◌==◌, ◌&&◌, Bool, true, false, List, [], ◌∷◌, ◌++◌, length, map, take, filter_map, slice_index_or, slice_set}
 use Rattle.lt_modes.specs.declared.command.Command.{Command}
 use Rattle.lt_modes.specs.declared.command.Command.TheVariants as commands
 use Rattle.lt_modes.specs.Script.{ScriptData, ClientData, home_at}
 use Rattle.lt_modes.specs.declared.mode.Mode.TheVariants.{IntentionRead}
 use Rattle.lt_modes.specs.declared.command.Command.TheVariants.{Unlock}
 use Rattle.lt_spec.specs.Script.{IsScript}
-use Rattle.lt_spec.specs.NodeMove.{related, NodeState, node_waits, next_command, locks_in_sets, home, has_command, command_if, commands_of}
+use Rattle.lt_spec.specs.NodeMove.{related, NodeState, node_waits, is_free_at, next_command, locks_in_sets, home, has_command, command_if, commands_of}
 use Rattle.lt_core.specs.declared.set_command.SetCommand.TheVariants as set_commands
 use Rattle.lt_core.specs.declared.set_command.Answer.{Answer}
 use Rattle.lt_core.specs.declared.set_command.Answer.TheVariants.{Dropped, Busy}
@@ -20,6 +20,7 @@ answer_to script q client n (commands.Unlock s mode) = answer_of q client (set_c
 answer_to script q client n (commands.Change s gives_up mode) = answer_of q client (set_commands.Change gives_up mode) (n.set s)
 answer_to script q client n (commands.DropAll other s) =
     if node_waits script n other then Busy else Dropped (locks_in_sets n other (related script s))
+answer_to script q client n (commands.Withdraw other s) = answer_of q client (set_commands.Withdraw other) (n.set s)
 
 abbrev pub answer_if : ScriptData → ℕ → ℕ → NodeState → Option Command → Option Answer
 answer_if script q client n None = None
@@ -31,9 +32,9 @@ answer_of_act script q client n = answer_if script q client n (next_command scri
 
 -- The clients of a node, and which of them can act.
 
--- the client is one of node q; it doesn't wait, and has a command left
+-- the client is one of node q; it doesn't wait, or gives up what it waits for, and has a command left
 abbrev pub is_runnable_here : ScriptData → ℕ → NodeState → ℕ → Bool
-is_runnable_here script q n client = home script client == q && (not (node_waits script n client) && has_command script n client)
+is_runnable_here script q n client = home script client == q && (is_free_at script n client && has_command script n client)
 
 -- the least number below n that passes, where one does
 abbrev pub IsLeast : ℕ → (ℕ → Bool) → Option ℕ → Type 0

@@ -2,29 +2,32 @@
 use Rattle.std.specs.Prelude.{ℕ, zero, suc, Option, None, Some, length, option_map, ◌≡◌, ◌<◌, ◌≤◌, ◌+◌, ◌++◌, List, slice_index_or, All, sum_by}
 use Rattle.std.specs.Option.{option_or}
 use Rattle.lt_modes.specs.declared.ask.Ask.{Ask}
+use Rattle.lt_modes.specs.declared.command.Command.{Command}
+use Rattle.lt_modes.specs.declared.command.Command.TheVariants as commands
 use Rattle.lt_modes.specs.declared.stamp.Stamp.{Stamp}
 use Rattle.lt_modes.specs.Script.{ScriptData}
 use Rattle.lt_modes.specs.SetMove.{finish, drop}
 use Rattle.lt_modes.specs.State.{first_state, SetState, Made}
-use Rattle.lt_modes.specs.Waiting.{pending_ask}
 use Rattle.lt_spec.specs.NodeMove.{NodeState, NodeMade}
 use Rattle.lt_spec.specs.Script.{IsScript}
 use Rattle.lt_desk.specs.DeskData.{OutData}
 use Rattle.lt_desk.specs.declared.letter.Letter.{Letter}
 use Rattle.lt_desk.specs.LetterSeen.{body_seen, asks_in, RoomIn}
-use Rattle.lt_core.specs.CoreData.{CoreData, HasMemory, HasRoom, waiting_here}
+use Rattle.lt_core.specs.declared.set_command.SetCommand.{SetCommand}
+use Rattle.lt_core.specs.CoreData.{CoreData, HasMemory, HasRoom, LeavesAsk, RoomForCommand, waiting_here}
+use Rattle.lt_core.specs.Steps.{live_ask}
 use Rattle.lt_core.specs.Bound.{RoomToSend, most, brought}
 use Rattle.lt_node.specs.Forgetting.{without_first}
 
 abbrev pub ask_with_set : NodeState → ℕ → ℕ → Option (ℕ × Ask)
-ask_with_set n client s = option_map (λ (ask : Ask). (s, ask)) (pending_ask (n.set s) client)
+ask_with_set n client s = option_map (λ (ask : Ask). (s, ask)) (live_ask (n.set s) client)
 
--- the client's unanswered ask in the first of so many sets that has one, with that set
+-- the ask for which the client waits in the first of so many sets where it does, with that set
 abbrev pub ask_below : NodeState → ℕ → ℕ → Option (ℕ × Ask)
 ask_below n client zero = None
 ask_below n client (suc s) = option_or (ask_below n client s) (ask_with_set n client s)
 
--- the client's unanswered ask in the first set that has one, with that set
+-- the ask for which the client waits in the first set where it does, with that set
 abbrev pub first_ask : ScriptData → NodeState → ℕ → Option (ℕ × Ask)
 first_ask script n client = ask_below n client (length script.sets)
 
@@ -54,6 +57,7 @@ untouched nodes me s = record {
   row_room = 0;
   parked_room = 0;
   tell_room = 0;
+  mark_room = 0;
 }
 
 abbrev pub first_core : ScriptData → ℕ → ℕ → CoreData
@@ -153,18 +157,21 @@ pub record KeptData : Type 0 where
 abbrev pub kept_of : CoreData → KeptData
 kept_of core = record { node = core.node; set = core.set; state = core.state }
 
--- one client more may wait in the set
-abbrev pub LeavesAsk : CoreData → Type 0
-LeavesAsk core = length core.state.pending < 16
-
--- the set is ready for a move with this clock
-pub record IsSetReady (clock : ℕ) (core : CoreData) (out : OutData) : Type 0 where
-  pub room : HasRoom 2 clock core
-  pub ask : LeavesAsk core
+-- the set is ready for the client's command in a move with this clock
+pub record IsSetReady (client : ℕ) (command : SetCommand) (clock : ℕ) (core : CoreData) (out : OutData) : Type 0 where
+  pub room : RoomForCommand client clock core command
   pub send : RoomToSend (most_sent core) out
 
--- so are all of these sets, where one command touches them, which has a line of its own
+-- all of these sets are ready for a move with this clock, where one command touches them, which has a line of its own
 pub record AreReady (sets : List ℕ) (clock : ℕ) (core : ℕ → CoreData) (out : OutData) : Type 0 where
   pub rooms : All (λ s. HasRoom 2 clock (core s)) sets
-  pub asks : All (λ s. LeavesAsk (core s)) sets
   pub send : RoomToSend (sum_by (λ s. most_sent (core s)) sets + 1) out
+
+-- a set has room for what the command keeps of a client there: the ask of the one that makes it, or a mark
+abbrev pub KeepsClient : ℕ → (ℕ → CoreData) → Command → Type 0
+KeepsClient client core (commands.Lock s mode) = LeavesAsk client (core s)
+KeepsClient client core (commands.Try s mode) = Unit {0}
+KeepsClient client core (commands.Unlock s mode) = Unit {0}
+KeepsClient client core (commands.Change s gives_up mode) = LeavesAsk client (core s)
+KeepsClient client core (commands.DropAll other s) = Unit {0}
+KeepsClient client core (commands.Withdraw other s) = 1 ≤ (core s).mark_room

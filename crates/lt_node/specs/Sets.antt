@@ -1,17 +1,18 @@
 -- All sets of a node, of which those alone have a core that were touched.
-use Rattle.std.specs.Prelude.{ℕ, zero, suc, List, ◌≡◌, ◌<◌, ◌≤◌, ◌+◌, length, map, slice_index_or, slice_set, sum_by, if◌then◌else◌}
+use Rattle.std.specs.Prelude.{ℕ, zero, suc, List, ◌≡◌, ◌<◌, ◌≤◌, ◌+◌, ◌==◌, ◌&&◌, not, length, map, slice_index_or, slice_set, sum_by, if◌then◌else◌}
+use Rattle.std.specs.List.{list_any}
 use Rattle.lt_modes.specs.declared.ask.Ask.{Ask}
 use Rattle.lt_modes.specs.Fits.{has_client}
 use Rattle.lt_modes.specs.Freezing.{map_from}
 use Rattle.lt_modes.specs.Modes.{locks_of}
 use Rattle.lt_modes.specs.Script.{ScriptData}
 use Rattle.lt_modes.specs.Serving.{waits}
-use Rattle.lt_modes.specs.State.{SetState, Made, first_state}
+use Rattle.lt_modes.specs.State.{Made, first_state}
 use Rattle.lt_lists.specs.Below.{count_below}
 use Rattle.lt_spec.specs.declared.limits.TheConstants.{MAX_SETS_OF_SERVICE}
 use Rattle.lt_desk.specs.DeskData.{OutData}
 use Rattle.lt_core.specs.CoreData.{CoreData, Does}
-use Rattle.lt_node.specs.NodeData.{IsCoreOf, KeptData, kept_of, untouched}
+use Rattle.lt_node.specs.NodeData.{IsCoreOf, kept_of, untouched}
 
 -- how many nodes there are and which one this is; for each set 0, or one more than the place of its core; and what is
 -- kept for each set
@@ -67,21 +68,21 @@ pub record SetDoes (s : ℕ) (made : Made) (old : SetsData) (had : OutData) (new
 
 -- In how many sets each client waits.
 
--- 1 where one of the asks is of the client
-abbrev pub asks_of : List Ask → ℕ → ℕ
-asks_of asks client = if has_client client asks then 1 else 0
+-- 1 where one of the asks is of the client, and it isn't among those that gave up theirs
+abbrev pub asks_of : List Ask → List ℕ → ℕ → ℕ
+asks_of asks gone client = if has_client client asks && not (list_any (λ other. other == client) gone) then 1 else 0
 
--- for each client whose ask is among these it is one set less
-pub record WaitLess (asks : List Ask) (old new : List ℕ) : Type 0 where
+-- for each client whose ask is among these, and not given up, it is one set less
+pub record WaitLess (asks : List Ask) (gone : List ℕ) (old new : List ℕ) : Type 0 where
   pub count : length new ≡ length old
   pub each : (client : ℕ) → client < length old
-      → slice_index_or new client 0 + asks_of asks client ≡ slice_index_or old client 0
+      → slice_index_or new client 0 + asks_of asks gone client ≡ slice_index_or old client 0
 
 -- for each of them it is one set more
-pub record WaitMore (asks : List Ask) (old new : List ℕ) : Type 0 where
+pub record WaitMore (asks : List Ask) (gone : List ℕ) (old new : List ℕ) : Type 0 where
   pub count : length new ≡ length old
   pub each : (client : ℕ) → client < length old
-      → slice_index_or new client 0 ≡ slice_index_or old client 0 + asks_of asks client
+      → slice_index_or new client 0 ≡ slice_index_or old client 0 + asks_of asks gone client
 
 -- in how many of so many sets the client waits
 abbrev pub waiting_sets : ℕ → (ℕ → CoreData) → ℕ → ℕ

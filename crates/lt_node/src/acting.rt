@@ -1,10 +1,10 @@
-ghost use Rattle.std.specs.Prelude.{◌≡◌, ◌+◌, ◌≤◌, ◌<◌, ◌&&◌, ◌^◌, ◌∷◌, [], not, length, Some, IsTrue};
+ghost use Rattle.std.specs.Prelude.{◌≡◌, ◌+◌, ◌≤◌, ◌<◌, ◌&&◌, ◌^◌, length, Some, IsTrue};
 ghost use Rattle.lt_core.specs.CoreData.{answer_of, move_of};
-ghost use Rattle.lt_spec.specs.NodeMove.{home, node_waits, has_command, next_command, node_act, one_made, at_clock, obey, touched, related, locks_in_sets};
+ghost use Rattle.lt_spec.specs.NodeMove.{home, is_free_at, has_command, next_command, node_act, one_made, at_clock, obey, touched, related, locks_in_sets};
 ghost use Rattle.lt_spec.specs.Script.{HasTargets};
 ghost use Rattle.lt_spec.specs.declared.limits.TheConstants.{MAX_COMMANDS_OF_SERVICE};
 ghost use Rattle.lt_modes.specs.declared.command.Command.TheVariants as commands;
-ghost use Rattle.lt_node.specs.NodeData.{NodeDoes, IsNode, AreReady, state_of, core_at};
+ghost use Rattle.lt_node.specs.NodeData.{NodeDoes, IsNode, AreReady, IsSetReady, KeepsClient, state_of, core_at};
 ghost use Rattle.lt_node.specs.Touched.{RoomToAct, leaves_room_to_act, touched_sets, drops_few};
 ghost use Rattle.lt_node.specs.Clients.{answer_of_act, answer_to};
 
@@ -20,7 +20,7 @@ impl Node {
     pub fn act(&mut self, client: u16, out: &mut Out) -> Answer
         requires client { client < length self.old.script.clients }
         requires home { home self.old.script client ≡ self.old.me }
-        requires runnable { IsTrue (not (node_waits self.old.script (state_of self.old) client) && has_command self.old.script (state_of self.old) client) }
+        requires runnable { IsTrue (is_free_at self.old.script (state_of self.old) client && has_command self.old.script (state_of self.old) client) }
         requires within { IsTrue (leaves_room_to_act self.old.script (state_of self.old) client) }
         requires room { RoomToAct client self.old out.old }
         requires clock { self.old.clock + 1 < 2 ^ 62 }
@@ -55,6 +55,7 @@ impl Node {
         requires node { stamp.node ≡ self.old.me }
         requires targets { HasTargets self.old.script.sets self.old.script.clients client command }
         requires ready { AreReady (touched_sets self.old.script command) stamp.clock (core_at self.old) out.old }
+        requires keeps { KeepsClient client (core_at self.old) command }
         requires few { IsTrue (drops_few self.old.script (state_of self.old) (Some command)) }
         ensures answer { result ≡ answer_to self.old.script self.old.me client (state_of self.old) command }
         ensures does { NodeDoes (obey self.old.script stamp client (Some command) (state_of self.old)) self.old out.old self.new out.new }
@@ -89,6 +90,13 @@ impl Node {
             Command::DropAll { client: other, set } => self.drop_all(
                 client, other, set, stamp, out,
             ),
+            Command::Withdraw { client: other, set } => self.touch(
+                set,
+                client,
+                SetCommand::Withdraw(other),
+                stamp,
+                out,
+            ),
         }
     }
 
@@ -104,7 +112,7 @@ impl Node {
     ) -> Answer
         requires node { stamp.node ≡ self.old.me }
         requires set { set < length self.old.script.sets }
-        requires ready { AreReady (set ∷ []) stamp.clock (core_at self.old) out.old }
+        requires ready { IsSetReady client command stamp.clock (core_at self.old set) out.old }
         ensures answer { result ≡ answer_of self.old.me client command ((state_of self.old).set set) }
         ensures does { NodeDoes (touched (state_of self.old) set (move_of stamp client command set ((state_of self.old).set set))) self.old out.old self.new out.new }
     {

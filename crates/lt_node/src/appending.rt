@@ -1,6 +1,6 @@
 // Commands that come while the node is at work.
 ghost use Rattle.std.specs.Prelude.{◌≡◌, ◌<◌, length, OnOk, OnErr};
-ghost use Rattle.lt_spec.specs.Script.{HasTargets, HasModesOf};
+ghost use Rattle.lt_spec.specs.Script.{HasTargets, IsOfVersion};
 ghost use Rattle.lt_spec.specs.declared.limits.TheConstants.{MAX_COMMANDS_OF_SERVICE};
 ghost use Rattle.lt_spec.specs.NodeMove.{home};
 ghost use Rattle.lt_node.specs.Clients.{with_request, with_command};
@@ -17,7 +17,7 @@ impl Node {
         requires client { client < length self.old.script.clients }
         requires home { home self.old.script client ≡ self.old.me }
         requires targets { HasTargets self.old.script.sets self.old.script.clients client command }
-        requires modes { HasModesOf self.old.script.version command }
+        requires modes { IsOfVersion self.old.script.version command }
         requires room { length self.old.script.commands < MAX_COMMANDS_OF_SERVICE }
         ensures appended { OnOk result
             (self.new ≡ record self.old { script = with_request self.old.script client command }) }
@@ -42,7 +42,7 @@ fn append_to(
 ) -> Result<(), AllocError>
     requires client { client < length script.old.whole.clients }
     requires targets { HasTargets script.old.whole.sets script.old.whole.clients client command }
-    requires modes { HasModesOf script.old.whole.version command }
+    requires modes { IsOfVersion script.old.whole.version command }
     requires room { length script.old.whole.commands < MAX_COMMANDS_OF_SERVICE }
     ensures list { OnOk result (list.new ≡ with_command list.old command) }
     ensures script { OnOk result

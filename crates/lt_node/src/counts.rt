@@ -1,5 +1,6 @@
 // In how many sets each client waits: a number for each client.
-ghost use Rattle.std.specs.Prelude.{◌≡◌, ◌≤◌, ◌<◌, ◌+◌, ℕ, IfOk, length, not, replicate, slice_index_or, take, if◌then◌else◌, ◌==◌};
+ghost use Rattle.std.specs.Prelude.{◌≡◌, ◌≤◌, ◌<◌, ◌+◌, ◌&&◌, ℕ, IfOk, length, not, replicate, slice_index_or, take, if◌then◌else◌, ◌==◌};
+ghost use Rattle.std.specs.List.{list_any};
 ghost use Rattle.lt_modes.specs.Fits.{has_client};
 ghost use Rattle.lt_modes.specs.State.{no_ask};
 ghost use Rattle.lt_spec.specs.declared.limits.TheConstants.{MAX_SETS_OF_SERVICE};
@@ -17,29 +18,46 @@ pub(crate) fn zeros(alloc: Global, count: usize) -> Result<Vec<u32>, AllocError>
     Ok(zeros)
 }
 
-/// The clients whose asks these are wait in one set less.
-pub(crate) fn wait_less(counts: &mut Vec<u32>, asks: &[Ask])
+/// The clients whose asks these are, and which didn't give them up, wait in one set less.
+pub(crate) fn wait_less(counts: &mut Vec<u32>, asks: &[Ask], gone: &[u16])
     requires { (client : ℕ) → client < length counts.old.items
-        → asks_of asks.now client ≤ slice_index_or counts.old.items client 0 }
-    ensures { WaitLess asks.now counts.old.items counts.new.items }
+        → asks_of asks.now gone.now client ≤ slice_index_or counts.old.items client 0 }
+    ensures { WaitLess asks.now gone.now counts.old.items counts.new.items }
 {
     for k in 0..asks.len() {
-        if is_first(asks, k) {
+        if waits_first(asks, gone, k) {
             count_less(counts, asks[k].client);
         }
     }
 }
 
-/// The clients whose asks these are wait in one set more.
-pub(crate) fn wait_more(counts: &mut Vec<u32>, asks: &[Ask])
+/// The clients whose asks these are, and which didn't give them up, wait in one set more.
+pub(crate) fn wait_more(counts: &mut Vec<u32>, asks: &[Ask], gone: &[u16])
     requires { (client : ℕ) → slice_index_or counts.old.items client 0 ≤ MAX_SETS_OF_SERVICE }
-    ensures { WaitMore asks.now counts.old.items counts.new.items }
+    ensures { WaitMore asks.now gone.now counts.old.items counts.new.items }
 {
     for k in 0..asks.len() {
-        if is_first(asks, k) {
+        if waits_first(asks, gone, k) {
             count_more(counts, asks[k].client);
         }
     }
+}
+
+// Whether the ask at this place wasn't given up, and none before it is of its client.
+fn waits_first(asks: &[Ask], gone: &[u16], k: usize) -> bool
+    requires { k < length asks.now }
+    ensures { result ≡ (not (has_client (slice_index_or asks.now k no_ask).client (take k asks.now))
+        && not (list_any (λ other. other == (slice_index_or asks.now k no_ask).client) gone.now)) }
+{
+    is_first(asks, k) && !is_gone(gone, asks[k].client)
+}
+
+// Whether the client is among these.
+#[inline(always)]
+fn is_gone(gone: &[u16], client: u16) -> bool
+    ensures { result ≡ list_any (λ other. other == client) gone.now }
+{
+    gone.iter().any(|other| *other == client)
 }
 
 // Whether no ask before this place is of the client of the one there.

@@ -10,6 +10,7 @@ mod counts;
 mod ending;
 mod family;
 mod forgetting;
+mod freeing;
 mod limits;
 mod long_script;
 mod node;

@@ -22,20 +22,21 @@ impl Node {
         requires left { IsTrue (has_command self.now.script (state_of self.now) client) }
         ensures { result ≡ leaves_room_to_act self.now.script (state_of self.now) client }
     {
-        self.leaves_room_to_obey(self.clients[usize::from(client)].upcoming())
+        self.leaves_room_to_obey(client, self.clients[usize::from(client)].upcoming())
     }
 
-    // The same for a command.
-    fn leaves_room_to_obey(&self, command: Command) -> bool
+    // The same for a command of the client.
+    fn leaves_room_to_obey(&self, client: u16, command: Command) -> bool
         requires { named_set command < length self.now.script.sets }
-        ensures { result ≡ leaves_room_to_obey self.now.script (state_of self.now) (Some command) }
+        ensures { result ≡ leaves_room_to_obey self.now.script (state_of self.now) client (Some command) }
     {
         match command {
             Command::Lock { set, .. }
             | Command::Try { set, .. }
             | Command::Unlock { set, .. }
-            | Command::Change { set, .. } => self.leaves_room_in(set),
-            Command::DropAll { client, set } => self.leaves_room_to_drop(client, set),
+            | Command::Change { set, .. }
+            | Command::Withdraw { set, .. } => self.leaves_room_in(client, set),
+            Command::DropAll { client: other, set } => self.leaves_room_to_drop(client, other, set),
         }
     }
 
@@ -47,26 +48,26 @@ impl Node {
         is_within(self.core(letter.set), self.clock)
     }
 
-    // Whether there is room for a command in the set.
-    fn leaves_room_in(&self, set: u32) -> bool
+    // Whether there is room for a command of the client in the set.
+    fn leaves_room_in(&self, client: u16, set: u32) -> bool
         requires { set < length self.now.script.sets }
-        ensures { result ≡ leaves_room_in (state_of self.now) set }
+        ensures { result ≡ leaves_room_in (state_of self.now) client set }
     {
         let core = self.core(set);
-        is_within(core, self.clock) && leaves_ask(core)
+        is_within(core, self.clock) && leaves_ask(core, client)
     }
 
-    // Whether there is room to drop the client's locks in the family of the set.
-    fn leaves_room_to_drop(&self, client: u16, set: u32) -> bool
+    // Whether there is room for the client to drop the other one's locks in the family of the set.
+    fn leaves_room_to_drop(&self, client: u16, other: u16, set: u32) -> bool
         requires { set < length self.now.script.sets }
-        ensures { result ≡ leaves_room_to_obey self.now.script (state_of self.now)
-            (Some (commands.DropAll client set)) }
+        ensures { result ≡ leaves_room_to_obey self.now.script (state_of self.now) client
+            (Some (commands.DropAll other set)) }
     {
         let script = self.script.kept();
         let mut locks = 0;
         let mut next = Some(first_related(script, set));
         while let Some(k) = next {
-            match self.with_dropped(k, client, locks) {
+            match self.with_dropped(client, k, other, locks) {
                 Some(all) => locks = all,
                 None => return false,
             }
@@ -75,17 +76,18 @@ impl Node {
         true
     }
 
-    // So many locks and those that the client has in the set, where there is room to drop all of them.
-    fn with_dropped(&self, set: u32, client: u16, locks: u64) -> Option<u64>
+    // So many locks and those that the other client has in the set, where there is room for the client to drop all of
+    // them.
+    fn with_dropped(&self, client: u16, set: u32, other: u16, locks: u64) -> Option<u64>
         requires set { set < length self.now.script.sets }
         requires few { locks ≤ MAX_COMMANDS_OF_SERVICE }
-        ensures dropped { result ≡ with_dropped (state_of self.now) set client locks }
+        ensures dropped { result ≡ with_dropped (state_of self.now) client set other locks }
         ensures few { IfSome result (λ all. all ≤ MAX_COMMANDS_OF_SERVICE) }
     {
-        if !self.leaves_room_in(set) {
+        if !self.leaves_room_in(client, set) {
             return None;
         }
-        let all = locks + self.core(set).held_count(client);
+        let all = locks + self.core(set).held_count(other);
         if all <= MAX_COMMANDS_OF_SERVICE {
             Some(all)
         } else {
@@ -101,8 +103,10 @@ fn is_within(core: &Core, clock: u64) -> bool
         && (core.keeps_at_most(u32::from(MAX_CLIENTS)) && core.is_desk_within(clock))
 }
 
-fn leaves_ask(core: &Core) -> bool
-    ensures { result ≡ leaves_ask core.now.state }
+// Whether the client may ask in the set, or has an ask there already.
+#[tactic(auto, using(std::proofs::lemmas::Bool::or_right))]
+fn leaves_ask(core: &Core, client: u16) -> bool
+    ensures { result ≡ leaves_ask client core.now.state }
 {
-    core.unanswered() < usize::from(MAX_CLIENTS_OF_NODE)
+    core.unanswered() < usize::from(MAX_CLIENTS_OF_NODE) || core.has_ask(client)
 }

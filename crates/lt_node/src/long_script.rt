@@ -1,5 +1,5 @@
 ghost use Rattle.std.specs.Prelude.{◌≡◌, ◌<◌, length, OnOk, OnErr};
-ghost use Rattle.lt_spec.specs.Script.{IsScript, IsRequest, HasModesOf};
+ghost use Rattle.lt_spec.specs.Script.{IsScript, IsRequest, IsOfVersion};
 ghost use Rattle.lt_spec.specs.declared.limits.TheConstants.{MAX_COMMANDS_OF_SERVICE};
 ghost use Rattle.lt_node.specs.Clients.{with_request};
 ghost use Rattle.lt_node.specs.Forgetting.{without_first};
@@ -68,7 +68,7 @@ impl LongScript {
     pub(crate) fn add_command(&mut self, client: u16, command: Command) -> Result<(), AllocError>
         requires room { length self.old.whole.commands < MAX_COMMANDS_OF_SERVICE }
         requires request { IsRequest self.old.whole.sets self.old.whole.clients (client, command) }
-        requires modes { HasModesOf self.old.whole.version command }
+        requires modes { IsOfVersion self.old.whole.version command }
         ensures added { OnOk result
             (self.new ≡ record self.old { whole = with_request self.old.whole client command }) }
         ensures same { OnErr result (self.new ≡ self.old) }

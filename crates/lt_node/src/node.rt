@@ -1,8 +1,8 @@
-ghost use Rattle.std.specs.Prelude.{◌≡◌, ◌<◌, ◌+◌, ◌&&◌, ◌^◌, ℕ, not, length, IfOk, slice_index_or};
+ghost use Rattle.std.specs.Prelude.{◌≡◌, ◌<◌, ◌+◌, ◌&&◌, ◌^◌, ℕ, length, IfOk, slice_index_or};
 ghost use Rattle.lt_modes.specs.Fits.{fits, numbers_of};
 ghost use Rattle.lt_desk.specs.LetterSeen.{letter_seen};
 ghost use Rattle.lt_core.specs.Steps.{rule_numbers as numbers_seen};
-ghost use Rattle.lt_spec.specs.NodeMove.{home, node_waits, has_command, act_stamp, take_stamp};
+ghost use Rattle.lt_spec.specs.NodeMove.{home, node_waits, is_free_at, has_command, act_stamp, take_stamp};
 ghost use Rattle.lt_spec.specs.World.{start};
 ghost use Rattle.lt_spec.specs.Script.{IsScript};
 ghost use Rattle.lt_node.specs.NodeData.{IsNode, state_of, kept_script};
@@ -194,20 +194,23 @@ impl Node {
         self.clients[usize::from(client)].made()
     }
 
-    /// Whether an ask of the client is unanswered, in some set.
+    /// Whether an ask of the client is unanswered, and not given up, in some set.
     pub fn waits(&self, client: u16) -> bool
         ensures { result ≡ node_waits self.now.script (state_of self.now) client }
     {
         self.sets.waits(client)
     }
 
-    /// Whether the client, of this node, doesn't wait and has a command left.
+    /// Whether the client, of this node, has a command left, and doesn't wait or gives up by it what it waits for.
     pub fn runnable(&self, client: u16) -> bool
         requires client { client < length self.now.script.clients }
         requires home { home self.now.script client ≡ self.now.me }
-        ensures { result ≡ (not (node_waits self.now.script (state_of self.now) client) && has_command self.now.script (state_of self.now) client) }
+        ensures { result ≡ (is_free_at self.now.script (state_of self.now) client && has_command self.now.script (state_of self.now) client) }
     {
-        !self.waits(client) && self.clients[usize::from(client)].has_next()
+        if self.waits(client) {
+            return self.withdraws_itself(client);
+        }
+        self.has_command(client)
     }
 
     /// The stamp of the next command that is made here.

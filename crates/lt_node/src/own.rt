@@ -8,7 +8,7 @@ use lt_script::{MAX_CLIENTS_OF_NODE, Script};
 use std::alloc::{AllocError, Global};
 
 impl Node {
-    /// The first client of this node that doesn't wait and has a command left.
+    /// The first client of this node that has a command left, and doesn't wait or gives up by it what it waits for.
     pub fn first_runnable(&self) -> Option<u16>
         ensures { IsLeast (length self.now.script.clients) (is_runnable_here self.now.script self.now.me (state_of self.now)) result }
     {

@@ -1,5 +1,5 @@
 // Memory for a move, before it is made: in the sets that it touches.
-ghost use Rattle.std.specs.Prelude.{◌≡◌, ◌≢◌, ◌+◌, ◌≤◌, ◌<◌, ◌^◌, ℕ, length, IfOk, IsOk, IsTrue, OnOk};
+ghost use Rattle.std.specs.Prelude.{◌≡◌, ◌≢◌, ◌+◌, ◌≤◌, ◌<◌, ◌^◌, ℕ, length, IfOk, IsOk, IsTrue, OnOk, Some};
 ghost use Rattle.lt_modes.specs.Fits.{fits, numbers_of};
 ghost use Rattle.lt_spec.specs.NodeMove.{home, has_command, related};
 ghost use Rattle.lt_spec.specs.declared.limits.TheConstants.{MAX_SETS_OF_SERVICE};
@@ -8,7 +8,7 @@ ghost use Rattle.lt_core.specs.Bound.{brought};
 ghost use Rattle.lt_core.specs.CoreData.{HasMemory};
 ghost use Rattle.lt_node.specs.NodeData.{SameNode, RoomToTake, RoomForLetter, HasFewAsks, state_of, most_sent};
 ghost use Rattle.lt_node.specs.Sets.{SameSets, core_in};
-ghost use Rattle.lt_node.specs.Touched.{RoomToAct, HaveFewAsks, HaveMemory, leaves_room_to_act, leaves_room_to_take, touched_sets, named_set, sent_by};
+ghost use Rattle.lt_node.specs.Touched.{LeavesMark, RoomToAct, HaveFewAsks, HaveMemory, leaves_room_to_act, leaves_room_to_take, touched_sets, named_set, sent_by};
 
 use crate::family::first_related;
 use crate::node::Node;
@@ -54,7 +54,8 @@ impl Node {
     }
 }
 
-// Makes room in each set that the command touches, and says how many letters, and event lines, they may send.
+// Makes room in each set that the command touches, also for a mark, and says how many letters, and event lines, they
+// may send.
 fn reserve_touched(sets: &mut Sets, script: &Script, command: Command) -> Result<u32, AllocError>
     requires named { named_set command < length script.now.sets }
     requires count { length sets.old.cores ≡ length script.now.sets }
@@ -62,9 +63,11 @@ fn reserve_touched(sets: &mut Sets, script: &Script, command: Command) -> Result
     requires few { HaveFewAsks sets.old (touched_sets script.now command) }
     ensures same { SameSets sets.old sets.new }
     ensures room { OnOk result (HaveMemory sets.new (touched_sets script.now command)) }
+    ensures mark { OnOk result (LeavesMark (core_in sets.new) (Some command)) }
     ensures sent { IfOk result (λ sent. sent ≡ sent_by sets.new (touched_sets script.now command)) }
     ensures small { IfOk result (λ sent. sent + 1 < 2 ^ 32) }
-    ensures full { HaveMemory sets.old (touched_sets script.now command) → IsOk result }
+    ensures full { HaveMemory sets.old (touched_sets script.now command)
+        → LeavesMark (core_in sets.old) (Some command) → IsOk result }
 {
     match command {
         Command::Lock { set, .. }
@@ -72,7 +75,23 @@ fn reserve_touched(sets: &mut Sets, script: &Script, command: Command) -> Result
         | Command::Unlock { set, .. }
         | Command::Change { set, .. } => reserve_set(sets, set),
         Command::DropAll { set, .. } => reserve_family(sets, script, set),
+        Command::Withdraw { set, .. } => reserve_marked(sets, set),
     }
+}
+
+// The same in the set of a `withdraw`, with a place for the mark.
+fn reserve_marked(sets: &mut Sets, set: u32) -> Result<u32, AllocError>
+    requires set { set < length sets.old.cores }
+    requires few { HasFewAsks (core_in sets.old set) }
+    ensures same { SameSets sets.old sets.new }
+    ensures room { OnOk result (HasMemory 0 (core_in sets.new set)) }
+    ensures mark { OnOk result (1 ≤ (core_in sets.new set).mark_room) }
+    ensures sent { IfOk result (λ sent. sent ≡ most_sent (core_in sets.new set)) }
+    ensures small { IfOk result (λ sent. sent ≤ 323) }
+    ensures full { HasMemory 0 (core_in sets.old set) → 1 ≤ (core_in sets.old set).mark_room → IsOk result }
+{
+    sets.reserve_mark(set)?;
+    reserve_set(sets, set)
 }
 
 // The same in the family of a set.
@@ -105,6 +124,7 @@ fn reserve_set(sets: &mut Sets, set: u32) -> Result<u32, AllocError>
     ensures room { OnOk result (HasMemory 0 (core_in sets.new set)) }
     ensures sent { IfOk result (λ sent. sent ≡ most_sent (core_in sets.new set)) }
     ensures small { IfOk result (λ sent. sent ≤ 323) }
+    ensures mark { (core_in sets.old set).mark_room ≤ (core_in sets.new set).mark_room }
     ensures full { HasMemory 0 (core_in sets.old set) → IsOk result }
 {
     sets.reserve(set)?;

@@ -93,7 +93,7 @@ impl Sets {
         }
     }
 
-    /// Whether an ask of the client is unanswered, in some set.
+    /// Whether an ask of the client is unanswered, and not given up, in some set.
     pub(crate) fn waits(&self, client: u16) -> bool
         ensures { result ≡ any_below (length self.now.cores) (λ s. waits (core_in self.now s).state client) }
     {
@@ -125,6 +125,7 @@ impl Sets {
         ensures touched { OnOk result (IsTouched self.new set) }
         ensures full { HasMemory 0 (core_in self.old set) → IsOk result }
         ensures had { HasMemory 0 (core_in self.old set) → self.new ≡ self.old }
+        ensures mark { (core_in self.old set).mark_room ≤ (core_in self.new set).mark_room }
     {
         let place = set as usize;
         if self.places[place] != 0 {
@@ -145,11 +146,26 @@ impl Sets {
         ensures same { SameSets self.old self.new }
         ensures others { (other : ℕ) → other ≢ set → core_in self.new other ≡ core_in self.old other }
         ensures room { OnOk result (HasMemory 0 (core_in self.new set)) }
+        ensures mark { (core_in self.old set).mark_room ≤ (core_in self.new set).mark_room }
         ensures full { HasMemory 0 (core_in self.old set) → IsOk result }
     {
         self.touch(set)?;
         let place = place_of(&self.places, set);
         self.cores[place].reserve()
+    }
+
+    /// Makes room in the set for a mark, which a `withdraw` may leave there.
+    pub(crate) fn reserve_mark(&mut self, set: u32) -> Result<(), AllocError>
+        requires set { set < length self.old.cores }
+        ensures same { SameSets self.old self.new }
+        ensures others { (other : ℕ) → other ≢ set → core_in self.new other ≡ core_in self.old other }
+        ensures room { OnOk result (1 ≤ (core_in self.new set).mark_room) }
+        ensures kept { HasMemory 0 (core_in self.old set) → HasMemory 0 (core_in self.new set) }
+        ensures full { HasMemory 0 (core_in self.old set) → 1 ≤ (core_in self.old set).mark_room → IsOk result }
+    {
+        self.touch(set)?;
+        let place = place_of(&self.places, set);
+        self.cores[place].reserve_mark()
     }
 
     /// Makes room in the set, and in the desk that the letter brings, for the move that takes the letter.
@@ -184,16 +200,16 @@ impl Sets {
     ) -> Answer
         requires set { set < length self.old.cores }
         requires node { stamp.node ≡ self.old.me }
-        requires ready { IsSetReady stamp.clock (core_in self.old set) out.old }
+        requires ready { IsSetReady client command stamp.clock (core_in self.old set) out.old }
         ensures answer { result ≡ answer_of stamp.node client command (core_in self.old set).state }
         ensures does { SetDoes set (move_of stamp client command set (core_in self.old set).state)
             self.old out.old self.new out.new }
     {
         let place = place_of(&self.places, set);
         let core = &mut self.cores[place];
-        wait_less(&mut self.waiting, core.asks());
+        wait_less(&mut self.waiting, core.asks(), core.gone());
         let answer = core.act(client, command, stamp, out);
-        wait_more(&mut self.waiting, core.asks());
+        wait_more(&mut self.waiting, core.asks(), core.gone());
         answer
     }
 
@@ -210,9 +226,9 @@ impl Sets {
     {
         let place = place_of(&self.places, letter.set);
         let core = &mut self.cores[place];
-        wait_less(&mut self.waiting, core.asks());
+        wait_less(&mut self.waiting, core.asks(), core.gone());
         core.take(letter, stamp, out);
-        wait_more(&mut self.waiting, core.asks());
+        wait_more(&mut self.waiting, core.asks(), core.gone());
     }
 
     /// Ends the move in the set; where a client is given, its locks there go first.
@@ -227,9 +243,9 @@ impl Sets {
     {
         let place = place_of(&self.places, set);
         let core = &mut self.cores[place];
-        wait_less(&mut self.waiting, core.asks());
+        wait_less(&mut self.waiting, core.asks(), core.gone());
         end(core, dropped, stamp, out);
-        wait_more(&mut self.waiting, core.asks());
+        wait_more(&mut self.waiting, core.asks(), core.gone());
     }
 }
 

@@ -1,5 +1,6 @@
 ghost use Rattle.std.specs.Prelude.{◌≡◌, ◌<◌, is_some, length};
 ghost use Rattle.lt_modes.specs.Modes.{count_of};
+ghost use Rattle.lt_modes.specs.Serving.{is_gone};
 ghost use Rattle.lt_modes.specs.Waiting.{pending_ask, stands_before, parked_behind};
 ghost use Rattle.lt_spec.specs.NodeMove.{node_waits};
 ghost use Rattle.lt_node.specs.NodeData.{first_ask, state_of};
@@ -18,7 +19,7 @@ impl Node {
         self.core(set).count(client, mode)
     }
 
-    /// The client's unanswered ask in the set, if it has one.
+    /// The client's unanswered ask in the set, if it has one, given up or not.
     pub fn ask_in(&self, set: u32, client: u16) -> Option<Ask>
         requires { set < length self.now.script.sets }
         ensures { result ≡ pending_ask ((state_of self.now).set set) client }
@@ -26,7 +27,15 @@ impl Node {
         self.core(set).ask_of(client)
     }
 
-    /// The client's unanswered ask, if it has one, and its set: the first one, if it has more.
+    /// Whether the client's unanswered ask in the set was given up.
+    pub fn is_gone(&self, set: u32, client: u16) -> bool
+        requires { set < length self.now.script.sets }
+        ensures { result ≡ is_gone ((state_of self.now).set set) client }
+    {
+        self.core(set).is_gone(client)
+    }
+
+    /// The ask for which the client waits, if it does, and its set: the first one, if it has more.
     pub fn ask_of(&self, client: u16) -> Option<(u32, Ask)>
         ensures ask { result ≡ first_ask self.now.script (state_of self.now) client }
         ensures some { is_some result ≡ node_waits self.now.script (state_of self.now) client }
@@ -34,12 +43,12 @@ impl Node {
         self.search_ask(client)
     }
 
-    // The client's unanswered ask in the first set that has one.
+    // The ask for which the client waits in the first set where it does.
     fn search_ask(&self, client: u16) -> Option<(u32, Ask)>
         ensures { result ≡ first_ask self.now.script (state_of self.now) client }
     {
         for set in 0..self.script.kept().sets() {
-            if let Some(ask) = self.ask_in(set, client) {
+            if let Some(ask) = self.core(set).live_ask(client) {
                 return Some((set, ask));
             }
         }

@@ -37,6 +37,7 @@ pub(crate) fn make(
             drop_family(locks, script, other, set);
             Ok(other == client)
         }
+        Command::Withdraw { .. } => Ok(true),
     }
 }
 

@@ -1,11 +1,11 @@
 -- What the move that a runner shows says of its state.
-use Rattle.std.proofs.Common.{◌≡◌, ◌≢◌, ◌<◌, ℕ, inl, inr, arith, zero, suc, Option, Some, None, Bool, true, false, refl, sym, ap, subst, ◌∙◌, ◌&&◌, ◌==◌, not, nat_lt, if◌then◌else◌, IsTrue, IfSome, length, lt-ltb, ltb-true, eqb-true}
+use Rattle.std.proofs.Common.{◌≡◌, ◌≢◌, ◌<◌, ℕ, inl, inr, arith, zero, suc, Option, Some, None, Bool, true, false, refl, sym, ap, subst, ◌∙◌, ◌&&◌, ◌==◌, nat_lt, if◌then◌else◌, IsTrue, IfSome, length, lt-ltb, ltb-true, eqb-true}
 use Rattle.std.proofs.lemmas.Bool.{and_parts, cases_eq}
 use Rattle.lt_modes.specs.Script.{ScriptData}
 use Rattle.lt_modes.specs.State.{Letter, SetState}
 use Rattle.lt_modes.specs.Fits.{Numbers, head_fits, body_fits, fits, numbers_of}
 use Rattle.lt_desk.specs.LetterSeen.{letter_seen}
-use Rattle.lt_spec.specs.NodeMove.{home, node_waits, has_command, NodeState}
+use Rattle.lt_spec.specs.NodeMove.{home, is_free_at, has_command, NodeState}
 use Rattle.lt_spec.specs.FixedOrder.{can_act}
 use Rattle.lt_node.specs.NodeData.{state_of}
 use Rattle.lt_node.specs.Clients.{IsLeast, is_runnable_here}
@@ -76,19 +76,19 @@ first_can script me n client e = least_passes (length script.clients) (can_act s
 pub record IsRunnable (script : ScriptData) (me : ℕ) (n : NodeState) (client : ℕ) : Type 0 where
   pub known : client < length script.clients
   pub home : home script client ≡ me
-  pub runs : IsTrue (not (node_waits script n client) && has_command script n client)
+  pub runs : IsTrue (is_free_at script n client && has_command script n client)
   pub left : IsTrue (has_command script n client)
 
 pub is_runnable : (script : ScriptData) (me : ℕ) (n : NodeState) (client : ℕ) → IsTrue (can_act script me n client) → IsRunnable script me n client
 is_runnable script me n client can =
-    let runs = not (node_waits script n client) && has_command script n client in
+    let runs = is_free_at script n client && has_command script n client in
     let parts = and_parts (nat_lt client (length script.clients)) (home script client == me && runs) can in
     let more = and_parts (home script client == me) runs parts.1 in
     record {
       known = ltb-true client (length script.clients) parts.0;
       home = eqb-true (home script client) me more.0;
       runs = more.1;
-      left = (and_parts (not (node_waits script n client)) (has_command script n client) more.1).1;
+      left = (and_parts (is_free_at script n client) (has_command script n client) more.1).1;
     }
 
 -- a letter that fits is of a set of the script

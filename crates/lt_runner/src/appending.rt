@@ -1,6 +1,6 @@
 // Commands that come while the runner is at work, and what it shows of these and of its moves.
 ghost use Rattle.std.specs.Prelude.{◌≡◌, ◌<◌, length, OnOk, OnErr};
-ghost use Rattle.lt_spec.specs.Script.{IsScript, HasTargets, HasModesOf};
+ghost use Rattle.lt_spec.specs.Script.{IsScript, HasTargets, IsOfVersion};
 ghost use Rattle.lt_spec.specs.declared.limits.TheConstants.{MAX_COMMANDS_OF_SERVICE};
 ghost use Rattle.lt_spec.specs.NodeMove.{home};
 ghost use Rattle.lt_node.specs.NodeData.{kept_script};
@@ -18,7 +18,7 @@ impl Runner {
         requires client { client < length self.old.node.script.clients }
         requires home { home self.old.node.script client ≡ self.old.node.me }
         requires targets { HasTargets self.old.node.script.sets self.old.node.script.clients client command }
-        requires modes { HasModesOf self.old.node.script.version command }
+        requires modes { IsOfVersion self.old.node.script.version command }
         requires room { length self.old.node.script.commands < MAX_COMMANDS_OF_SERVICE }
         ensures appended { OnOk result (self.new ≡ with_appended self.old client command) }
         ensures same { OnErr result (self.new ≡ self.old) }

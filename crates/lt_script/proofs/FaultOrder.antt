@@ -1,7 +1,7 @@
 -- The told fault is the least one, and the literals are what they are.
 use Rattle.std.proofs.Common.{◌≡◌, Bool, true, false, ℕ, ◌+◌, ◌<◌, List, [], ◌∷◌, Option, Some, None, inl, inr, refl, sym, ap, subst, ◌∙◌, arith, ◌⊎◌, Ok, Err, ◌≤◌, if◌then◌else◌, ◌==◌, ◌||◌, codes, map, not, nat_lt, length, Contains, Result, option_map, bytes_eq, lt-ltb, le-ltb}
 use Rattle.std.specs.List.{list_all}
-use Rattle.std.proofs.lemmas.Bool.{cases_lt, or_cases, or_left, or_right, false≢true, or_parts}
+use Rattle.std.proofs.lemmas.Bool.{cases_lt, ne_eqb, or_cases, or_left, or_right, false≢true, or_parts}
 use Rattle.std.proofs.lemmas.Slice.Eq.{bytes_eq-Decides}
 use Rattle.lt_modes.specs.Script.{ScriptData}
 use Rattle.lt_lists.proofs.Members.{contains_first, contains_later, contains_cases, none_in}
@@ -11,9 +11,9 @@ use Rattle.lt_text.specs.Text.{words, lines}
 use Rattle.lt_script.specs.declared.fault.Fault.{Fault}
 use Rattle.lt_script.specs.declared.fault.Fault.TheVariants as faults
 use Rattle.lt_script.specs.Fault.{number_of}
-use Rattle.lt_script.specs.Forms.{FormData, form_of, CommandForm, asked_of}
-use Rattle.lt_script.specs.Faults.{is_plain_byte, declared, first_true, fault_by_form, line_fault, form_fault, after_form}
-use Rattle.lt_script.specs.Reading.{has_fault_by, IsLeastFault, LeastIsTold, LimitsAre, reserved, ReservedAre, NumbersAre, FormsAre, is_skipped, line_step, unless, script_after, go_on, read_from, script_body, has_fault, IsFirstFault, LacksNodes, FirstIsTold}
+use Rattle.lt_script.specs.Forms.{FormData, form_of, form_in, CommandForm, asked_of}
+use Rattle.lt_script.specs.Faults.{is_plain_byte, declared, line_form, first_true, fault_by_form, line_fault, form_fault, after_form}
+use Rattle.lt_script.specs.Reading.{has_fault_by, IsLeastFault, LeastIsTold, LimitsAre, reserved, ReservedAre, NumbersAre, FormsAre, LaterFormsAre, is_skipped, line_step, unless, script_after, go_on, read_from, script_body, has_fault, IsFirstFault, LacksNodes, FirstIsTold}
 use Rattle.lt_script.specs.declared.fault.ScriptFault.{ScriptFault}
 use Rattle.lt_script.specs.Steps.{begins_comment, begins_declaration, is_plain_line, form_step, step_by_form, words_step}
 
@@ -98,8 +98,8 @@ none_below_one holds faults.Node below = absurd (omega (arith, below))
 
 pub least_is_told : LeastIsTold
 least_is_told v st line =
-    let holds = has_fault_by v st line (form_of (words line)) in
-    subst (IsLeastFault holds) (sym (told_first v st line (form_of (words line)))) (least holds all_faults 1 (none_below_one holds) numbered_all)
+    let holds = has_fault_by v st line (line_form v st line) in
+    subst (IsLeastFault holds) (sym (told_first v st line (line_form v st line))) (least holds all_faults 1 (none_below_one holds) numbered_all)
 
 pub limits_are : LimitsAre
 limits_are = record { nodes = refl; nodes_of_first = refl; sets = refl; clients = refl; clients_of_first = refl; clients_of_node = refl; commands = refl; name = refl; line = refl }
@@ -107,8 +107,8 @@ limits_are = record { nodes = refl; nodes_of_first = refl; sets = refl; clients 
 pub numbers_are : NumbersAre
 numbers_are = refl
 
-pub forms_are : FormsAre
-forms_are = record {
+pub forms_are : (v : ℕ) → FormsAre v
+forms_are v = record {
   version = refl;
   nodes = λ n. refl;
   set = λ s. refl;
@@ -119,6 +119,14 @@ forms_are = record {
   unlock = λ s m. refl;
   change = λ s g m. refl;
   drop = λ d s. refl;
+}
+
+pub later_forms_are : LaterFormsAre
+later_forms_are = record {
+  version = refl;
+  withdraw = λ d s. refl;
+  no_version = λ v below. rw (ne_eqb v 3 (λ same. omega (arith, below, same))) refl;
+  no_withdraw = λ v d s below. rw (ne_eqb v 3 (λ same. omega (arith, below, same))) refl;
 }
 
 -- one of these words, tried one after the other
@@ -168,7 +176,7 @@ by_fault None next fault e = absurd (cc)
 told_of : (v : ℕ) (st : Option ScriptData) (line : List ℕ) (fault : Fault) → line_step v st line ≡ Err fault → Told v st line fault
 unfolding line_step
 told_of v st line fault e =
-    let next = script_after v st (form_of (words line)) in
+    let next = script_after v st (line_form v st line) in
     elim (is_skipped line) as (λ t. is_skipped line ≡ t → (if t then Ok st else unless (line_fault v st line) next) ≡ Err fault → Told v st line fault) [
       | true ↦ λ skipped e. absurd (cc)
       | false ↦ λ judged e. record { judged = judged; first = by_fault (line_fault v st line) next fault e }
@@ -261,7 +269,7 @@ by_form v st (Some form) = refl
 pub line_words_step : (v : ℕ) (st : Option ScriptData) (line word : List ℕ) (rest : List (List ℕ)) → words line ≡ word ∷ rest → begins_comment word ≡ false → is_plain_line line ≡ true → length line ≤ MAX_LINE
     → line_step v st line ≡ words_step v st (word ∷ rest)
 unfolding line_step
-line_words_step v st line word rest e other plain short = rw (plain, le-ltb MAX_LINE (length line) short, e, other) (by_form v st (form_of (word ∷ rest)))
+line_words_step v st line word rest e other plain short = rw (plain, le-ltb MAX_LINE (length line) short, e, other) (by_form v st (form_in (declared v st).version (word ∷ rest)))
 
 -- a line that declares nothing is one of a command
 pub command_form : (word : List ℕ) (rest : List (List ℕ)) → begins_declaration word ≡ false → form_of (word ∷ rest) ≡ option_map (CommandForm word) (asked_of rest)
@@ -281,7 +289,11 @@ pub later_line_step : (v : ℕ) (st : Option ScriptData) (s : ScriptData) (line 
 later_line_step v st s line word rest is e other plain short =
     line_words_step v st line word rest e other plain short
     ∙ ap (λ (o : Option ScriptData). words_step v o (word ∷ rest)) is
-    ∙ of_script v s.version s (form_of (word ∷ rest))
+    ∙ of_script v s.version s (form_in s.version (word ∷ rest))
+
+-- before the line `nodes` it decides which forms a line may have
+pub first_step : (v : ℕ) (st : Option ScriptData) (ws : List (List ℕ)) (form : Option FormData) → st ≡ None → form_in v ws ≡ form → words_step v st ws ≡ step_by_form v st form
+first_step v st ws form none e = ap (λ (so_far : Option ScriptData). step_by_form v st (form_in (declared v so_far).version ws)) none ∙ ap (step_by_form v st) e
 
 -- a form with a fault is told by it
 pub told_step : (v : ℕ) (st : Option ScriptData) (form : FormData) (fault : Fault) → form_fault v st form ≡ Some fault → form_step v st form ≡ Err fault

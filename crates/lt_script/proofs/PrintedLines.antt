@@ -12,7 +12,7 @@ use Rattle.lt_text.proofs.TextLemmas.{words_spaced}
 use Rattle.lt_text.proofs.NumberLemmas.{decimal_are_digits}
 use Rattle.lt_script.specs.Faults.{is_plain_byte, declared, form_fault, after_form}
 use Rattle.lt_script.specs.Steps.{is_text_byte, is_plain_line, ArePlain}
-use Rattle.lt_script.specs.Forms.{FormData, form_of}
+use Rattle.lt_script.specs.Forms.{FormData, form_in}
 use Rattle.lt_script.specs.Reading.{line_step, says_nothing}
 
 put_plain : (byte : ℕ) (pieces : List (List ℕ)) → is_plain_byte byte ≡ true → ArePlain pieces → ArePlain (put_front byte pieces)
@@ -191,7 +191,7 @@ pub record IsPrintedLine (ws : List (List ℕ)) : Type 0 where
   pub says : says_nothing ws ≡ false
 
 -- such a line with a form without fault is read
-pub line_read : (v : ℕ) (st : Option ScriptData) (ws : List (List ℕ)) (form : FormData) → IsPrintedLine ws → form_of ws ≡ Some form → form_fault v st form ≡ None
+pub line_read : (v : ℕ) (st : Option ScriptData) (ws : List (List ℕ)) (form : FormData) → IsPrintedLine ws → form_in (declared v st).version ws ≡ Some form → form_fault v st form ≡ None
     → line_step v st (spaced ws) ≡ Ok (Some (after_form (declared v st) form))
 unfolding line_step
 line_read v st ws form good has_form clean =

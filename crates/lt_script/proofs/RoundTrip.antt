@@ -1,12 +1,12 @@
 -- The text of a script is read as that script.
 use Rattle.lt_script.proofs.RoundTrips.{clients_walk, clients_printed, get_or_middle, Walks, walk_none, walk_more, walk_both, sets_only, clients_only, commands_only, set_fits, set_printed, set_with_printed, sets_walk, read_more, read_end}
-use Rattle.std.proofs.Common.{◌≡◌, ℕ, ◌+◌, ◌<◌, ◌≤◌, ◌==◌, ◌&&◌, Bool, true, false, not, nat_lt, cond, List, [], ◌∷◌, ◌++◌, length, map, get_or, Some, None, Ok, refl, sym, ap, subst, ◌∙◌, inl, inr, arith, append_assoc, append-nil, length-append, codes, IsTrue, bytes_eq, decimal, eq-eqb, lt-ltb, le-ltb}
+use Rattle.std.proofs.Common.{◌≡◌, ℕ, ◌+◌, ◌<◌, ◌≤◌, ◌==◌, Bool, true, false, nat_lt, cond, List, [], ◌∷◌, ◌++◌, length, map, get_or, Some, None, Ok, refl, sym, ap, subst, ◌∙◌, inl, inr, arith, append_assoc, append-nil, length-append, codes, IsTrue, bytes_eq, decimal, eq-eqb, lt-ltb, le-ltb}
 use Rattle.std.specs.List.{AllByRecursion}
 use Rattle.std.proofs.lemmas.Bool.{cases_Bool, lt-leb}
 use Rattle.lt_modes.specs.declared.mode.Mode.{Mode}
 use Rattle.lt_modes.specs.declared.mode.Mode.TheVariants.{IntentionRead, Read, Upgrade, IntentionWrite, ReadIntentionWrite, Write}
 use Rattle.lt_modes.specs.declared.command.Command.{Command}
-use Rattle.lt_modes.specs.declared.command.Command.TheVariants.{Lock, Try, Unlock, Change, DropAll}
+use Rattle.lt_modes.specs.declared.command.Command.TheVariants.{Lock, Try, Unlock, Change, DropAll, Withdraw}
 use Rattle.lt_modes.specs.Modes.{mode_of, word_of}
 use Rattle.lt_modes.specs.FiveModes.{is_of_version}
 use Rattle.lt_modes.specs.Script.{ScriptData, SetData, set_name, client_name, home_at}
@@ -15,8 +15,8 @@ use Rattle.lt_text.specs.Number.{number}
 use Rattle.lt_text.proofs.TextLemmas.{lines_text, words_spaced}
 use Rattle.lt_spec.specs.declared.limits.TheConstants.{MAX_LINE}
 use Rattle.lt_text.proofs.NumberLemmas.{number_decimal}
-use Rattle.lt_spec.specs.Script.{is_name, IsScript, IsShort, IsRequest, HasModesOf, HasTargets, most_nodes}
-use Rattle.lt_script.specs.Forms.{NodesForm, CommandForm, CommandWordsData, LockWords, TryWords, UnlockWords, ChangeWords, DropWords, form_of, asked_of}
+use Rattle.lt_spec.specs.Script.{is_name, IsScript, IsShort, IsRequest, IsOfVersion, HasTargets, most_nodes}
+use Rattle.lt_script.specs.Forms.{NodesForm, CommandForm, CommandWordsData, LockWords, TryWords, UnlockWords, ChangeWords, DropWords, WithdrawWords, form_in, is_asked_in, asked_of}
 use Rattle.lt_script.specs.Faults.{only_nodes, mode_in}
 use Rattle.lt_script.specs.Reading.{ScriptBody, line_step, read_from, script_body, read_body, read_of}
 use Rattle.lt_script.specs.Printing.{version_words, nodes_words, first_name, set_words, client_words, asked_words, command_words, script_words, print_of}
@@ -43,10 +43,11 @@ mode_printed ReadIntentionWrite = refl
 mode_printed Write = refl
 
 -- a line that begins with a name is a command's
-command_form : (name : List ℕ) (ws : List (List ℕ)) (asked : CommandWordsData) → is_name name ≡ true → asked_of ws ≡ Some asked → form_of (name ∷ ws) ≡ Some (CommandForm name asked)
-command_form name ws asked named e =
+command_form : (v : ℕ) (name : List ℕ) (ws : List (List ℕ)) (asked : CommandWordsData) → is_name name ≡ true → asked_of ws ≡ Some asked → is_asked_in v asked ≡ true
+    → form_in v (name ∷ ws) ≡ Some (CommandForm name asked)
+command_form v name ws asked named e own =
     let begins = name_begins name named in
-    rw (begins.not_version, begins.not_nodes, begins.not_set, begins.not_client, e)
+    rw (begins.not_version, begins.not_nodes, begins.not_set, begins.not_client, e, own)
 
 command_printed : (name : List ℕ) (ws : List (List ℕ)) → is_name name ≡ true → ArePrinted ws → length ws ≤ 4 → IsPrintedLine (name ∷ ws)
 command_printed name ws named good few = record {
@@ -62,8 +63,9 @@ asked_printed s good client (Try set mode) targets = (refl, (name_printed (set_n
 asked_printed s good client (Unlock set mode) targets = (refl, (name_printed (set_name s set) (good.sets_named set targets), (mode_printed mode, tt)))
 asked_printed s good client (Change set gives_up mode) targets = (refl, (name_printed (set_name s set) (good.sets_named set targets), (mode_printed gives_up, (mode_printed mode, tt))))
 asked_printed s good client (DropAll other set) targets = (refl, (name_printed (client_name s other) (good.clients_named other targets.1), (name_printed (set_name s set) (good.sets_named set targets.0), tt)))
+asked_printed s good client (Withdraw other set) targets = (refl, (name_printed (client_name s other) (good.clients_named other targets.1), (name_printed (set_name s set) (good.sets_named set targets.0), tt)))
 
-command_read : (s : ScriptData) → IsScript s → (done : List (ℕ × Command)) (client : ℕ) (command : Command) → length done < 4096 → IsRequest s.sets s.clients (client, command) → HasModesOf s.version command
+command_read : (s : ScriptData) → IsScript s → (done : List (ℕ × Command)) (client : ℕ) (command : Command) → length done < 4096 → IsRequest s.sets s.clients (client, command) → IsOfVersion s.version command
     → line_step s.version (Some (commands_only s done)) (spaced (command_words s (client, command))) ≡ Ok (Some (commands_only s (done ++ (client, command) ∷ [])))
 command_read s good done client (Lock set mode) few request modes =
     let st : ScriptData = commands_only s done in
@@ -73,7 +75,7 @@ command_read s good done client (Lock set mode) few request modes =
     let found = good.sets_found set request.1 in
     line_read s.version (Some st) (name ∷ asked_words s (Lock set mode)) (CommandForm name (LockWords (set_name s set) (word_of mode)))
     (command_printed name (asked_words s (Lock set mode)) named (asked_printed s good client (Lock set mode) request.1) (omega arith))
-    (command_form name (asked_words s (Lock set mode)) (LockWords (set_name s set) (word_of mode)) named refl)
+    (command_form s.version name (asked_words s (Lock set mode)) (LockWords (set_name s set) (word_of mode)) named refl refl)
     (rw (own, found, lt-leb 4096 (length done) few, mode_read_in s.version mode modes))
     ∙ rw (own, found, mode_read mode) refl
 command_read s good done client (Try set mode) few request modes =
@@ -84,7 +86,7 @@ command_read s good done client (Try set mode) few request modes =
     let found = good.sets_found set request.1 in
     line_read s.version (Some st) (name ∷ asked_words s (Try set mode)) (CommandForm name (TryWords (set_name s set) (word_of mode)))
     (command_printed name (asked_words s (Try set mode)) named (asked_printed s good client (Try set mode) request.1) (omega arith))
-    (command_form name (asked_words s (Try set mode)) (TryWords (set_name s set) (word_of mode)) named refl)
+    (command_form s.version name (asked_words s (Try set mode)) (TryWords (set_name s set) (word_of mode)) named refl refl)
     (rw (own, found, lt-leb 4096 (length done) few, mode_read_in s.version mode modes))
     ∙ rw (own, found, mode_read mode) refl
 command_read s good done client (Unlock set mode) few request modes =
@@ -95,7 +97,7 @@ command_read s good done client (Unlock set mode) few request modes =
     let found = good.sets_found set request.1 in
     line_read s.version (Some st) (name ∷ asked_words s (Unlock set mode)) (CommandForm name (UnlockWords (set_name s set) (word_of mode)))
     (command_printed name (asked_words s (Unlock set mode)) named (asked_printed s good client (Unlock set mode) request.1) (omega arith))
-    (command_form name (asked_words s (Unlock set mode)) (UnlockWords (set_name s set) (word_of mode)) named refl)
+    (command_form s.version name (asked_words s (Unlock set mode)) (UnlockWords (set_name s set) (word_of mode)) named refl refl)
     (rw (own, found, lt-leb 4096 (length done) few, mode_read_in s.version mode modes))
     ∙ rw (own, found, mode_read mode) refl
 command_read s good done client (Change set gives_up mode) few request modes =
@@ -108,7 +110,7 @@ command_read s good done client (Change set gives_up mode) few request modes =
     let found = good.sets_found set request.1 in
     line_read s.version (Some st) (name ∷ ws) (CommandForm name asked)
     (command_printed name ws named (asked_printed s good client (Change set gives_up mode) request.1) (omega arith))
-    (command_form name ws asked named refl)
+    (command_form s.version name ws asked named refl refl)
     (rw (own, found, lt-leb 4096 (length done) few, mode_read_in s.version gives_up modes.0, mode_read_in s.version mode modes.1))
     ∙ rw (own, found, mode_read gives_up, mode_read mode) refl
 command_read s good done client (DropAll other set) few request modes =
@@ -122,7 +124,21 @@ command_read s good done client (DropAll other set) few request modes =
     let found = good.sets_found set request.1.0 in
     line_read s.version (Some st) (name ∷ ws) (CommandForm name asked)
     (command_printed name ws named (asked_printed s good client (DropAll other set) request.1) (omega arith))
-    (command_form name ws asked named refl)
+    (command_form s.version name ws asked named refl refl)
+    (rw (own, other_found, found, lt-leb 4096 (length done) few, eq-eqb (home_at s.clients other) (home_at s.clients client) request.1.2))
+    ∙ rw (own, other_found, found) refl
+command_read s good done client (Withdraw other set) few request modes =
+    let st : ScriptData = commands_only s done in
+    let name : List ℕ = client_name s client in
+    let ws : List (List ℕ) = asked_words s (Withdraw other set) in
+    let asked : CommandWordsData = WithdrawWords (client_name s other) (set_name s set) in
+    let named = good.clients_named client request.0 in
+    let own = good.clients_found client request.0 in
+    let other_found = good.clients_found other request.1.1 in
+    let found = good.sets_found set request.1.0 in
+    line_read s.version (Some st) (name ∷ ws) (CommandForm name asked)
+    (command_printed name ws named (asked_printed s good client (Withdraw other set) request.1) (omega arith))
+    (command_form s.version name ws asked named refl (eq-eqb s.version 3 modes))
     (rw (own, other_found, found, lt-leb 4096 (length done) few, eq-eqb (home_at s.clients other) (home_at s.clients client) request.1.2))
     ∙ rw (own, other_found, found) refl
 
@@ -132,11 +148,11 @@ request_at s good done x rest e =
     let here : get_or s.commands (length done) x ≡ x = subst (λ (l : List (ℕ × Command)). get_or l (length done) x ≡ x) e (get_or_middle done x rest x) in
     subst (IsRequest s.sets s.clients) here (good.requests (length done) x inside)
 
-modes_at : (s : ScriptData) → IsScript s → (done : List (ℕ × Command)) (x : ℕ × Command) (rest : List (ℕ × Command)) → done ++ x ∷ rest ≡ s.commands → HasModesOf s.version x.1
+modes_at : (s : ScriptData) → IsScript s → (done : List (ℕ × Command)) (x : ℕ × Command) (rest : List (ℕ × Command)) → done ++ x ∷ rest ≡ s.commands → IsOfVersion s.version x.1
 modes_at s good done x rest e =
     let inside : length done < length s.commands = omega (arith, length-append done (x ∷ rest), ap length e) in
     let here : get_or s.commands (length done) x ≡ x = subst (λ (l : List (ℕ × Command)). get_or l (length done) x ≡ x) e (get_or_middle done x rest x) in
-    subst (λ (request : ℕ × Command). HasModesOf s.version request.1) here (good.modes (length done) x inside)
+    subst (λ (request : ℕ × Command). IsOfVersion s.version request.1) here (good.modes (length done) x inside)
 
 commands_walk : (s : ScriptData) → IsScript s → IsShort s → (done rest : List (ℕ × Command)) → done ++ rest ≡ s.commands → Walks s.version (map spaced (map (command_words s) rest)) (commands_only s done) (commands_only s s.commands)
 commands_walk s good short done [] e = subst (λ (l : List (ℕ × Command)). Walks s.version [] (commands_only s done) (commands_only s l)) (sym (append-nil done) ∙ e) (walk_none s.version (commands_only s done))
@@ -188,10 +204,16 @@ map_both [] ys = refl
 map_both (x ∷ xs) ys = ap (λ l. spaced x ∷ l) (map_both xs ys)
 
 version_printed : (v : ℕ) → AllByRecursion ArePrinted (version_words v)
-version_printed v = elim (v == 1) as (λ t. AllByRecursion ArePrinted (cond t [] ((codes "version" ∷ codes "2" ∷ []) ∷ []))) [
-  | true ↦ tt
-  | false ↦ ((refl, (refl, tt)), tt)
-]
+version_printed v =
+    let second : List (List (List ℕ)) = (codes "version" ∷ codes "2" ∷ []) ∷ [] in
+    let third : List (List (List ℕ)) = (codes "version" ∷ codes "3" ∷ []) ∷ [] in
+    elim (v == 1) as (λ t. AllByRecursion ArePrinted (cond t [] (cond (v == 2) second third))) [
+      | true ↦ tt
+      | false ↦ elim (v == 2) as (λ t. AllByRecursion ArePrinted (cond t second third)) [
+        | true ↦ ((refl, (refl, tt)), tt)
+        | false ↦ ((refl, (refl, tt)), tt)
+      ]
+    ]
 
 -- the words of the line `nodes` and of those behind it
 abbrev later_words : ScriptData → List (List (List ℕ))
@@ -242,21 +264,25 @@ later_read s good short k =
 abbrev body : ℕ → ℕ → List (List ℕ) → ScriptBody
 body version first ls = record { version = version; first = first; lines = ls }
 
--- the line `nodes` isn't skipped, and is no line `version 2`
+-- the line `nodes` isn't skipped, and says no version
 first_body : (nodes : ℕ) (rest : List (List ℕ)) (k : ℕ) → nodes ≤ 64 → script_body (spaced (nodes_words nodes) ∷ rest) k ≡ body 1 k (spaced (nodes_words nodes) ∷ rest)
 unfolding script_body
 first_body nodes rest k few =
     let good = nodes_printed nodes few in
-    rw (words_spaced (nodes_words nodes) (printed_words (nodes_words nodes) good.are_printed)) (and_false (not (nat_lt MAX_LINE (length (spaced (nodes_words nodes))))))
+    rw (words_spaced (nodes_words nodes) (printed_words (nodes_words nodes) good.are_printed)) (one_said (nat_lt MAX_LINE (length (spaced (nodes_words nodes)))))
   where
-    and_false : (t : Bool) → cond (t && false) (body 2 (k + 1) rest) (body 1 k (spaced (nodes_words nodes) ∷ rest)) ≡ body 1 k (spaced (nodes_words nodes) ∷ rest)
-    and_false true = refl
-    and_false false = refl
+    one_said : (t : Bool) → cond (cond t 1 1 == 1) (body 1 k (spaced (nodes_words nodes) ∷ rest)) (body (cond t 1 1) (k + 1) rest) ≡ body 1 k (spaced (nodes_words nodes) ∷ rest)
+    one_said true = refl
+    one_said false = refl
 
--- the line `version 2` stands before the others
+-- the line `version 2` or `version 3` stands before the others
 second_body : (rest : List (List ℕ)) (k : ℕ) → script_body (spaced (codes "version" ∷ codes "2" ∷ []) ∷ rest) k ≡ body 2 (k + 1) rest
 unfolding script_body
 second_body rest k = rw (words_spaced (codes "version" ∷ codes "2" ∷ []) (printed_words (codes "version" ∷ codes "2" ∷ []) (refl, (refl, tt)))) refl
+
+third_body : (rest : List (List ℕ)) (k : ℕ) → script_body (spaced (codes "version" ∷ codes "3" ∷ []) ∷ rest) k ≡ body 3 (k + 1) rest
+unfolding script_body
+third_body rest k = rw (words_spaced (codes "version" ∷ codes "3" ∷ []) (printed_words (codes "version" ∷ codes "3" ∷ []) (refl, (refl, tt)))) refl
 
 pub read_printed : (s : ScriptData) → IsScript s → IsShort s → read_of (print_of s) ≡ Ok s
 read_printed s good short =
@@ -266,9 +292,16 @@ read_printed s good short =
           ∙ ap read_body (first_body s.nodes (map spaced (map (set_words s.sets) s.sets ++ (map client_words s.clients ++ map (command_words s) s.commands))) 1 good.few_nodes)
           ∙ ap (λ v. read_from v (map spaced (later_words s)) 1 None) (sym one)
           ∙ later_read s good short 1
-      | inr two ↦
-          ap (λ v. read_body (script_body (map spaced (version_words v ++ later_words s)) 1)) two
-          ∙ ap read_body (second_body (map spaced (later_words s)) 1)
-          ∙ ap (λ v. read_from v (map spaced (later_words s)) 2 None) (sym two)
-          ∙ later_read s good short 2
+      | inr later ↦ elim later [
+        | inl two ↦
+            ap (λ v. read_body (script_body (map spaced (version_words v ++ later_words s)) 1)) two
+            ∙ ap read_body (second_body (map spaced (later_words s)) 1)
+            ∙ ap (λ v. read_from v (map spaced (later_words s)) 2 None) (sym two)
+            ∙ later_read s good short 2
+        | inr three ↦
+            ap (λ v. read_body (script_body (map spaced (version_words v ++ later_words s)) 1)) three
+            ∙ ap read_body (third_body (map spaced (later_words s)) 1)
+            ∙ ap (λ v. read_from v (map spaced (later_words s)) 2 None) (sym three)
+            ∙ later_read s good short 2
+      ]
     ]

@@ -12,7 +12,7 @@ use Rattle.lt_text.specs.Number.{number}
 use Rattle.lt_text.proofs.NumberLemmas.{number_decimal}
 use Rattle.lt_script.specs.Printing.{ended_line, version_words, nodes_words, set_words, client_words, command_words, print_of, first_name}
 use Rattle.lt_script.specs.declared.fault.Fault.{Fault}
-use Rattle.lt_script.specs.Reading.{is_skipped, says_version, line_step, read_from, script_body, at_end}
+use Rattle.lt_script.specs.Reading.{is_skipped, version_said, line_step, read_from, script_body, at_end}
 use Rattle.lt_script.specs.Forms.{SetForm, SetWithForm, ClientForm}
 use Rattle.lt_script.proofs.NameLemmas.{found_in_front, not_in_front}
 use Rattle.lt_script.proofs.PrintedLines.{IsPrintedLine, line_read, name_printed, ArePrinted, number_printed}
@@ -67,15 +67,15 @@ pub body_skipped : (ls rest : List (List ℕ)) (line : List ℕ) (k : ℕ) → l
 unfolding script_body
 body_skipped ls rest line k e skipped = rw (e, skipped) refl
 
-pub body_second : (ls rest : List (List ℕ)) (line : List ℕ) (k : ℕ) → ls ≡ line ∷ rest → is_skipped line ≡ false → says_version line ≡ true
-    → script_body ls k ≡ record { version = 2; first = k + 1; lines = rest }
+pub body_later : (ls rest : List (List ℕ)) (line : List ℕ) (k v : ℕ) → ls ≡ line ∷ rest → is_skipped line ≡ false → v ≡ version_said line → (v == 1) ≡ false
+    → script_body ls k ≡ record { version = v; first = k + 1; lines = rest }
 unfolding script_body
-body_second ls rest line k e kept says = rw (e, kept, says) refl
+body_later ls rest line k v e kept says later = rw (e, kept, sym says, later) refl
 
-pub body_first : (ls rest : List (List ℕ)) (line : List ℕ) (k : ℕ) → ls ≡ line ∷ rest → is_skipped line ≡ false → says_version line ≡ false
-    → script_body ls k ≡ record { version = 1; first = k; lines = ls }
+pub body_first : (ls rest : List (List ℕ)) (line : List ℕ) (k v : ℕ) → ls ≡ line ∷ rest → is_skipped line ≡ false → v ≡ version_said line → v ≡ 1
+    → script_body ls k ≡ record { version = v; first = k; lines = ls }
 unfolding script_body
-body_first ls rest line k e kept says = rw (e, kept, says) refl
+body_first ls rest line k v e kept says first = rw (e, kept, sym says, first) refl
 
 pub body_end : (ls : List (List ℕ)) (k : ℕ) → ls ≡ [] → script_body ls k ≡ record { version = 1; first = k; lines = ls }
 unfolding script_body

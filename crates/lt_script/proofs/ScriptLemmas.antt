@@ -6,10 +6,10 @@ use Rattle.std.proofs.lemmas.List.Elements.{All-nil, All-push}
 use Rattle.std.proofs.lemmas.List.Sums.{sum_by-append}
 use Rattle.std.proofs.lemmas.Option.{slice_get_read}
 use Rattle.lt_modes.specs.declared.command.Command.{Command}
-use Rattle.lt_modes.specs.declared.command.Command.TheVariants.{Lock, Try, Unlock, Change, DropAll}
+use Rattle.lt_modes.specs.declared.command.Command.TheVariants.{Lock, Try, Unlock, Change, DropAll, Withdraw}
 use Rattle.lt_modes.specs.Script.{ScriptData, SetData, ClientData, family_at, home_at, name_of_set, family_of_set, name_of_client, node_of_client}
 use Rattle.lt_spec.specs.declared.limits.TheConstants.{MAX_SETS_OF_SERVICE, MAX_CLIENTS, MAX_CLIENTS_OF_FIRST, MAX_CLIENTS_OF_NODE, MAX_COMMANDS_OF_SERVICE}
-use Rattle.lt_spec.specs.Script.{is_name, IsScript, IsFamilyOfNext, IsRequest, HasModesOf, HasTargets, most_clients, load_of, set_number, client_number, is_declared}
+use Rattle.lt_spec.specs.Script.{is_name, IsScript, IsFamilyOfNext, IsRequest, IsOfVersion, HasTargets, most_clients, load_of, set_number, client_number, is_declared}
 use Rattle.lt_script.specs.ByName.{has_parent, new_set}
 use Rattle.lt_script.specs.declared.script.by_name.SetByName.TheVariants.{Set, TooMany}
 use Rattle.lt_script.proofs.NameLemmas.{found_stays, found_last, found_never, is_new, same_name, set_not_client}
@@ -63,6 +63,7 @@ more_sets sets x clients client (Try set mode) h = omega (arith, length_push set
 more_sets sets x clients client (Unlock set mode) h = omega (arith, length_push sets x)
 more_sets sets x clients client (Change set gives_up mode) h = omega (arith, length_push sets x)
 more_sets sets x clients client (DropAll other set) h = (omega (arith, length_push sets x), h.1, h.2)
+more_sets sets x clients client (Withdraw other set) h = (omega (arith, length_push sets x), h.1, h.2)
 
 more_clients : (sets : List SetData) (clients : List ClientData) (x : ClientData) (client : ℕ) (command : Command) → client < length clients → HasTargets sets clients client command
     → HasTargets sets (clients ++ x ∷ []) client command
@@ -71,6 +72,8 @@ more_clients sets clients x client (Try set mode) inside h = h
 more_clients sets clients x client (Unlock set mode) inside h = h
 more_clients sets clients x client (Change set gives_up mode) inside h = h
 more_clients sets clients x client (DropAll other set) inside h =
+    (h.0, omega (arith, length_push clients x), home_front clients x other h.1 ∙ h.2 ∙ sym (home_front clients x client inside))
+more_clients sets clients x client (Withdraw other set) inside h =
     (h.0, omega (arith, length_push clients x), home_front clients x other h.1 ∙ h.2 ∙ sym (home_front clients x client inside))
 
 pub family_not_later : (sets : List SetData) (family : ℕ) → IsFamilyOfNext sets family → family ≤ length sets
@@ -220,7 +223,7 @@ client_added s x good named undeclared room on_node load =
       modes = good.modes;
     }
 
-pub command_added : (s : ScriptData) (client : ℕ) (command : Command) → IsScript s → length s.commands < MAX_COMMANDS_OF_SERVICE → IsRequest s.sets s.clients (client, command) → HasModesOf s.version command
+pub command_added : (s : ScriptData) (client : ℕ) (command : Command) → IsScript s → length s.commands < MAX_COMMANDS_OF_SERVICE → IsRequest s.sets s.clients (client, command) → IsOfVersion s.version command
     → IsScript (record s { commands = s.commands ++ (client, command) ∷ [] })
 command_added s client command good room request modes = record {
   version = good.version;
@@ -241,7 +244,7 @@ command_added s client command good room request modes = record {
   loads = good.loads;
   few_commands = omega (arith, length_push s.commands (client, command), room);
   requests = All-push (IsRequest s.sets s.clients) s.commands (client, command) good.requests request;
-  modes = All-push (λ (request : ℕ × Command). HasModesOf s.version request.1) s.commands (client, command) good.modes modes;
+  modes = All-push (λ (request : ℕ × Command). IsOfVersion s.version request.1) s.commands (client, command) good.modes modes;
 }
 
 -- a script stays one without its commands
@@ -265,5 +268,5 @@ commands_taken_away s good = record {
   loads = good.loads;
   few_commands = omega arith;
   requests = All-nil (IsRequest s.sets s.clients);
-  modes = All-nil (λ (request : ℕ × Command). HasModesOf s.version request.1);
+  modes = All-nil (λ (request : ℕ × Command). IsOfVersion s.version request.1);
 }

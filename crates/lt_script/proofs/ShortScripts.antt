@@ -5,12 +5,12 @@ use Rattle.std.proofs.lemmas.List.{length_push}
 use Rattle.lt_modes.specs.Script.{ScriptData, SetData}
 use Rattle.lt_spec.specs.Script.{IsShort, client_number}
 use Rattle.lt_spec.specs.declared.limits.TheConstants.{MAX_SETS, MAX_COMMANDS}
-use Rattle.lt_text.specs.Text.{lines, words}
+use Rattle.lt_text.specs.Text.{lines}
 use Rattle.lt_script.specs.declared.fault.Fault.{Fault}
 use Rattle.lt_script.specs.declared.fault.Fault.TheVariants as faults
 use Rattle.lt_script.specs.declared.fault.ScriptFault.{ScriptFault}
-use Rattle.lt_script.specs.Forms.{FormData, VersionForm, NodesForm, SetForm, SetWithForm, ClientForm, CommandForm, form_of}
-use Rattle.lt_script.specs.Faults.{declared, exceeds_limit, line_fault, after_form, family_of, named_command}
+use Rattle.lt_script.specs.Forms.{FormData, Version2Form, Version3Form, NodesForm, SetForm, SetWithForm, ClientForm, CommandForm}
+use Rattle.lt_script.specs.Faults.{declared, exceeds_limit, line_form, line_fault, after_form, family_of, named_command}
 use Rattle.lt_script.specs.Reading.{has_form, has_fault, IsLeastFault, is_skipped, line_step, unless, script_after, go_on, read_from, script_body, read_of}
 use Rattle.lt_script.proofs.FaultOrder.{least_is_told}
 
@@ -33,7 +33,8 @@ set_short : (s : ScriptData) (x : SetData) → IsShort s → nat_le MAX_SETS (le
 set_short s x short within = record { sets = omega (arith, length_push s.sets x, below (length s.sets) MAX_SETS within); commands = short.commands }
 
 form_short : (s : ScriptData) (form : FormData) → IsShort s → exceeds_limit s form ≡ false → IsShort (after_form s form)
-form_short s VersionForm short within = short
+form_short s Version2Form short within = short
+form_short s Version3Form short within = short
 form_short s (NodesForm n) short within = record { sets = omega arith; commands = omega arith }
 form_short s (SetForm name) short within = set_short s (record { name = name; family = length s.sets }) short within
 form_short s (SetWithForm name t) short within = set_short s (record { name = name; family = family_of s t }) short within
@@ -56,7 +57,7 @@ same_step a b e = cc
 line_short : (v : ℕ) (st next : Option ScriptData) (line : List ℕ) → IsShortSoFar st → line_step v st line ≡ Ok next → IsShortSoFar next
 unfolding line_step
 line_short v st next line short e =
-    let after = script_after v st (form_of (words line)) in
+    let after = script_after v st (line_form v st line) in
     elim (is_skipped line) as (λ t. (if t then Ok st else unless (line_fault v st line) after) ≡ Ok next → IsShortSoFar next) [
       | true ↦ λ e. subst IsShortSoFar (same_step st next e) short
       | false ↦ λ e.
@@ -64,7 +65,7 @@ line_short v st next line short e =
             | Some fault ↦ λ is e. absurd (cc)
             | None ↦ λ is e.
                 let within = subst (IsLeastFault (has_fault v st line)) is (least_is_told v st line) faults.Limit in
-                subst IsShortSoFar (same_step after next e) (after_short v st (form_of (words line)) short within)
+                subst IsShortSoFar (same_step after next e) (after_short v st (line_form v st line) short within)
           ] refl e
     ] e
 

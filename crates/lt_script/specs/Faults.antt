@@ -14,7 +14,7 @@ use Rattle.lt_script.specs.declared.fault.Fault.{Fault}
 use Rattle.lt_script.specs.declared.fault.Fault.TheVariants as faults
 use Rattle.lt_spec.specs.declared.limits.TheConstants.{MAX_SETS, MAX_CLIENTS_OF_NODE, MAX_COMMANDS, MAX_LINE}
 use Rattle.lt_spec.specs.Script.{is_name, most_nodes, most_clients, load_of, set_number, client_number, is_declared}
-use Rattle.lt_script.specs.Forms.{FormData, VersionForm, NodesForm, SetForm, SetWithForm, ClientForm, CommandForm, CommandWordsData, LockWords, TryWords, UnlockWords, ChangeWords, DropWords, form_of}
+use Rattle.lt_script.specs.Forms.{FormData, Version2Form, Version3Form, NodesForm, SetForm, SetWithForm, ClientForm, CommandForm, CommandWordsData, LockWords, TryWords, UnlockWords, ChangeWords, DropWords, WithdrawWords, form_in}
 
 -- a script of this version that declares nothing but the number of its nodes
 abbrev pub only_nodes : ℕ → ℕ → ScriptData
@@ -49,7 +49,8 @@ abbrev pub has_nodes_misplaced : Option ScriptData → FormData → Bool
 has_nodes_misplaced None (NodesForm n) = false
 has_nodes_misplaced None form = true
 has_nodes_misplaced (Some s) (NodesForm n) = true
-has_nodes_misplaced (Some s) VersionForm = true
+has_nodes_misplaced (Some s) Version2Form = true
+has_nodes_misplaced (Some s) Version3Form = true
 has_nodes_misplaced (Some s) form = false
 
 -- a word is declared that is no name
@@ -73,6 +74,7 @@ names_unknown s (TryWords set mode) = is_none (set_number s set)
 names_unknown s (UnlockWords set mode) = is_none (set_number s set)
 names_unknown s (ChangeWords set gives_up mode) = is_none (set_number s set)
 names_unknown s (DropWords other set) = is_none (client_number s other) || is_none (set_number s set)
+names_unknown s (WithdrawWords other set) = is_none (client_number s other) || is_none (set_number s set)
 
 -- a set or a client is used that wasn't declared before
 abbrev pub uses_unknown : ScriptData → FormData → Bool
@@ -82,7 +84,8 @@ uses_unknown s form = false
 
 -- there are more nodes, sets, clients or commands than a script may have
 abbrev pub exceeds_limit : ScriptData → FormData → Bool
-exceeds_limit s VersionForm = false
+exceeds_limit s Version2Form = false
+exceeds_limit s Version3Form = false
 exceeds_limit s (NodesForm n) = nat_lt (most_nodes s.version) (unwrap_or (number n) 0)
 exceeds_limit s (SetForm name) = nat_le MAX_SETS (length s.sets)
 exceeds_limit s (SetWithForm name t) = nat_le MAX_SETS (length s.sets)
@@ -105,6 +108,7 @@ names_no_mode version (TryWords set mode) = is_none (mode_in version mode)
 names_no_mode version (UnlockWords set mode) = is_none (mode_in version mode)
 names_no_mode version (ChangeWords set gives_up mode) = is_none (mode_in version gives_up) || is_none (mode_in version mode)
 names_no_mode version (DropWords other set) = false
+names_no_mode version (WithdrawWords other set) = false
 
 abbrev pub uses_no_mode : ScriptData → FormData → Bool
 uses_no_mode s (CommandForm c asked) = names_no_mode s.version asked
@@ -118,10 +122,11 @@ home_by s None = 0
 abbrev pub home_of : ScriptData → List ℕ → ℕ
 home_of s name = home_by s (client_number s name)
 
--- locks of a client of another node are dropped
-abbrev pub drops_elsewhere : ScriptData → FormData → Bool
-drops_elsewhere s (CommandForm c (DropWords other set)) = not (home_of s other == home_of s c)
-drops_elsewhere s form = false
+-- locks of a client of another node are dropped, or its ask is given up
+abbrev pub reaches_elsewhere : ScriptData → FormData → Bool
+reaches_elsewhere s (CommandForm c (DropWords other set)) = not (home_of s other == home_of s c)
+reaches_elsewhere s (CommandForm c (WithdrawWords other set)) = not (home_of s other == home_of s c)
+reaches_elsewhere s form = false
 
 -- the first fault whose test is true
 abbrev pub first_true : List (Bool × Fault) → Option Fault
@@ -138,12 +143,16 @@ tests version st form =
     ∷ (uses_unknown (declared version st) form, faults.Unknown)
     ∷ (exceeds_limit (declared version st) form, faults.Limit)
     ∷ (uses_no_mode (declared version st) form, faults.Mode)
-    ∷ (drops_elsewhere (declared version st) form, faults.Node)
+    ∷ (reaches_elsewhere (declared version st) form, faults.Node)
     ∷ []
 
 -- the first fault of a line of this form
 abbrev pub form_fault : ℕ → Option ScriptData → FormData → Option Fault
 form_fault version st form = first_true (tests version st form)
+
+-- the form of the line in the script so far, which has this version, or in one of this version where there is none yet
+abbrev pub line_form : ℕ → Option ScriptData → List ℕ → Option FormData
+line_form version st line = form_in (declared version st).version (words line)
 
 -- the first fault of a line that may have no form
 abbrev pub fault_by_form : ℕ → Option ScriptData → Option FormData → Option Fault
@@ -155,7 +164,7 @@ abbrev pub line_fault : ℕ → Option ScriptData → List ℕ → Option Fault
 line_fault version st line =
     if not (list_all is_plain_byte line) then Some faults.Bytes
     else if nat_lt MAX_LINE (length line) then Some faults.Length
-    else fault_by_form version st (form_of (words line))
+    else fault_by_form version st (line_form version st line)
 
 -- what a line without fault adds
 
@@ -180,6 +189,7 @@ named_command s (TryWords set mode) = commands.Try (set_at s set) (mode_at mode)
 named_command s (UnlockWords set mode) = commands.Unlock (set_at s set) (mode_at mode)
 named_command s (ChangeWords set gives_up mode) = commands.Change (set_at s set) (mode_at gives_up) (mode_at mode)
 named_command s (DropWords other set) = commands.DropAll (unwrap_or (client_number s other) 0) (set_at s set)
+named_command s (WithdrawWords other set) = commands.Withdraw (unwrap_or (client_number s other) 0) (set_at s set)
 
 abbrev pub with_set : ScriptData → List ℕ → ℕ → ScriptData
 with_set s name family = record s { sets = s.sets ++ record { name = name; family = family } ∷ [] }
@@ -192,7 +202,8 @@ command_added s client command = record s { commands = s.commands ++ (client, co
 
 -- the script with what a line of this form adds
 abbrev pub after_form : ScriptData → FormData → ScriptData
-after_form s VersionForm = s
+after_form s Version2Form = s
+after_form s Version3Form = s
 after_form s (NodesForm n) = only_nodes s.version (unwrap_or (number n) 0)
 after_form s (SetForm name) = with_set s name (length s.sets)
 after_form s (SetWithForm name t) = with_set s name (family_of s t)

@@ -1,14 +1,17 @@
 -- How a script is written.
 use Rattle.std.specs.Prelude.{ℕ, ◌==◌, List, [], ◌∷◌, ◌++◌, map, codes, slice_get, if◌then◌else◌, decimal, bytes_eq}
 use Rattle.lt_modes.specs.declared.command.Command.{Command}
-use Rattle.lt_modes.specs.declared.command.Command.TheVariants.{Lock, Try, Unlock, Change, DropAll}
+use Rattle.lt_modes.specs.declared.command.Command.TheVariants.{Lock, Try, Unlock, Change, DropAll, Withdraw}
 use Rattle.lt_modes.specs.Modes.{word_of}
 use Rattle.lt_modes.specs.Script.{ScriptData, SetData, ClientData, name_of_set, set_name, client_name}
 use Rattle.lt_text.specs.Text.{spaced, text}
 
--- `version 2` for a script of version 2, and nothing for one of version 1
+-- `version 2` for a script of version 2, `version 3` for one of version 3, and nothing for one of version 1
 abbrev pub version_words : ℕ → List (List (List ℕ))
-version_words version = if version == 1 then [] else (codes "version" ∷ codes "2" ∷ []) ∷ []
+version_words version =
+    if version == 1 then []
+    else if version == 2 then (codes "version" ∷ codes "2" ∷ []) ∷ []
+    else (codes "version" ∷ codes "3" ∷ []) ∷ []
 
 -- `nodes N`
 abbrev pub nodes_words : ℕ → List (List ℕ)
@@ -28,13 +31,14 @@ set_words sets x =
 abbrev pub client_words : ClientData → List (List ℕ)
 client_words x = codes "client" ∷ x.name ∷ codes "at" ∷ decimal x.node ∷ []
 
--- `lock S M`, `try S M`, `unlock S M`, `change S G M` and `drop D S`
+-- `lock S M`, `try S M`, `unlock S M`, `change S G M`, `drop D S` and `withdraw D S`
 abbrev pub asked_words : ScriptData → Command → List (List ℕ)
 asked_words s (Lock set mode) = codes "lock" ∷ set_name s set ∷ word_of mode ∷ []
 asked_words s (Try set mode) = codes "try" ∷ set_name s set ∷ word_of mode ∷ []
 asked_words s (Unlock set mode) = codes "unlock" ∷ set_name s set ∷ word_of mode ∷ []
 asked_words s (Change set gives_up mode) = codes "change" ∷ set_name s set ∷ word_of gives_up ∷ word_of mode ∷ []
 asked_words s (DropAll other set) = codes "drop" ∷ client_name s other ∷ set_name s set ∷ []
+asked_words s (Withdraw other set) = codes "withdraw" ∷ client_name s other ∷ set_name s set ∷ []
 
 -- a command behind the name of its client
 abbrev pub command_words : ScriptData → ℕ × Command → List (List ℕ)

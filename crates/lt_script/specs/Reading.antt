@@ -1,5 +1,5 @@
 -- The script that a text denotes, or its first fault.
-use Rattle.std.specs.Prelude.{◌≡◌, ℕ, ◌+◌, Bool, true, false, not, ◌&&◌, nat_lt, length, List, [], ◌∷◌, Option, Some, None, ◌==◌, slice_index, Result, Ok, Err, if◌then◌else◌, ◌<◌, ◌↔◌, ◌⊎◌, ◌++◌, is_none, codes, map, IsTrue, IsFalse, Contains}
+use Rattle.std.specs.Prelude.{◌≡◌, ℕ, ◌+◌, Bool, true, false, not, nat_lt, length, List, [], ◌∷◌, Option, Some, None, ◌==◌, slice_index, Result, Ok, Err, if◌then◌else◌, ◌<◌, ◌↔◌, ◌⊎◌, ◌++◌, is_none, codes, map, IsTrue, IsFalse, Contains}
 use Rattle.std.specs.List.{list_all}
 use Rattle.lt_modes.specs.Script.{ScriptData}
 use Rattle.lt_spec.specs.declared.limits.TheConstants.{MAX_LINE, MAX_NODES, MAX_NODES_OF_FIRST, MAX_SETS, MAX_CLIENTS, MAX_CLIENTS_OF_FIRST, MAX_CLIENTS_OF_NODE, MAX_COMMANDS, MAX_NAME}
@@ -10,8 +10,8 @@ use Rattle.lt_script.specs.declared.fault.Fault.TheVariants as faults
 use Rattle.lt_script.specs.declared.fault.ScriptFault.{ScriptFault}
 use Rattle.lt_script.specs.declared.fault.ReadError.{ReadError}
 use Rattle.lt_script.specs.declared.fault.ReadError.TheVariants as errors
-use Rattle.lt_script.specs.Forms.{FormData, VersionForm, form_of, NodesForm, SetForm, SetWithForm, ClientForm, CommandForm, LockWords, TryWords, UnlockWords, ChangeWords, DropWords}
-use Rattle.lt_script.specs.Faults.{declared, line_fault, after_form, is_plain_byte, has_bad_number, has_nodes_misplaced, declares_no_name, declares_again, uses_unknown, exceeds_limit, uses_no_mode, drops_elsewhere}
+use Rattle.lt_script.specs.Forms.{FormData, Version2Form, Version3Form, form_of, form_in, NodesForm, SetForm, SetWithForm, ClientForm, CommandForm, LockWords, TryWords, UnlockWords, ChangeWords, DropWords, WithdrawWords}
+use Rattle.lt_script.specs.Faults.{declared, line_form, line_fault, after_form, is_plain_byte, has_bad_number, has_nodes_misplaced, declares_no_name, declares_again, uses_unknown, exceeds_limit, uses_no_mode, reaches_elsewhere}
 use Rattle.lt_script.specs.Fault.{number_of}
 
 -- a line with no word says nothing, and so does a comment, whose first word begins with `#`
@@ -34,7 +34,7 @@ unless None st = Ok st
 
 -- the script after a line, or the line's first fault
 unfoldable pub line_step : ℕ → Option ScriptData → List ℕ → Result (Option ScriptData) Fault
-line_step version st line = if is_skipped line then Ok st else unless (line_fault version st line) (script_after version st (form_of (words line)))
+line_step version st line = if is_skipped line then Ok st else unless (line_fault version st line) (script_after version st (line_form version st line))
 
 -- what the rest makes of the script after a line with this number, or the line's fault
 abbrev pub go_on : ℕ → (Option ScriptData → Result ScriptData ScriptFault) → Result (Option ScriptData) Fault → Result ScriptData ScriptFault
@@ -51,13 +51,15 @@ unfoldable pub read_from : ℕ → List (List ℕ) → ℕ → Option ScriptData
 read_from version [] k st = at_end k st
 read_from version (line ∷ rest) k st = go_on k (read_from version rest (k + 1)) (line_step version st line)
 
-abbrev pub is_version_form : Option FormData → Bool
-is_version_form (Some VersionForm) = true
-is_version_form form = false
+-- the version that a line of this form says, and 1 where it says none
+abbrev pub version_by_form : Option FormData → ℕ
+version_by_form (Some Version2Form) = 2
+version_by_form (Some Version3Form) = 3
+version_by_form form = 1
 
--- the line is `version 2`, and not too long
-abbrev pub says_version : List ℕ → Bool
-says_version line = not (nat_lt MAX_LINE (length line)) && is_version_form (form_of (words line))
+-- 2 if the line is `version 2`, 3 if it is `version 3`, each if it is not too long; else 1
+abbrev pub version_said : List ℕ → ℕ
+version_said line = if nat_lt MAX_LINE (length line) then 1 else version_by_form (form_of (words line))
 
 -- lines of a script of this version, the first of which has this number
 pub record ScriptBody : Type 0 where
@@ -65,14 +67,14 @@ pub record ScriptBody : Type 0 where
   pub first : ℕ
   pub lines : List (List ℕ)
 
--- the lines behind the line `version 2`, where it is the first one that isn't skipped, and version 2; else all lines from
--- the first one that isn't skipped, and version 1
+-- the lines behind the line `version 2` or `version 3`, where it is the first one that isn't skipped, and that version; else
+-- all lines from the first one that isn't skipped, and version 1
 unfoldable pub script_body : List (List ℕ) → ℕ → ScriptBody
 script_body [] k = record { version = 1; first = k; lines = [] }
 script_body (line ∷ rest) k =
     if is_skipped line then script_body rest (k + 1)
-    else if says_version line then record { version = 2; first = k + 1; lines = rest }
-    else record { version = 1; first = k; lines = line ∷ rest }
+    else if version_said line == 1 then record { version = 1; first = k; lines = line ∷ rest }
+    else record { version = version_said line; first = k + 1; lines = rest }
 
 abbrev pub read_body : ScriptBody → Result ScriptData ScriptFault
 read_body body = read_from body.version body.lines body.first None
@@ -111,11 +113,11 @@ has_fault_by version st line form faults.Repeated = has_form (declares_again (de
 has_fault_by version st line form faults.Unknown = has_form (uses_unknown (declared version st)) form
 has_fault_by version st line form faults.Limit = has_form (exceeds_limit (declared version st)) form
 has_fault_by version st line form faults.Mode = has_form (uses_no_mode (declared version st)) form
-has_fault_by version st line form faults.Node = has_form (drops_elsewhere (declared version st)) form
+has_fault_by version st line form faults.Node = has_form (reaches_elsewhere (declared version st)) form
 
 -- the line has the fault after the lines before it, in a script of this version
 abbrev pub has_fault : ℕ → Option ScriptData → List ℕ → Fault → Bool
-has_fault version st line fault = has_fault_by version st line (form_of (words line)) fault
+has_fault version st line fault = has_fault_by version st line (line_form version st line) fault
 
 -- the fault is the one with the least number among those that hold; none where none holds
 abbrev pub IsLeastFault : (Fault → Bool) → Option Fault → Type 0
@@ -151,18 +153,25 @@ NumbersAre =
     map number_of (faults.Bytes ∷ faults.Length ∷ faults.Form ∷ faults.Number ∷ faults.Nodes ∷ faults.Name ∷ faults.Repeated ∷ faults.Unknown ∷ faults.Limit ∷ faults.Mode ∷ faults.Node ∷ [])
     ≡ (1 ∷ 2 ∷ 3 ∷ 4 ∷ 5 ∷ 6 ∷ 7 ∷ 8 ∷ 9 ∷ 10 ∷ 11 ∷ [])
 
--- the words of the forms
-pub record FormsAre : Type 0 where
-  pub version : form_of (codes "version" ∷ codes "2" ∷ []) ≡ Some VersionForm
-  pub nodes : (n : List ℕ) → form_of (codes "nodes" ∷ n ∷ []) ≡ Some (NodesForm n)
-  pub set : (s : List ℕ) → form_of (codes "set" ∷ s ∷ []) ≡ Some (SetForm s)
-  pub set_with : (s t : List ℕ) → form_of (codes "set" ∷ s ∷ codes "with" ∷ t ∷ []) ≡ Some (SetWithForm s t)
-  pub client : (c n : List ℕ) → form_of (codes "client" ∷ c ∷ codes "at" ∷ n ∷ []) ≡ Some (ClientForm c n)
-  pub lock : (s m : List ℕ) → form_of (codes "c" ∷ codes "lock" ∷ s ∷ m ∷ []) ≡ Some (CommandForm (codes "c") (LockWords s m))
-  pub try : (s m : List ℕ) → form_of (codes "c" ∷ codes "try" ∷ s ∷ m ∷ []) ≡ Some (CommandForm (codes "c") (TryWords s m))
-  pub unlock : (s m : List ℕ) → form_of (codes "c" ∷ codes "unlock" ∷ s ∷ m ∷ []) ≡ Some (CommandForm (codes "c") (UnlockWords s m))
-  pub change : (s g m : List ℕ) → form_of (codes "c" ∷ codes "change" ∷ s ∷ g ∷ m ∷ []) ≡ Some (CommandForm (codes "c") (ChangeWords s g m))
-  pub drop : (d s : List ℕ) → form_of (codes "c" ∷ codes "drop" ∷ d ∷ s ∷ []) ≡ Some (CommandForm (codes "c") (DropWords d s))
+-- the words of the forms, in a script of this version
+pub record FormsAre (v : ℕ) : Type 0 where
+  pub version : form_in v (codes "version" ∷ codes "2" ∷ []) ≡ Some Version2Form
+  pub nodes : (n : List ℕ) → form_in v (codes "nodes" ∷ n ∷ []) ≡ Some (NodesForm n)
+  pub set : (s : List ℕ) → form_in v (codes "set" ∷ s ∷ []) ≡ Some (SetForm s)
+  pub set_with : (s t : List ℕ) → form_in v (codes "set" ∷ s ∷ codes "with" ∷ t ∷ []) ≡ Some (SetWithForm s t)
+  pub client : (c n : List ℕ) → form_in v (codes "client" ∷ c ∷ codes "at" ∷ n ∷ []) ≡ Some (ClientForm c n)
+  pub lock : (s m : List ℕ) → form_in v (codes "c" ∷ codes "lock" ∷ s ∷ m ∷ []) ≡ Some (CommandForm (codes "c") (LockWords s m))
+  pub try : (s m : List ℕ) → form_in v (codes "c" ∷ codes "try" ∷ s ∷ m ∷ []) ≡ Some (CommandForm (codes "c") (TryWords s m))
+  pub unlock : (s m : List ℕ) → form_in v (codes "c" ∷ codes "unlock" ∷ s ∷ m ∷ []) ≡ Some (CommandForm (codes "c") (UnlockWords s m))
+  pub change : (s g m : List ℕ) → form_in v (codes "c" ∷ codes "change" ∷ s ∷ g ∷ m ∷ []) ≡ Some (CommandForm (codes "c") (ChangeWords s g m))
+  pub drop : (d s : List ℕ) → form_in v (codes "c" ∷ codes "drop" ∷ d ∷ s ∷ []) ≡ Some (CommandForm (codes "c") (DropWords d s))
+
+-- the words of the forms that are of version 3 alone
+pub record LaterFormsAre : Type 0 where
+  pub version : form_in 3 (codes "version" ∷ codes "3" ∷ []) ≡ Some Version3Form
+  pub withdraw : (d s : List ℕ) → form_in 3 (codes "c" ∷ codes "withdraw" ∷ d ∷ s ∷ []) ≡ Some (CommandForm (codes "c") (WithdrawWords d s))
+  pub no_version : (v : ℕ) → v < 3 → form_in v (codes "version" ∷ codes "3" ∷ []) ≡ None
+  pub no_withdraw : (v : ℕ) (d s : List ℕ) → v < 3 → form_in v (codes "c" ∷ codes "withdraw" ∷ d ∷ s ∷ []) ≡ None
 
 -- lines without a fault, each after those before it, with the script before them and the script after them
 abbrev pub AreRead : ℕ → Option ScriptData → List (List ℕ) → Option ScriptData → Type 0
@@ -192,6 +201,7 @@ pub record LacksNodes (version number : ℕ) (st : Option ScriptData) (all : Lis
 abbrev pub IsToldOf : ScriptBody → ScriptFault → Type 0
 IsToldOf body told = IsFirstFault body.version body.first None body.lines told ⊎ LacksNodes body.version body.first None body.lines told
 
--- what is told of a text is its first line with a fault, and the least fault of that line; a first line `version 2` has none
+-- what is told of a text is its first line with a fault, and the least fault of that line; a first line `version 2` or `version 3`
+-- has none
 abbrev pub FirstIsTold : Type 0
 FirstIsTold = (bytes : List ℕ) (told : ScriptFault) → read_of bytes ≡ Err told → IsToldOf (script_body (lines bytes) 1) told

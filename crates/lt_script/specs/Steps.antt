@@ -9,8 +9,8 @@ use Rattle.lt_modes.specs.Script.{ScriptData, home_at}
 use Rattle.lt_script.specs.declared.fault.Fault.{Fault}
 use Rattle.lt_script.specs.declared.fault.Fault.TheVariants as faults
 use Rattle.lt_spec.specs.declared.limits.TheConstants.{MAX_COMMANDS}
-use Rattle.lt_spec.specs.Script.{set_number, client_number, IsRequest, HasModesOf}
-use Rattle.lt_script.specs.Forms.{FormData, form_of}
+use Rattle.lt_spec.specs.Script.{set_number, client_number, IsRequest, IsOfVersion}
+use Rattle.lt_script.specs.Forms.{FormData, form_in}
 use Rattle.lt_script.specs.Faults.{declared, is_plain_byte, first_true, form_fault, mode_in, home_by, after_form, command_added}
 use Rattle.lt_script.specs.Reading.{unless, ReadsLine}
 
@@ -45,7 +45,7 @@ step_by_form version st (Some form) = form_step version st form
 
 -- the same of a line with these words
 abbrev pub words_step : ℕ → Option ScriptData → List (List ℕ) → Result (Option ScriptData) Fault
-words_step version st words = step_by_form version st (form_of words)
+words_step version st words = step_by_form version st (form_in (declared version st).version words)
 
 -- what reading a line of this form gives: its fault, or the script after it
 abbrev pub ReadsForm : Option Fault → ScriptData → ScriptData → FormData → Type 0
@@ -63,7 +63,7 @@ Resolves s form (Ok request) =
     × (after_form s form ≡ command_added s request.0 request.1)
     × (length s.commands < MAX_COMMANDS)
     × IsRequest s.sets s.clients request
-    × HasModesOf s.version request.1
+    × IsOfVersion s.version request.1
 Resolves s form (Err fault) = form_fault s.version (Some s) form ≡ Some fault
 
 -- the set and the mode with these names, or the first fault of a command that names them
@@ -79,16 +79,17 @@ FindsSetAndMode s set mode (Err fault) =
     first_true ((is_none (set_number s set), faults.Unknown) ∷ (nat_le MAX_COMMANDS (length s.commands), faults.Limit) ∷ (is_none (mode_in s.version mode), faults.Mode) ∷ [])
     ≡ Some fault
 
--- the numbers of the client and the set with these names, of whose locks this client may drop, or the first fault
-abbrev pub FindsDrop : ScriptData → ℕ → List ℕ → List ℕ → Result (ℕ × ℕ) Fault → Type 0
-FindsDrop s client other set (Ok found) =
+-- the numbers of the client and the set with these names, where that client is on the node of this one, or the first fault of a
+-- command that names them
+abbrev pub FindsNeighbour : ScriptData → ℕ → List ℕ → List ℕ → Result (ℕ × ℕ) Fault → Type 0
+FindsNeighbour s client other set (Ok found) =
     (client_number s other ≡ Some found.0)
     × (found.0 < length s.clients)
     × (set_number s set ≡ Some found.1)
     × (found.1 < length s.sets)
     × (length s.commands < MAX_COMMANDS)
     × (home_at s.clients found.0 ≡ home_at s.clients client)
-FindsDrop s client other set (Err fault) =
+FindsNeighbour s client other set (Err fault) =
     first_true (
     (is_none (client_number s other) || is_none (set_number s set), faults.Unknown)
     ∷ (nat_le MAX_COMMANDS (length s.commands), faults.Limit)

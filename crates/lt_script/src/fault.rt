@@ -27,7 +27,7 @@ pub enum Fault {
     Limit,
     /// A word that is no mode.
     Mode,
-    /// A `drop` of a client of another node.
+    /// A `drop` or a `withdraw` of a client of another node.
     Node,
 }
 

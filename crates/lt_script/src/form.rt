@@ -1,6 +1,6 @@
-ghost use Rattle.std.specs.Prelude.{◌≡◌, ◌∷◌, option_map};
+ghost use Rattle.std.specs.Prelude.{◌≡◌, ◌∷◌, true, option_map, IfSome};
 ghost use Rattle.lt_text.specs.Text.{words};
-ghost use Rattle.lt_script.specs.Forms.{form_seen, asked_seen, form_of, version_form, nodes_form, set_form, client_form, asked_of, asked_in_two, CommandForm};
+ghost use Rattle.lt_script.specs.Forms.{form_seen, asked_seen, form_of, form_in, is_form_in, is_asked_in, version_form, nodes_form, set_form, client_form, asked_of, asked_in_two, CommandForm};
 ghost use Rattle.lt_script.specs.Steps.{begins_declaration};
 
 use lt_text::{is, next_word};
@@ -29,13 +29,19 @@ pub enum CommandWords<'a> {
         client: &'a [u8],
         set: &'a [u8],
     },
+    Withdraw {
+        client: &'a [u8],
+        set: &'a [u8],
+    },
 }
 
 /// A line of a script by its form, with its words.
 #[derive(Clone, Copy)]
 pub enum Form<'a> {
     /// The line `version 2`.
-    Version,
+    Version2,
+    /// The line `version 3`.
+    Version3,
     Nodes {
         nodes: &'a [u8],
     },
@@ -57,7 +63,7 @@ pub enum Form<'a> {
     },
 }
 
-/// The form of a line that begins with this word, by what stands after the word; none if it has none.
+/// The form of a line that begins with this word, by what stands after the word; none if it has none in any version.
 pub fn form_of<'a>(word: &'a [u8], rest: &'a [u8]) -> Option<Form<'a>>
     ensures { option_map form_seen result ≡ form_of (word.now ∷ words rest.now) }
 {
@@ -71,6 +77,42 @@ pub fn form_of<'a>(word: &'a [u8], rest: &'a [u8]) -> Option<Form<'a>>
         client_form(rest)
     } else {
         command_form(word, rest)
+    }
+}
+
+/// The same in a script of this version: none if the form is not one of it.
+pub fn form_in<'a>(version: u8, word: &'a [u8], rest: &'a [u8]) -> Option<Form<'a>>
+    ensures form { option_map form_seen result ≡ form_in version (word.now ∷ words rest.now) }
+    ensures own { IfSome result (λ form. is_form_in version (form_seen form) ≡ true) }
+{
+    let Some(form) = form_of(word, rest) else {
+        return None;
+    };
+    if is_form_in(version, form) {
+        Some(form)
+    } else {
+        None
+    }
+}
+
+// Whether the form is one of this version.
+fn is_form_in(version: u8, form: Form<'_>) -> bool
+    ensures { result ≡ is_form_in version (form_seen form.entry) }
+{
+    match form {
+        Form::Version3 => version == 3,
+        Form::Command { asked, .. } => is_asked_in(version, asked),
+        _ => true,
+    }
+}
+
+// The same of a command's form.
+fn is_asked_in(version: u8, asked: CommandWords<'_>) -> bool
+    ensures { result ≡ is_asked_in version (asked_seen asked.entry) }
+{
+    match asked {
+        CommandWords::Withdraw { .. } => version == 3,
+        _ => true,
     }
 }
 
@@ -88,10 +130,15 @@ fn version_form<'a>(line: &'a [u8]) -> Option<Form<'a>>
     let Some((version, rest)) = next_word(line) else {
         return None;
     };
-    if next_word(rest).is_some() || !is(version, "2") {
-        return None;
+    if next_word(rest).is_some() {
+        None
+    } else if is(version, "2") {
+        Some(Form::Version2)
+    } else if is(version, "3") {
+        Some(Form::Version3)
+    } else {
+        None
     }
-    Some(Form::Version)
 }
 
 // The form of a line that begins with `nodes`.
@@ -202,6 +249,11 @@ fn asked_in_two<'a>(verb: &[u8], first: &'a [u8], second: &'a [u8]) -> Option<Co
         })
     } else if is(verb, "drop") {
         Some(CommandWords::Drop {
+            client: first,
+            set: second,
+        })
+    } else if is(verb, "withdraw") {
+        Some(CommandWords::Withdraw {
             client: first,
             set: second,
         })

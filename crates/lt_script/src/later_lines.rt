@@ -1,13 +1,13 @@
 // Lines after the line `nodes`.
-ghost use Rattle.std.specs.Prelude.{◌≡◌, ◌∷◌, None, Some, IfOk, OnOk};
+ghost use Rattle.std.specs.Prelude.{◌≡◌, ◌∷◌, None, Some, true, IfOk, OnOk};
 ghost use Rattle.lt_text.specs.Text.{words};
-ghost use Rattle.lt_script.specs.Forms.{form_seen, asked_seen, SetForm, SetWithForm, ClientForm, CommandForm};
+ghost use Rattle.lt_script.specs.Forms.{form_seen, asked_seen, is_form_in, is_asked_in, SetForm, SetWithForm, ClientForm, CommandForm};
 ghost use Rattle.lt_script.specs.Faults.{form_fault, after_form};
 ghost use Rattle.lt_script.specs.OneMode.{one_mode_seen};
 ghost use Rattle.lt_script.specs.Steps.{ReadsForm, ReadsWords};
 
 use crate::fault::Fault;
-use crate::form::{CommandWords, Form, begins_declaration, form_of};
+use crate::form::{CommandWords, Form, begins_declaration, form_in};
 use crate::line::{client_fault, later_nodes_fault, request_of, set_fault, set_with_fault};
 use crate::one_mode::{OneMode, one_mode, request_of_one_mode};
 use crate::script::Script;
@@ -37,7 +37,7 @@ fn add_other_line(
 ) -> Result<Option<Fault>, AllocError>
     ensures { IfOk result (λ fault. ReadsWords fault script.old script.new (word.now ∷ words rest.now)) }
 {
-    match form_of(word, rest) {
+    match form_in(script.version(), word, rest) {
         Some(form) => add_form(script, form),
         None => Ok(Some(Fault::Form)),
     }
@@ -45,10 +45,11 @@ fn add_other_line(
 
 // Adds what a line of this form says, or tells its first fault.
 fn add_form(script: &mut Script, form: Form<'_>) -> Result<Option<Fault>, AllocError>
+    requires { is_form_in script.old.version (form_seen form) ≡ true }
     ensures { IfOk result (λ fault. ReadsForm fault script.old script.new (form_seen form.entry)) }
 {
     match form {
-        Form::Version => Ok(Some(Fault::Nodes)),
+        Form::Version2 | Form::Version3 => Ok(Some(Fault::Nodes)),
         Form::Nodes { nodes } => Ok(Some(later_nodes_fault(script, nodes))),
         Form::Set { name } => add_set_line(script, name),
         Form::SetWith { name, relative } => add_relative_line(script, name, relative),
@@ -131,6 +132,7 @@ fn add_command_line(
     client: &[u8],
     asked: CommandWords<'_>,
 ) -> Result<Option<Fault>, AllocError>
+    requires { is_asked_in script.old.version (asked_seen asked) ≡ true }
     ensures { IfOk result
         (λ fault. ReadsForm fault script.old script.new (CommandForm client.now (asked_seen asked.entry))) }
 {

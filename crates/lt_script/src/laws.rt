@@ -2,7 +2,7 @@ ghost use Rattle.std.specs.Prelude.{◌≡◌, ℕ, List, Ok};
 ghost use Rattle.lt_modes.specs.Script.{ScriptData};
 ghost use Rattle.lt_spec.specs.Script.{IsScript, IsShort};
 ghost use Rattle.lt_script.specs.Printing.{print_of};
-ghost use Rattle.lt_script.specs.Reading.{read_of, LeastIsTold, FirstIsTold, LimitsAre, ReservedAre, NumbersAre, FormsAre};
+ghost use Rattle.lt_script.specs.Reading.{read_of, LeastIsTold, FirstIsTold, LimitsAre, ReservedAre, NumbersAre, FormsAre, LaterFormsAre};
 
 /// The text of a script, with no more sets and commands than a text may have, is read as that script.
 pub fn law_print()
@@ -26,5 +26,6 @@ pub fn law_literals()
     ensures limits { LimitsAre }
     ensures reserved { ReservedAre }
     ensures numbers { NumbersAre }
-    ensures forms { FormsAre }
+    ensures forms { (version : ℕ) → FormsAre version }
+    ensures later_forms { LaterFormsAre }
 {}

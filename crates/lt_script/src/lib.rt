@@ -12,6 +12,7 @@ mod limits;
 mod line;
 mod name;
 mod one_mode;
+mod plain;
 mod printing;
 mod reading;
 mod script;

@@ -1,12 +1,11 @@
-ghost use Rattle.std.specs.Prelude.{◌≡◌, ◌<◌, None, Some, length, IfSome, IsTrue};
-ghost use Rattle.std.specs.List.{list_all};
+ghost use Rattle.std.specs.Prelude.{◌≡◌, ◌<◌, None, Some, true, length, IfSome, IsTrue};
 ghost use Rattle.lt_modes.specs.Modes.{mode_of};
 ghost use Rattle.lt_modes.specs.FiveModes.{is_of_version};
-ghost use Rattle.lt_script.specs.Forms.{form_seen, asked_seen, NodesForm, SetForm, SetWithForm, ClientForm, CommandForm, ChangeWords, DropWords};
+ghost use Rattle.lt_script.specs.Forms.{form_seen, asked_seen, is_asked_in, NodesForm, SetForm, SetWithForm, ClientForm, CommandForm, ChangeWords, DropWords, WithdrawWords};
 ghost use Rattle.lt_spec.specs.Script.{client_number};
 ghost use Rattle.lt_script.specs.OneMode.{verb_words};
-ghost use Rattle.lt_script.specs.Faults.{form_fault, is_plain_byte, mode_in};
-ghost use Rattle.lt_script.specs.Steps.{is_text_byte, is_plain_line, Resolves, FindsSetAndMode, FindsDrop};
+ghost use Rattle.lt_script.specs.Faults.{form_fault, mode_in};
+ghost use Rattle.lt_script.specs.Steps.{Resolves, FindsSetAndMode, FindsNeighbour};
 
 use crate::fault::Fault;
 use crate::form::{CommandWords, Form};
@@ -109,6 +108,7 @@ pub fn request_of(
     client: &[u8],
     asked: CommandWords<'_>,
 ) -> Result<(u16, Command), Fault>
+    requires { is_asked_in script.now.version (asked_seen asked) ≡ true }
     ensures { Resolves script.now (CommandForm client.now (asked_seen asked.entry)) result }
 {
     let Some(number) = script.client_number(client) else {
@@ -131,6 +131,9 @@ pub fn request_of(
         } => change(script, client, number, set, gives_up, mode),
         CommandWords::Drop { client: other, set } => {
             drop_all(script, client, number, other, set)
+        }
+        CommandWords::Withdraw { client: other, set } => {
+            withdraw(script, client, number, other, set)
         }
     }
 }
@@ -198,6 +201,25 @@ fn drop_all(
     }
 }
 
+// The same of a line `withdraw`; `_name` is the client's.
+fn withdraw(
+    script: &Script,
+    _name: &[u8],
+    client: u16,
+    other: &[u8],
+    set: &[u8],
+) -> Result<(u16, Command), Fault>
+    requires client { client_number script.now _name.now ≡ Some client }
+    requires inside { client < length script.now.clients }
+    requires version { script.now.version ≡ 3 }
+    ensures { Resolves script.now (CommandForm _name.now (WithdrawWords other.now set.now)) result }
+{
+    match client_and_set(script, client, other, set) {
+        Ok((other, set)) => Ok((client, Command::Withdraw { client: other, set })),
+        Err(fault) => Err(fault),
+    }
+}
+
 // The set and the mode with these names, or the first fault of a command that names them.
 fn set_and_mode(script: &Script, set: &[u8], mode: &[u8]) -> Result<(u32, Mode), Fault>
     ensures { FindsSetAndMode script.now set.now mode.now result }
@@ -214,7 +236,8 @@ fn set_and_mode(script: &Script, set: &[u8], mode: &[u8]) -> Result<(u32, Mode),
     Ok((set, mode))
 }
 
-// The client and the set with these names, or the first fault of a command by which this client drops that one's locks.
+// The client and the set with these names, or the first fault of a command by which this client drops that one's
+// locks, or gives up its ask.
 fn client_and_set(
     script: &Script,
     client: u16,
@@ -222,7 +245,7 @@ fn client_and_set(
     set: &[u8],
 ) -> Result<(u16, u32), Fault>
     requires { client < length script.now.clients }
-    ensures { FindsDrop script.now client other.now set.now result }
+    ensures { FindsNeighbour script.now client other.now set.now result }
 {
     let Some(other) = script.client_number(other) else {
         return Err(Fault::Unknown);
@@ -252,40 +275,4 @@ fn mode_in(version: u8, word: &[u8]) -> Option<Mode>
     } else {
         None
     }
-}
-
-/// Whether the text has plain bytes and line feeds alone, so that each of its lines is plain.
-pub fn is_plain_text(text: &[u8]) -> bool
-    ensures { result ≡ list_all is_text_byte text.now }
-{
-    let mut is_plain = true;
-    for byte in text {
-        is_plain &= is_text_byte(*byte);
-    }
-    is_plain
-}
-
-fn is_text_byte(byte: u8) -> bool
-    ensures { result ≡ is_text_byte byte }
-{
-    is_plain_byte(byte) || byte == b'\n'
-}
-
-/// Whether the line has plain bytes alone.
-///
-/// It goes to the end where an early byte is none, so that several bytes are looked at in one step.
-pub fn is_plain_line(line: &[u8]) -> bool
-    ensures { result ≡ is_plain_line line.now }
-{
-    let mut is_plain = true;
-    for byte in line {
-        is_plain &= is_plain_byte(*byte);
-    }
-    is_plain
-}
-
-fn is_plain_byte(byte: u8) -> bool
-    ensures { result ≡ is_plain_byte byte }
-{
-    byte == b'\t' || b' ' <= byte && byte <= b'~'
 }

@@ -13,8 +13,8 @@ use lt_modes::{Command, Mode};
 use lt_text::push_number;
 use std::alloc::{AllocError, Global};
 
-/// Writes the script as `read` reads it: for version 2 the line `version 2`, and then the line `nodes`, the sets, the
-/// clients and the commands. A script with more sets or more commands than a text may have is written too, and not
+/// Writes the script as `read` reads it: in version 2 or 3 the line that says it, and then the line `nodes`, the sets,
+/// the clients and the commands. A script with more sets or more commands than a text may have is written too, and not
 /// read back.
 pub fn print(alloc: Global, script: &Script) -> Result<Vec<u8>, AllocError>
     ensures text { IfOk result (λ text. text.items ≡ print_of script.now) }
@@ -32,10 +32,10 @@ pub fn print(alloc: Global, script: &Script) -> Result<Vec<u8>, AllocError>
 fn push_version(out: &mut Vec<u8>, version: u8) -> Result<(), AllocError>
     ensures { OnOk result (out.new.items ≡ out.old.items ++ flat_map ended_line (version_words version)) }
 {
-    if version == 1 {
-        Ok(())
-    } else {
-        push_text(out, "version 2\n")
+    match version {
+        1 => Ok(()),
+        2 => push_text(out, "version 2\n"),
+        _ => push_text(out, "version 3\n"),
     }
 }
 
@@ -137,9 +137,20 @@ fn push_asked(out: &mut Vec<u8>, script: &Script, request: (u16, Command)) -> Re
             push_word(out, mode.word().as_bytes())
         }
         Command::DropAll { client, set } => {
-            push_word(out, b"drop")?;
-            push_word(out, script.client_name(client))?;
-            push_word(out, script.set_name(set))
+            push_client_and_set(
+                out,
+                b"drop",
+                script.client_name(client),
+                script.set_name(set),
+            )
+        }
+        Command::Withdraw { client, set } => {
+            push_client_and_set(
+                out,
+                b"withdraw",
+                script.client_name(client),
+                script.set_name(set),
+            )
         }
     }
 }
@@ -156,6 +167,20 @@ fn push_set_and_mode(
     push_word(out, verb)?;
     push_word(out, set)?;
     push_word(out, mode.word().as_bytes())
+}
+
+fn push_client_and_set(
+    out: &mut Vec<u8>,
+    verb: &[u8],
+    client: &[u8],
+    set: &[u8],
+) -> Result<(), AllocError>
+    ensures { OnOk result
+        (out.new.items ≡ out.old.items ++ each_after_space (verb.now ∷ client.now ∷ set.now ∷ [])) }
+{
+    push_word(out, verb)?;
+    push_word(out, client)?;
+    push_word(out, set)
 }
 
 // Writes a space and the word.

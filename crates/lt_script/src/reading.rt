@@ -3,14 +3,15 @@ ghost use Rattle.lt_text.specs.Text.{lines, words};
 ghost use Rattle.lt_spec.specs.Script.{IsShort};
 ghost use Rattle.lt_script.specs.Forms.{form_seen};
 ghost use Rattle.lt_script.specs.Faults.{declared, form_fault, after_form};
-ghost use Rattle.lt_script.specs.Reading.{ReadsLine, Reads, is_skipped, says_version, line_step, script_body, read_of};
+ghost use Rattle.lt_script.specs.Reading.{ReadsLine, Reads, is_skipped, version_said, line_step, script_body, read_of};
 ghost use Rattle.lt_script.specs.Steps.{begins_comment, words_step, is_plain_line};
 
 use crate::cutting::first_line;
 use crate::fault::{Fault, ReadError, ScriptFault};
-use crate::form::{Form, form_of};
+use crate::form::{Form, form_in, form_of};
 use crate::later_lines::add_line;
-use crate::line::{fault_before_nodes, is_plain_line, is_plain_text};
+use crate::line::fault_before_nodes;
+use crate::plain::{is_plain_line, is_plain_text};
 use crate::script::Script;
 use lt_spec::MAX_LINE;
 use lt_text::{next_word, number};
@@ -52,7 +53,7 @@ pub fn read(alloc: Global, bytes: &[u8]) -> Result<Script, ReadError>
     }
 }
 
-// What a script is read from: its version, and the lines behind the line `version 2`, where there is one, with the
+// What a script is read from: its version, and the lines behind the line that says it, where there is one, with the
 // number of the first of them.
 #[derive(Clone, Copy)]
 struct Body<'a> {
@@ -66,24 +67,25 @@ fn body_of<'a>(bytes: &'a [u8]) -> Body<'a>
     requires { length bytes.now < 2 ^ 32 - 1 }
     ensures body { script_body (lines bytes.now) 1
         ≡ record { version = result.version; first = result.number; lines = lines result.rest.now } }
-    ensures version { (result.version ≡ 1) ⊎ (result.version ≡ 2) }
+    ensures version { (result.version ≡ 1) ⊎ ((result.version ≡ 2) ⊎ (result.version ≡ 3)) }
     ensures count { result.number + length result.rest.now ≤ length bytes.now + 1 }
 {
     let mut rest = bytes;
     let mut number: u32 = 1;
     while let Some((line, after)) = first_line(rest) {
         if !is_skipped(line) {
-            if says_version(line) {
+            let version = version_said(line);
+            if version == 1 {
                 return Body {
-                    version: 2,
-                    number: number + 1,
-                    rest: after,
+                    version,
+                    number,
+                    rest,
                 };
             }
             return Body {
-                version: 1,
-                number,
-                rest,
+                version,
+                number: number + 1,
+                rest: after,
             };
         }
         rest = after;
@@ -96,19 +98,21 @@ fn body_of<'a>(bytes: &'a [u8]) -> Body<'a>
     }
 }
 
-// Whether the line is `version 2`, and not too long.
-fn says_version(line: &[u8]) -> bool
-    ensures { result ≡ says_version line.now }
+// 2 if the line is `version 2`, 3 if it is `version 3`, each if it is not too long; else 1.
+fn version_said(line: &[u8]) -> u8
+    ensures said { result ≡ version_said line.now }
+    ensures known { (result ≡ 1) ⊎ ((result ≡ 2) ⊎ (result ≡ 3)) }
 {
     if line.len() > MAX_LINE {
-        return false;
+        return 1;
     }
     let Some((word, rest)) = next_word(line) else {
-        return false;
+        return 1;
     };
     match form_of(word, rest) {
-        Some(Form::Version) => true,
-        _ => false,
+        Some(Form::Version2) => 2,
+        Some(Form::Version3) => 3,
+        _ => 1,
     }
 }
 
@@ -120,7 +124,7 @@ fn read_line(
     line: &[u8],
     is_plain: bool,
 ) -> Result<Option<Fault>, AllocError>
-    requires version { (version ≡ 1) ⊎ (version ≡ 2) }
+    requires version { (version ≡ 1) ⊎ ((version ≡ 2) ⊎ (version ≡ 3)) }
     requires plain { IsTrue is_plain → is_plain_line line.now ≡ true }
     ensures { IfOk result (λ fault. ReadsLine fault script.new (line_step version script.old line.now)) }
 {
@@ -165,12 +169,12 @@ fn begin(
     word: &[u8],
     rest: &[u8],
 ) -> Result<Option<Fault>, AllocError>
-    requires version { (version ≡ 1) ⊎ (version ≡ 2) }
+    requires version { (version ≡ 1) ⊎ ((version ≡ 2) ⊎ (version ≡ 3)) }
     requires none { script.old ≡ None }
     ensures { IfOk result
         (λ fault. ReadsLine fault script.new (words_step version script.old (word.now ∷ words rest.now))) }
 {
-    let Some(form) = form_of(word, rest) else {
+    let Some(form) = form_in(version, word, rest) else {
         return Ok(Some(Fault::Form));
     };
     if let Some(fault) = fault_before_nodes(version, form) {
@@ -182,7 +186,7 @@ fn begin(
 
 // The script that the line `nodes` begins.
 fn start(alloc: Global, version: u8, form: Form<'_>) -> Result<Script, AllocError>
-    requires version { (version ≡ 1) ⊎ (version ≡ 2) }
+    requires version { (version ≡ 1) ⊎ ((version ≡ 2) ⊎ (version ≡ 3)) }
     requires clean { form_fault version None (form_seen form) ≡ None }
     ensures { IfOk result (λ script. script ≡ after_form (declared version None) (form_seen form.entry)) }
 {

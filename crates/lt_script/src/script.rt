@@ -78,9 +78,19 @@ impl Script {
         Script::of_version(alloc, 2, nodes)
     }
 
+    /// A script of version 3 with no sets, clients or commands.
+    pub fn new_v3(alloc: Global, nodes: u8) -> Result<Script, AllocError>
+        requires some_node { 0 < nodes }
+        requires few_nodes { nodes ≤ MAX_NODES }
+        ensures { IfOk result
+            (λ s. s ≡ record { version = 3; nodes = nodes; sets = []; clients = []; commands = [] }) }
+    {
+        Script::of_version(alloc, 3, nodes)
+    }
+
     /// A script of this version with no sets, clients or commands.
     pub(crate) fn of_version(alloc: Global, version: u8, nodes: u8) -> Result<Script, AllocError>
-        requires version { (version ≡ 1) ⊎ (version ≡ 2) }
+        requires version { (version ≡ 1) ⊎ ((version ≡ 2) ⊎ (version ≡ 3)) }
         requires some_node { 0 < nodes }
         requires few_nodes { nodes ≤ most_nodes version }
         ensures { IfOk result
@@ -125,7 +135,7 @@ impl Script {
         })
     }
 
-    /// The version: 1 or 2.
+    /// The version: 1, 2 or 3.
     pub fn version(&self) -> u8
         ensures version { result ≡ self.now.version }
         ensures kept { IsScript self.now }

@@ -43,8 +43,8 @@ RunsOrdered (Some Run) left = DenotesOrdered left
 RunsOrdered (Some (Soak seed)) left = IsOrdered (greatest_script seed)
 RunsOrdered other left = ⊥
 
--- why a command is answered so, where the source had these bytes left: each answer has a cause here but want of memory, and but
--- for the other ends of a run, of which `Did` speaks
+-- why a command is answered so, where the source had these bytes left: each answer has a cause here but want of
+-- memory, and but for the other ends of a run, of which `Did` speaks
 pub record HasStatusCause (asked : Option Command) (left : Option (List ℕ)) (answer : Status) : Type 0 where
   pub usage : answer ≡ Usage ↔ asked ≡ None
   pub refused : (fault : ScriptFault) → answer ≡ Refused fault → (reads asked ≡ true) × HasFirstFault asked left fault

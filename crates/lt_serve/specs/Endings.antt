@@ -17,8 +17,8 @@ EndsAs moves Stuck script run = EndsBy moves ending.Stuck script run
 EndsAs moves (Cut node) script run = EndsBy moves (ending.Cut node) script run
 EndsAs moves other script run = ⊥
 
--- before each move of the run no node had made as many moves as it may and had a further one: so the run stops at the first
--- moment at which a node is so
+-- before each move of the run no node had made as many moves as it may and had a further one: so the run stops at the
+-- first moment at which a node is so
 abbrev pub StopsInTime : ℕ → ScriptData → List Logged → Type 0
 StopsInTime moves script run = (k : ℕ) → k < length run → full_node script moves (take k run) ≡ None
 

@@ -14,24 +14,24 @@ use Rattle.lt_serve.specs.Status.{outcome_of}
 use Rattle.lt_serve.specs.TopCall.{Did, WroteByFewest, StoppedByFewest}
 use Rattle.lt_serve.specs.declared.serving.Served.{Served}
 
--- the source failed at no read and gave no more than the input may have, and its bytes are known: their script has no fault,
--- and the journal that `check` reads has no bad line
+-- the source failed at no read and gave no more than the input may have, and its bytes are known: their script has no
+-- fault, and the journal that `check` reads has no bad line
 pub record IsGood (command : Command) (before after : SourceState) : Type 0 where
   pub no_read_fault : Rose before.faults after.faults → ⊥
   pub not_too_long : RoseBy (limit_of (Some command) + 1) before.given after.given → ⊥
   pub no_fault : (fault : ScriptFault) → HasFirstFault (Some command) before.left fault → ⊥
   pub no_bad_line : command ≡ Check → (line : ℕ) → IsBad before.left line → ⊥
 
--- `make`, `check` and `order` are done; every other command has made a run to its end, which is Done, Stuck or Cut: of which end it is,
--- and that a node met its limit at Cut, `Did` speaks
+-- `make`, `check` and `order` are done; every other command has made a run to its end, which is Done, Stuck or Cut:
+-- of which end it is, and that a node met its limit at Cut, `Did` speaks
 abbrev pub IsAnswered : Command → Status → Type 0
 IsAnswered (Make nodes clients commands seed) answer = answer ≡ Done
 IsAnswered Check answer = answer ≡ Done
 IsAnswered Order answer = answer ≡ Done
 IsAnswered other answer = IsEnding (outcome_of answer)
 
--- the words are a command, and nothing goes wrong: its input is good, if it reads one, no write failed, and memory wasn't
--- wanting
+-- the words are a command, and nothing goes wrong: its input is good, if it reads one, no write failed, and memory
+-- wasn't wanting
 pub record GoesWell (asked : Option Command) (answer : Status) (before after : SourceState) (writes_before writes_after : ℕ) : Type 0 where
   pub command : Command
   pub is_asked : asked ≡ Some command
@@ -63,8 +63,8 @@ IsFaultOf bytes other = ⊥
 
 -- All that the top call says of an answer.
 
--- the answer to this command, or to words that are none, where a node makes up to so many moves; and the source and the sink
--- before and after, with what they tell of themselves
+-- the answer to this command, or to words that are none, where a node makes up to so many moves; and the source and
+-- the sink before and after, with what they tell of themselves
 pub record Serves {S K : Type 0} (state : S → SourceState) (held : K → Option (List ℕ)) (write_faults : K → ℕ) (pace : K → Option Pace) (moves : ℕ) (asked : Option Command) (answer : Served) (source_before source_after : S) (sink_before sink_after : K) : Type 0 where
   -- what the run is, how it ended, and what was written
   pub did : Did moves asked answer.status (state source_before).left answer.run.entries (held sink_before) (held sink_after)

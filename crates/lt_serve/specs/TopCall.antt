@@ -38,7 +38,8 @@ pub record JournalsInOrder (schedule : Schedule) (moves : ℕ) (ending : Status)
   pub in_order : AreInOrder schedule journals.script run
   pub in_time : StopsInTime moves journals.script run
 
--- the same, its moves in the order of their stamps, and each node that could make a further one has made as many as it may
+-- the same, its moves in the order of their stamps, and each node that could make a further one has made as many as
+-- it may
 pub record JournalsThreads (moves : ℕ) (ending : Status) (left : Option (List ℕ)) (run : List Logged) (text : List ℕ) : Type 0 where
   pub journals : Journals moves ending left run text
   pub rising : AreRising run
@@ -53,7 +54,8 @@ abbrev pub soak_text : ScriptData → List Logged → Option ℕ → List ℕ
 soak_text script run (Some node) = lines_text script (CutLine node ∷ [])
 soak_text script run None = summary_text (summary_of script run)
 
--- a run of the greatest script, which ended so and went as far, its moves in the order of their stamps, and what it came to
+-- a run of the greatest script, which ended so and went as far, its moves in the order of their stamps, and what it
+-- came to
 pub record Soaks (seed moves : ℕ) (ending : Status) (run : List Logged) (text : List ℕ) : Type 0 where
   pub ran : RanTo moves ending (greatest_script seed) run
   pub rising : AreRising run
@@ -64,8 +66,8 @@ pub record Soaks (seed moves : ℕ) (ending : Status) (run : List Logged) (text 
 abbrev pub Prints : ScriptData → Status → List Logged → List ℕ → Type 0
 Prints script ending run text = (ending ≡ Done) × (run ≡ []) × (text ≡ print_of script)
 
--- the input is a script and the journal of a run of it that ended at rest, which is the answer's, and `ok` with the number
--- of its moves is written
+-- the input is a script and the journal of a run of it that ended at rest, which is the answer's, and `ok` with the
+-- number of its moves is written
 pub record Checks (ending : Status) (left : Option (List ℕ)) (run : List Logged) (text : List ℕ) : Type 0 where
   pub done : ending ≡ Done
   pub script : ScriptData
@@ -82,8 +84,8 @@ abbrev pub order_answer : ScriptData → Option ℕ → List ℕ
 order_answer script None = codes "ordered\n"
 order_answer script (Some client) = codes "not ordered " ++ client_name script client ++ codes "\n"
 
--- the script that the bytes denote, of which it is written whether it is ordered, or which client is the first that isn't in
--- order; and no run
+-- the script that the bytes denote, of which it is written whether it is ordered, or which client is the first that
+-- isn't in order; and no run
 pub record TellsOrder (ending : Status) (left : Option (List ℕ)) (run : List Logged) (text : List ℕ) : Type 0 where
   pub done : ending ≡ Done
   pub no_run : run ≡ []
@@ -110,8 +112,8 @@ abbrev pub WrotePart : ℕ → Command → Option (List ℕ) → List Logged →
 WrotePart moves command left run old new =
     (ending : Status) × (text : List ℕ) × JournalsBy moves command ending left run text × AppendsPart old new text
 
--- what the status says of a command: of the run, and of what the sink held before and after. With any other status it gives
--- no run, and nothing was written
+-- what the status says of a command: of the run, and of what the sink held before and after. With any other status it
+-- gives no run, and nothing was written
 abbrev pub DidOf : ℕ → Command → Status → Option (List ℕ) → List Logged → Option (List ℕ) → Option (List ℕ) → Type 0
 DidOf moves command Done left run old new = WroteAll moves command Done left run old new
 DidOf moves command Stuck left run old new = WroteAll moves command Stuck left run old new

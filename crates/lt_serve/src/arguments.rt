@@ -24,8 +24,10 @@ pub fn program<R: Threads + Sync, S: Source, K: Sink, G: Gate>(
 ) -> Served
     ensures ends { IfOk words.now (λ texts. Ends (command_of (map string_bytes texts.items)) result.status (S.state source.old) (S.state source.new) (K.faults sink.old) (K.faults sink.new)) }
     ensures served { IfOk words.now (λ texts. Serves S.state K.held K.faults K.pace USUAL.moves (command_of (map string_bytes texts.items)) result source.old source.new sink.old sink.new) }
-    ensures no_memory { IfErr words.now (λ error. error_kind error ≡ ErrorKind.OutOfMemory → result.status ≡ Status.NoMemory) }
-    ensures no_text { IfErr words.now (λ error. error_kind error ≢ ErrorKind.OutOfMemory → result.status ≡ Status.Usage) }
+    ensures no_memory { IfErr words.now (λ error. error_kind error ≡ ErrorKind.OutOfMemory
+        → result.status ≡ Status.NoMemory) }
+    ensures no_text { IfErr words.now (λ error. error_kind error ≢ ErrorKind.OutOfMemory
+        → result.status ≡ Status.Usage) }
     ensures setup { result.setup ≡ USUAL }
     ensures no_run { IfErr words.now (λ error. result.run.entries ≡ []) }
     ensures unread { IfErr words.now (λ error. source.new ≡ source.old) }

@@ -39,7 +39,8 @@ pub(crate) fn checked<S: Source>(alloc: Global, source: &mut S) -> Result<Made, 
 
 // The run, with the line that says the number of its moves.
 fn with_count(alloc: Global, run: Run) -> Result<Made, AllocError>
-    ensures { IfOk result (λ made. (made.ending ≡ Status.Done) × (made.run.entries ≡ run.entries) × (made.text.items ≡ codes "ok " ++ decimal (length run.entries) ++ codes "\n")) }
+    ensures { IfOk result (λ made. (made.ending ≡ Status.Done) × (made.run.entries ≡ run.entries)
+        × (made.text.items ≡ codes "ok " ++ decimal (length run.entries) ++ codes "\n")) }
 {
     let text = count_line(alloc, run.len())?;
     Ok(Made {

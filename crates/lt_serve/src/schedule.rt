@@ -22,7 +22,8 @@ impl Schedule {
         ensures none { IsNone result → IsTrue (is_at_rest world.now.script (world_of world.now)) }
         ensures place { OnSome result (result ≡ option_map choice_of (pick world.now.script (world_of world.now)
             (scheduled self.old (count_turns world.now.script (world_of world.now))).0)) }
-        ensures next { OnSome result (self.new ≡ (scheduled self.old (count_turns world.now.script (world_of world.now))).1) }
+        ensures next { OnSome result (self.new
+            ≡ (scheduled self.old (count_turns world.now.script (world_of world.now))).1) }
         ensures enabled { IfSome result (λ choice. IsTrue (is_enabled world.now.script (world_of world.now) choice.node choice.step)) }
     {
         match self {

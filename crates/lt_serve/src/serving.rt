@@ -159,8 +159,10 @@ fn make<R: Threads + Sync, S: Source, G: Gate>(
     requires possible { CanBeMade command }
     ensures ended { IfOk result (λ made. IsEnding (outcome_of made.ending)) }
     ensures does { IfOk result (λ made. JournalsBy setup.moves command made.ending (S.state source.old).left made.run.entries made.text.items) }
-    ensures whole { OnOk result (reads (Some command) ≡ true → IsReadWhole (limit_of (Some command)) (S.state source.old) (S.state source.new)) }
-    ensures reading { IfErr result (λ answer. reads (Some command) ≡ true → SaysOfSource (limit_of (Some command)) (outcome_of answer) (S.state source.old) (S.state source.new)) }
+    ensures whole { OnOk result (reads (Some command) ≡ true
+        → IsReadWhole (limit_of (Some command)) (S.state source.old) (S.state source.new)) }
+    ensures reading { IfErr result (λ answer. reads (Some command) ≡ true
+        → SaysOfSource (limit_of (Some command)) (outcome_of answer) (S.state source.old) (S.state source.new)) }
     ensures refused { IfErr result (IsRefusal command (S.state source.old).left) }
     ensures memory { IfErr result (λ answer. answer ≡ Status.NoMemory → reads (Some command) ≡ true
         → WantsToRead (Some command) (S.state source.old) (S.state source.new)) }

@@ -8,7 +8,7 @@ use Rattle.lt_modes.specs.declared.stamp.Stamp.{Stamp}
 use Rattle.lt_modes.specs.State.{Letter, Post}
 use Rattle.lt_lists.specs.Below.{first_below, count_below}
 use Rattle.lt_spec.specs.World.{Logged, World, start, made_by, is_runnable, is_enabled, has_mail, logged, after, letter_for}
-use Rattle.lt_spec.specs.NodeMove.{home, NodeState, NodeMade, has_command, node_waits, node_act, node_take}
+use Rattle.lt_spec.specs.NodeMove.{home, NodeState, NodeMade, has_command, node_act, node_take, is_free_at}
 
 -- a move that a node might make
 pub record Turn : Type 0 where
@@ -105,7 +105,7 @@ pub data Cause : Type 0 where
 abbrev pub can_act : ScriptData → ℕ → NodeState → ℕ → Bool
 can_act script x n client =
     nat_lt client (length script.clients)
-    && (home script client == x && (not (node_waits script n client) && has_command script n client))
+    && (home script client == x && (is_free_at script n client && has_command script n client))
 
 -- node x can make the move; a letter comes from another node of the script
 abbrev pub can_make_move : ScriptData → ℕ → NodeState → Cause → Bool

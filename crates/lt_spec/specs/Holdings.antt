@@ -1,13 +1,15 @@
 -- Who holds and who waits after event lines, read from the lines alone.
+use Rattle.lt_modes.specs.Serving.{is_gone}
 use Rattle.std.specs.Prelude.{Bool, ◌&&◌, ◌||◌, ◌==◌, not, ℕ, List, [], ◌∷◌, ◌++◌, Option, Some, None, if◌then◌else◌, IsTrue, fold, filter, flat_map, position, remove, count_by, AllPairs, ◌≡◌, Contains, false, IsFalse, ◌<◌, length, ◌≢◌, nat_lt}
 use Rattle.std.specs.List.{AllByRecursion}
 use Rattle.lt_modes.specs.declared.mode.Mode.{Mode}
 use Rattle.lt_modes.specs.declared.event.Event.{Event}
-use Rattle.lt_modes.specs.declared.event.Event.TheVariants.{Grant, Wait, Try, Unlock, Change, DropAll, Token}
+use Rattle.lt_modes.specs.declared.event.Event.TheVariants.{Grant, Wait, Try, Unlock, Change, DropAll, Withdrawn, Token}
 use Rattle.lt_modes.specs.declared.parts.Link.{Link}
 use Rattle.lt_modes.specs.Modes.{conflicts, same_mode, any_mode, count_of}
 use Rattle.lt_modes.specs.Script.{ScriptData}
 use Rattle.lt_modes.specs.declared.ask.Ask.{Ask}
+use Rattle.lt_modes.specs.State.{SetState}
 use Rattle.lt_modes.specs.Waiting.{pending_ask, stands_before, parked_behind}
 use Rattle.lt_lists.specs.Below.{any_below}
 use Rattle.lt_spec.specs.World.{Logged, World}
@@ -73,9 +75,10 @@ abbrev pub wanted_after : ℕ → Option Holding → Event → Option Holding
 wanted_after client wanted (Wait c set mode) = if c == client then Some (holding c set mode) else wanted
 wanted_after client wanted (Grant c set mode) = if c == client then None else wanted
 wanted_after client wanted (Change c set gives_up mode) = if c == client then None else wanted
+wanted_after client wanted (Withdrawn c set mode) = if c == client then None else wanted
 wanted_after client wanted other = wanted
 
--- what the client waits for: its last `wait` line, where no `grant` or `change` line of it came later
+-- what the client waits for: its last `wait` line, where no `grant`, `change` or `withdrawn` line of it came later
 abbrev pub wanted : ℕ → List Event → Option Holding
 wanted client lines = fold (wanted_after client) None lines
 
@@ -93,15 +96,17 @@ owner_of s lines = fold (owner_after s) (record { node = 0; epoch = 0 }) lines
 abbrev pub WaitsFor : ScriptData → World → ℕ → ℕ → Mode → Type 0
 WaitsFor script w client s mode =
     (ask : Ask) × Contains (state_at w s (home script client)).pending ask × (ask.client ≡ client) × (ask.mode ≡ mode)
+    × (is_gone (state_at w s (home script client)) client ≡ false)
 
 -- the line says that the client waits, or waits no more
 abbrev pub is_about_waiting : ℕ → Event → Bool
 is_about_waiting client (Wait c set mode) = c == client
 is_about_waiting client (Grant c set mode) = c == client
 is_about_waiting client (Change c set gives_up mode) = c == client
+is_about_waiting client (Withdrawn c set mode) = c == client
 is_about_waiting client other = false
 
--- the last of the client's `wait`, `grant` and `change` lines is a `wait` line, of this set and mode
+-- the last of the client's `wait`, `grant`, `change` and `withdrawn` lines is a `wait` line, of this set and mode
 abbrev pub HasOpenWait : ℕ → ℕ → Mode → List Event → Type 0
 HasOpenWait client set mode lines =
     (before : List Event) × (later : List Event) × (lines ≡ before ++ Wait client set mode ∷ later)
@@ -132,17 +137,39 @@ abbrev pub waits_behind : ScriptData → World → ℕ → ℕ → ℕ → Bool
 waits_behind script w s other client =
     any_below script.nodes (λ q. stands_before (state_at w s q) other client || parked_behind (state_at w s q) other client)
 
--- the other client's lock or ask stands in the way of the ask: it conflicts with a lock that the other one holds, stands
--- behind its ask in the queue, or is parked behind its ask
+-- the client's ask for the set was given up: it is void
+abbrev pub gave_up : ScriptData → World → ℕ → ℕ → Bool
+gave_up script w s client = is_gone (state_at w s (home script client)) client
+
+-- the other client's lock or ask stands in the way of the ask: it conflicts with a lock that the other one holds, or it stands
+-- behind its ask in the queue or is parked behind it, and that ask wasn't given up
 abbrev pub is_kept_by : ScriptData → World → ℕ → ℕ → Ask → Bool
-is_kept_by script w s other ask = holds_against script w s ask.mode other || waits_behind script w s other ask.client
+is_kept_by script w s other ask =
+    holds_against script w s ask.mode other || (not (gave_up script w s other) && waits_behind script w s other ask.client)
 
 abbrev pub kept_if : ScriptData → World → ℕ → ℕ → Option Ask → Bool
 kept_if script w s other None = false
 kept_if script w s other (Some ask) = is_kept_by script w s other ask
 
+-- the ask stands behind a void ask of the other client in the queue, or is parked behind it
+abbrev pub is_behind_void : ScriptData → World → ℕ → ℕ → Ask → Bool
+is_behind_void script w s other ask = gave_up script w s other && waits_behind script w s other ask.client
+
+abbrev pub behind_void_if : ScriptData → World → ℕ → ℕ → Option Ask → Bool
+behind_void_if script w s other None = false
+behind_void_if script w s other (Some ask) = is_behind_void script w s other ask
+
+-- the client's unanswered ask here, unless it was given up
+abbrev pub live_ask : SetState → ℕ → Option Ask
+live_ask s client = if is_gone s client then None else pending_ask s client
+
 -- the client waits for the other one: that one stands in the way of its unanswered ask
 abbrev pub waits_for : ScriptData → World → ℕ → ℕ → Bool
 waits_for script w client other =
     not (client == other)
-    && any_below (length script.sets) (λ s. kept_if script w s other (pending_ask (state_at w s (home script client)) client))
+    && any_below (length script.sets) (λ s. kept_if script w s other (live_ask (state_at w s (home script client)) client))
+
+-- the client waits behind a void ask of the other one
+abbrev pub waits_behind_void : ScriptData → World → ℕ → ℕ → Bool
+waits_behind_void script w client other =
+    any_below (length script.sets) (λ s. behind_void_if script w s other (live_ask (state_at w s (home script client)) client))

@@ -1,19 +1,19 @@
 -- What a script says of a client and of a set.
-use Rattle.std.specs.Prelude.{◌==◌, Bool, ℕ, List, Option, Some, None, if◌then◌else◌, filter_map, ◌≡◌, [], ◌∷◌, ◌++◌, nat_lt, ◌+◌, max, length, slice_get, sum_by, ◌<◌, All, true, ◌&&◌, not, nat_le}
+use Rattle.std.specs.Prelude.{◌==◌, Bool, ℕ, List, Option, Some, None, if◌then◌else◌, filter_map, ◌≡◌, [], ◌∷◌, ◌++◌, nat_lt, ◌+◌, max, length, slice_get, sum_by, ◌<◌, All, true, ◌&&◌, not, nat_le, false, ◌||◌}
 use Rattle.std.specs.List.{AllByRecursion}
 use mathlib.Core.List.{IsPrefix}
 use Rattle.lt_modes.specs.declared.command.Command.{Command}
 use Rattle.lt_modes.specs.Freezing.{places_from}
 use Rattle.lt_modes.specs.Script.{ScriptData, SetData, home_at, family_at}
 use Rattle.lt_modes.specs.declared.stamp.Stamp.{Stamp}
-use Rattle.lt_modes.specs.declared.command.Command.TheVariants.{Lock, Unlock, Try, Change, DropAll}
+use Rattle.lt_modes.specs.declared.command.Command.TheVariants.{Lock, Unlock, Try, Change, DropAll, Withdraw}
 use Rattle.lt_modes.specs.declared.event.Event.{Event}
 use Rattle.lt_modes.specs.declared.event.Event.TheVariants.{Busy, DropAll as Dropped}
 use Rattle.lt_modes.specs.State.{SetState, Letter, Made, Post, Desk}
 use Rattle.lt_modes.specs.Modes.{locks_of, locks_in}
 use Rattle.lt_modes.specs.Serving.{waits}
-use Rattle.lt_modes.specs.SetMove.{finish, lock, try, unlock, change, drop, take}
-use Rattle.lt_modes.specs.Fits.{asks_here}
+use Rattle.lt_modes.specs.SetMove.{finish, lock, try, unlock, change, drop, withdraw, take}
+use Rattle.lt_modes.specs.Fits.{asks_here, has_client}
 use Rattle.lt_lists.specs.Below.{gather_below, any_below, put}
 use Rattle.lt_spec.specs.declared.limits.TheConstants.{MAX_COMMANDS_OF_SERVICE, MAX_CLIENTS, MAX_CLIENTS_OF_NODE}
 
@@ -106,6 +106,20 @@ has_command script n client = nat_lt (n.made client) (length (commands_of script
 abbrev pub next_command : ScriptData → NodeState → ℕ → Option Command
 next_command script n client = slice_get (commands_of script client) (n.made client)
 
+-- the command gives up the very ask for which the client waits
+abbrev pub withdraws_itself : NodeState → ℕ → Option Command → Bool
+withdraws_itself n client None = false
+withdraws_itself n client (Some (Lock s mode)) = false
+withdraws_itself n client (Some (Try s mode)) = false
+withdraws_itself n client (Some (Unlock s mode)) = false
+withdraws_itself n client (Some (Change s gives_up mode)) = false
+withdraws_itself n client (Some (DropAll other s)) = false
+withdraws_itself n client (Some (Withdraw other s)) = other == client && waits (n.set s) client
+
+-- the client doesn't wait, or its next command gives up what it waits for
+abbrev pub is_free_at : ScriptData → NodeState → ℕ → Bool
+is_free_at script n client = not (node_waits script n client) || withdraws_itself n client (next_command script n client)
+
 -- the stamp of the node's next act
 abbrev pub act_stamp : ℕ → NodeState → Stamp
 act_stamp q n = record { clock = n.clock + 1; node = q }
@@ -162,6 +176,7 @@ obey script stamp client (Some (Change s gives_up mode)) n =
     touched n s (change s stamp client gives_up mode (n.set s))
 obey script stamp client (Some (DropAll other s)) n =
     drop_all (node_waits script n other) stamp client other s (related script s) n
+obey script stamp client (Some (Withdraw other s)) n = touched n s (withdraw s stamp client other (n.set s))
 
 -- the node at this clock
 abbrev pub at_clock : ℕ → NodeState → NodeState
@@ -183,13 +198,16 @@ node_take q letter n =
 
 -- Which scripts runs are of: clients are on nodes of the script, and what commands name is of it.
 
--- the command is for a set of the script, and drops the locks of a client on the node of the one that makes it
+-- the command is for a set of the script, and a client whose locks it drops, or whose ask it gives up, is on the node of the
+-- one that makes it
 abbrev pub HasTargetsAt : ScriptData → ℕ → Command → Type 0
 HasTargetsAt script client (Lock s mode) = s < length script.sets
 HasTargetsAt script client (Try s mode) = s < length script.sets
 HasTargetsAt script client (Unlock s mode) = s < length script.sets
 HasTargetsAt script client (Change s gives_up mode) = s < length script.sets
 HasTargetsAt script client (DropAll other s) =
+    (s < length script.sets) × (other < length script.clients) × (home script other ≡ home script client)
+HasTargetsAt script client (Withdraw other s) =
     (s < length script.sets) × (other < length script.clients) × (home script other ≡ home script client)
 
 -- the script has a node, clients are on nodes of the script, and what commands name is of the script
@@ -214,10 +232,10 @@ set_within clock s =
 abbrev pub node_within : ScriptData → NodeState → Bool
 node_within script n = not (any_below (length script.sets) (λ s. not (set_within n.clock (n.set s))))
 
--- fewer asks are unanswered here than a node may have clients
-abbrev pub leaves_ask : SetState → Bool
-leaves_ask s = nat_lt (length s.pending) MAX_CLIENTS_OF_NODE
+-- an ask of the client is unanswered here, or fewer are than a node may have clients
+abbrev pub leaves_ask : ℕ → SetState → Bool
+leaves_ask client s = has_client client s.pending || nat_lt (length s.pending) MAX_CLIENTS_OF_NODE
 
 -- so it is in each set of the script
-abbrev pub leaves_asks : ScriptData → NodeState → Bool
-leaves_asks script n = not (any_below (length script.sets) (λ s. not (leaves_ask (n.set s))))
+abbrev pub leaves_asks : ScriptData → NodeState → ℕ → Bool
+leaves_asks script n client = not (any_below (length script.sets) (λ s. not (leaves_ask client (n.set s))))

@@ -1,23 +1,23 @@
 -- Which clients have ended, and hold up others; clients that wait in a ring.
-use Rattle.std.specs.Prelude.{◌≡◌, ℕ, List, length, Contains, IsTrue, IsFalse, ◌≢◌, ◌==◌, ◌≤◌, [], ◌∷◌, Option, Some, None, All, filter, ◌<◌, zero, suc, ◌++◌, if◌then◌else◌, take, Bool, drop, ◌↔◌, true, slice_get}
+use Rattle.std.specs.Prelude.{◌≡◌, ℕ, List, length, Contains, IsTrue, IsFalse, ◌≢◌, ◌==◌, ◌≤◌, [], ◌∷◌, Option, Some, None, All, filter, ◌<◌, zero, suc, ◌++◌, if◌then◌else◌, take, Bool, drop, ◌↔◌, true, slice_get, false}
 use Rattle.lt_modes.specs.declared.mode.Mode.{Mode}
 use Rattle.lt_modes.specs.declared.event.Event.{Event}
 use Rattle.lt_modes.specs.Modes.{conflicts, count_of}
 use Rattle.lt_modes.specs.Script.{ScriptData}
 use Rattle.lt_modes.specs.declared.command.Command.{Command}
-use Rattle.lt_modes.specs.declared.command.Command.TheVariants.{Lock, Unlock, Try, Change, DropAll}
+use Rattle.lt_modes.specs.declared.command.Command.TheVariants.{Lock, Unlock, Try, Change, DropAll, Withdraw}
 use Rattle.lt_modes.specs.declared.moves.Step.{Step}
 use Rattle.lt_modes.specs.declared.moves.Step.TheVariants.{Act, Take}
 use Rattle.lt_modes.specs.State.{SetState, Body, Letter, Desk}
 use Rattle.lt_modes.specs.declared.stamp.Stamp.{Stamp}
-use Rattle.lt_modes.specs.Serving.{queue_of, ask_at, next_service, serve_one, serve}
-use Rattle.lt_modes.specs.SetMove.{locked, tried, unlocked, changed, dropped, arrive, finish}
+use Rattle.lt_modes.specs.Serving.{queue_of, ask_at, next_service, serve_one, serve, is_gone}
+use Rattle.lt_modes.specs.SetMove.{locked, tried, unlocked, changed, dropped, withdrawn, arrive, finish}
 use Rattle.lt_modes.specs.declared.event.Event.TheVariants.{Try as TryLine}
 use Rattle.lt_modes.specs.Freezing.{can_grant, frozen_by}
 use Rattle.lt_modes.specs.declared.ask.Ask.{Ask}
 use Rattle.lt_modes.specs.declared.parts.Row.{Row}
 use Rattle.lt_spec.specs.NodeMove.{home, has_command, related, next_command, NodeState, node_waits, act_stamp, take_stamp}
-use Rattle.lt_spec.specs.Holdings.{Holding, holdings, waits_for, WaitsFor, holding, lines_of, IsLawful, times_held, HasOpenWait, HasWaiter, IsBarredByLines}
+use Rattle.lt_spec.specs.Holdings.{Holding, holdings, waits_for, waits_behind_void, WaitsFor, holding, lines_of, IsLawful, times_held, HasOpenWait, HasWaiter, IsBarredByLines}
 use Rattle.lt_spec.specs.Rings.{AreBelow, IsRing}
 use Rattle.lt_spec.specs.World.{World, is_waiting, Logged, is_enabled, move_stamp, after, world_after, IsRun, is_at_rest, anyone_waits}
 use Rattle.lt_spec.specs.Facts.{state_at, weight, token_count, place_count, IsFirstWaiter, IsLedToQueue, DeskIs}
@@ -40,6 +40,11 @@ pub record HoldsUp (script : ScriptData) (lines : List Event) (w : World) (waite
 abbrev pub WaitInRing : ScriptData → World → Type 0
 WaitInRing script w = (ring : List ℕ) × AreBelow (length script.clients) ring × IsRing (waits_for script w) ring
 
+-- a client of the script waits behind an ask that another one gave up
+abbrev pub WaitBehindVoid : ScriptData → World → Type 0
+WaitBehindVoid script w = (client other : ℕ) × (client < length script.clients) × (other < length script.clients)
+    × IsTrue (waits_behind_void script w client other)
+
 -- Which sets a move touches, and what stays the same of a set that it doesn't.
 
 -- the sets of a command: of a `drop` the whole family
@@ -50,6 +55,7 @@ sets_of_command script (Some (Try s mode)) = s ∷ []
 sets_of_command script (Some (Unlock s mode)) = s ∷ []
 sets_of_command script (Some (Change s gives_up mode)) = s ∷ []
 sets_of_command script (Some (DropAll other s)) = related script s
+sets_of_command script (Some (Withdraw other s)) = s ∷ []
 
 abbrev pub sets_of_front : List Letter → List ℕ
 sets_of_front [] = []
@@ -114,6 +120,7 @@ made_by_command script stamp client (Some (Unlock set mode)) n s = (unlocked s c
 made_by_command script stamp client (Some (Change set gives_up mode)) n s = (changed s stamp client gives_up mode (n.set s)).state
 made_by_command script stamp client (Some (DropAll other set)) n s =
     if node_waits script n other then n.set s else dropped other (n.set s)
+made_by_command script stamp client (Some (Withdraw other set)) n s = (withdrawn s client other (n.set s)).state
 
 abbrev pub made_by_front : ℕ → List Letter → NodeState → ℕ → SetState
 made_by_front q [] n s = n.set s
@@ -125,9 +132,9 @@ before_end script w q (Act client) s =
     made_by_command script (act_stamp q (w.node q)) client (next_command script (w.node q) client) (w.node q) s
 before_end script w q (Take p) s = made_by_front q (w.mail p q) (w.node q) s
 
--- the ask conflicts with none that stands before it
+-- the ask conflicts with none that stands before it, unless it was given up
 abbrev pub IsInTurn : Service → Type 0
-IsInTurn service = (k : ℕ) → k < service.place
+IsInTurn service = (k : ℕ) → k < service.place → is_gone service.state (ask_at service.state service.place).client ≡ false
     → IsFalse (conflicts (ask_at service.state service.place).mode (ask_at service.state k).mode)
 
 -- the move ends with these services, and each ask that is served conflicts with none that stands before it

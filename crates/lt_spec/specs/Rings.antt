@@ -3,7 +3,7 @@ use Rattle.std.specs.Prelude.{◌<◌, Bool, true, ◌==◌, ℕ, zero, suc, ◌
 use Rattle.std.specs.List.{list_any, range_with_len}
 use Rattle.lt_modes.specs.Script.{ScriptData}
 use Rattle.lt_spec.specs.World.{World}
-use Rattle.lt_spec.specs.Holdings.{waits_for}
+use Rattle.lt_spec.specs.Holdings.{waits_for, waits_behind_void}
 
 -- whether the first of two clients waits for the second
 abbrev pub Graph : Type 0
@@ -88,12 +88,13 @@ waits_for_some n graph c = list_any (graph c) (numbers_below n)
 -- The report of who waits for whom.
 
 -- a line of the report: the first client waits for the second; these clients wait in a ring; none do;
--- the walk of a client that waits ends at the second
+-- the walk of a client that waits ends at the second; the first client waits behind a void ask of the second
 pub data ReportLine : Type 0 where
   WaitsLine : ℕ → ℕ → ReportLine
   CycleLine : List ℕ → ReportLine
   NoCycleLine : ReportLine
   EndsLine : ℕ → ℕ → ReportLine
+  VoidLine : ℕ → ℕ → ReportLine
 
 -- each client with each client for which it waits
 abbrev pub waits_lines : ℕ → Graph → List ReportLine
@@ -112,6 +113,12 @@ last_lines n graph (c ∷ rest) = CycleLine (ring_of n graph (c ∷ rest)) ∷ [
 abbrev pub report : ℕ → Graph → List ReportLine
 report n graph = waits_lines n graph ++ last_lines n graph (ring_set n graph)
 
--- who waits for whom in the world
+-- each client with each client behind whose void ask it waits
+abbrev pub void_lines : ℕ → Graph → List ReportLine
+void_lines n behind = flat_map (λ c. map (VoidLine c) (filter (behind c) (numbers_below n))) (numbers_below n)
+
+-- who waits for whom in the world, and who waits behind void asks
 abbrev pub waits_report : ScriptData → World → List ReportLine
-waits_report script w = report (length script.clients) (waits_for script w)
+waits_report script w =
+    report (length script.clients) (waits_for script w)
+    ++ void_lines (length script.clients) (waits_behind_void script w)

@@ -3,9 +3,9 @@ use Rattle.std.specs.Prelude.{◌≡◌, ◌⊎◌, ◌-◌, Bool, ℕ, List, So
 use Rattle.std.specs.List.{list_all, range_with_len}
 use Rattle.std.specs.Char.{is_ascii_alphabetic, is_ascii_alphanumeric}
 use Rattle.lt_modes.specs.declared.command.Command.{Command}
-use Rattle.lt_modes.specs.declared.command.Command.TheVariants.{Lock, Try, Unlock, Change, DropAll}
+use Rattle.lt_modes.specs.declared.command.Command.TheVariants.{Lock, Try, Unlock, Change, DropAll, Withdraw}
 use Rattle.lt_modes.specs.declared.event.Event.{Event}
-use Rattle.lt_modes.specs.declared.event.Event.TheVariants.{Grant, Try as Tried, Unlock as Unlocked, NotHeld, Change as Changed, DropAll as Dropped, Busy, Try as TryLine, Unlock as UnlockLine, Change as ChangeLine, DropAll as DropLine}
+use Rattle.lt_modes.specs.declared.event.Event.TheVariants.{Grant, Try as Tried, Unlock as Unlocked, NotHeld, Change as Changed, DropAll as Dropped, Busy, Try as TryLine, Unlock as UnlockLine, Change as ChangeLine, DropAll as DropLine, Withdraw as WithdrawLine, Withdrawn, Withheld}
 use Rattle.lt_modes.specs.Script.{ScriptData, SetData, ClientData, set_name, client_name, family_at, home_at}
 use Rattle.lt_modes.specs.FiveModes.{is_of_version}
 use Rattle.lt_spec.specs.Holdings.{lines_of, Holding, after_line}
@@ -15,13 +15,16 @@ use Rattle.lt_spec.specs.declared.limits.TheConstants.{MAX_NAME, MAX_NODES, MAX_
 
 -- the line is one with which this command of the client is answered
 abbrev pub AnswersCommand : ℕ → Command → Event → Type 0
-AnswersCommand client (Lock s mode) line = line ≡ Grant client s mode
+AnswersCommand client (Lock s mode) line =
+    (line ≡ Grant client s mode) ⊎ ((line ≡ Withdrawn client s mode) ⊎ (line ≡ Withheld client s mode))
 AnswersCommand client (Try s mode) line = (got : Bool) × (line ≡ Tried client s mode got)
 AnswersCommand client (Unlock s mode) line = (line ≡ Unlocked client s mode) ⊎ (line ≡ NotHeld client s mode)
 AnswersCommand client (Change s gives_up mode) line =
-    (line ≡ Changed client s gives_up mode) ⊎ (line ≡ NotHeld client s gives_up)
+    (line ≡ Changed client s gives_up mode)
+    ⊎ ((line ≡ NotHeld client s gives_up) ⊎ ((line ≡ Withdrawn client s mode) ⊎ (line ≡ Withheld client s mode)))
 AnswersCommand client (DropAll other s) line =
     ((count : ℕ) × (line ≡ Dropped client other s count)) ⊎ (line ≡ Busy client other s)
+AnswersCommand client (Withdraw other s) line = (got : Bool) × (line ≡ WithdrawLine client other s got)
 
 -- the client's commands have one at place k, which the line answers
 abbrev pub AnswersAt : ℕ → List Command → ℕ → Event → Type 0
@@ -47,6 +50,7 @@ best_answer client (Try s mode) = TryLine client s mode true
 best_answer client (Unlock s mode) = UnlockLine client s mode
 best_answer client (Change s gives_up mode) = ChangeLine client s gives_up mode
 best_answer client (DropAll other s) = DropLine client other s 0
+best_answer client (Withdraw other s) = WithdrawLine client other s true
 
 -- what a client that may hold these locks may hold after the command
 abbrev pub may_hold_after : ScriptData → ℕ → List Holding → Command → List Holding
@@ -68,6 +72,7 @@ keeps_order client locks (Try s mode) = are_below s locks
 keeps_order client locks (Unlock s mode) = true
 keeps_order client locks (Change s gives_up mode) = false
 keeps_order client locks (DropAll other s) = other == client
+keeps_order client locks (Withdraw other s) = true
 
 -- there is no lock
 abbrev pub holds_none : List Holding → Bool
@@ -143,7 +148,8 @@ is_declared s name = is_some (set_number s name) || is_some (client_number s nam
 abbrev pub IsFamilyOfNext : List SetData → ℕ → Type 0
 IsFamilyOfNext sets family = (family ≡ length sets) ⊎ ((family < length sets) × (family_at sets family ≡ family))
 
--- the command's set is of the script, and so is the client whose locks it drops, which is on the node of the client that makes it
+-- the command's set is of the script, and so is the client whose locks it drops or whose ask it gives up, which is on the node of
+-- the client that makes it
 abbrev pub HasTargets : List SetData → List ClientData → ℕ → Command → Type 0
 HasTargets sets clients client (Lock set mode) = set < length sets
 HasTargets sets clients client (Try set mode) = set < length sets
@@ -151,14 +157,17 @@ HasTargets sets clients client (Unlock set mode) = set < length sets
 HasTargets sets clients client (Change set gives_up mode) = set < length sets
 HasTargets sets clients client (DropAll other set) =
     (set < length sets) × (other < length clients) × (home_at clients other ≡ home_at clients client)
+HasTargets sets clients client (Withdraw other set) =
+    (set < length sets) × (other < length clients) × (home_at clients other ≡ home_at clients client)
 
--- the modes that the command names are those of this version
-abbrev pub HasModesOf : ℕ → Command → Type 0
-HasModesOf version (Lock set mode) = IsTrue (is_of_version version mode)
-HasModesOf version (Try set mode) = IsTrue (is_of_version version mode)
-HasModesOf version (Unlock set mode) = IsTrue (is_of_version version mode)
-HasModesOf version (Change set gives_up mode) = IsTrue (is_of_version version gives_up) × IsTrue (is_of_version version mode)
-HasModesOf version (DropAll other set) = Unit {0}
+-- the command is one of this version: the modes that it names are, and `withdraw` came with version 3
+abbrev pub IsOfVersion : ℕ → Command → Type 0
+IsOfVersion version (Lock set mode) = IsTrue (is_of_version version mode)
+IsOfVersion version (Try set mode) = IsTrue (is_of_version version mode)
+IsOfVersion version (Unlock set mode) = IsTrue (is_of_version version mode)
+IsOfVersion version (Change set gives_up mode) = IsTrue (is_of_version version gives_up) × IsTrue (is_of_version version mode)
+IsOfVersion version (DropAll other set) = Unit {0}
+IsOfVersion version (Withdraw other set) = version ≡ 3
 
 -- a client of the script makes the command, and all that it names is of the script
 abbrev pub IsRequest : List SetData → List ClientData → ℕ × Command → Type 0
@@ -172,7 +181,7 @@ pub record IsShort (s : ScriptData) : Type 0 where
 -- the data is a script: it keeps the limits of its version, its names are names and all apart, so that each is found at its number,
 -- and its numbers are those of its nodes, sets and clients
 pub record IsScript (s : ScriptData) : Type 0 where
-  pub version : (s.version ≡ 1) ⊎ (s.version ≡ 2)
+  pub version : (s.version ≡ 1) ⊎ ((s.version ≡ 2) ⊎ (s.version ≡ 3))
   pub some_node : 0 < s.nodes
   pub few_nodes : s.nodes ≤ MAX_NODES
   pub nodes_of_version : s.nodes ≤ most_nodes s.version
@@ -190,4 +199,4 @@ pub record IsScript (s : ScriptData) : Type 0 where
   pub loads : (node : ℕ) → load_of s.clients node ≤ MAX_CLIENTS_OF_NODE
   pub few_commands : length s.commands ≤ MAX_COMMANDS_OF_SERVICE
   pub requests : All (IsRequest s.sets s.clients) s.commands
-  pub modes : All (λ (request : ℕ × Command). HasModesOf s.version request.1) s.commands
+  pub modes : All (λ (request : ℕ × Command). IsOfVersion s.version request.1) s.commands

@@ -8,9 +8,9 @@ use Rattle.lt_modes.specs.declared.moves.Step.{Step}
 use Rattle.lt_modes.specs.declared.moves.Step.TheVariants.{Act, Take}
 use Rattle.lt_modes.specs.Script.{ScriptData}
 use Rattle.lt_modes.specs.State.{Letter, Body, AskBody, TellBody, CopyBody, TokenBody, FreezeBody, first_state, Post}
-use Rattle.lt_modes.specs.declared.event.Event.TheVariants.{Grant, Wait, Try, Unlock, NotHeld, Change, DropAll, Busy, Copy, Freeze, Token}
+use Rattle.lt_modes.specs.declared.event.Event.TheVariants.{Grant, Wait, Try, Unlock, NotHeld, Change, DropAll, Busy, Withdraw, Withdrawn, Void, Withheld, Copy, Freeze, Token}
 use Rattle.lt_lists.specs.Below.{any_below, put, first_below}
-use Rattle.lt_spec.specs.NodeMove.{home, NodeState, NodeMade, no_move, has_command, node_waits, node_act, node_take, act_stamp, take_stamp}
+use Rattle.lt_spec.specs.NodeMove.{home, NodeState, NodeMade, no_move, has_command, node_waits, node_act, node_take, act_stamp, take_stamp, is_free_at}
 use Rattle.lt_spec.specs.declared.ending.Ending.{Ending}
 use Rattle.lt_spec.specs.declared.ending.Ending.TheVariants.{Done, Stuck, Cut}
 
@@ -40,14 +40,18 @@ start script = record {
 abbrev pub made_by : ScriptData → World → ℕ → ℕ
 made_by script w client = (w.node (home script client)).made client
 
--- an ask of the client is unanswered, in some set
+-- an ask of the client is unanswered, in some set, and wasn't given up
 abbrev pub is_waiting : ScriptData → World → ℕ → Bool
 is_waiting script w client = node_waits script (w.node (home script client)) client
 
--- the client doesn't wait and has a command left
+-- the client doesn't wait, or its next command gives up what it waits for
+abbrev pub is_free_to_act : ScriptData → World → ℕ → Bool
+is_free_to_act script w client = is_free_at script (w.node (home script client)) client
+
+-- so it is, and the client has a command left
 abbrev pub is_runnable : ScriptData → World → ℕ → Bool
 is_runnable script w client =
-    not (is_waiting script w client) && has_command script (w.node (home script client)) client
+    is_free_to_act script w client && has_command script (w.node (home script client)) client
 
 abbrev pub is_some_letter : List Letter → Bool
 is_some_letter [] = false
@@ -73,6 +77,10 @@ is_at_rest script w =
 -- some client waits
 abbrev pub anyone_waits : ScriptData → World → Bool
 anyone_waits script w = any_below (length script.clients) (is_waiting script w)
+
+-- no set at any node has the mark of an ask that was given up
+abbrev pub IsUnmarked : World → Type 0
+IsUnmarked w = (q s : ℕ) → ((w.node q).set s).gone ≡ []
 
 -- the stamp of the take of the front letter of this list
 abbrev pub front_stamp : ℕ → NodeState → List Letter → Stamp
@@ -209,6 +217,10 @@ line_client (NotHeld client s mode) = Some client
 line_client (Change client s gives_up mode) = Some client
 line_client (DropAll client other s count) = Some client
 line_client (Busy client other s) = Some client
+line_client (Withdraw client other s got) = Some client
+line_client (Withdrawn client s mode) = Some client
+line_client (Void client s mode) = Some client
+line_client (Withheld client s mode) = Some client
 line_client (Copy s to client mode) = None
 line_client (Freeze s to number modes) = None
 line_client (Token s to epoch) = None
@@ -235,6 +247,10 @@ is_reply_to client (NotHeld c s mode) = c == client
 is_reply_to client (Change c s gives_up mode) = c == client
 is_reply_to client (DropAll c other s count) = c == client
 is_reply_to client (Busy c other s) = c == client
+is_reply_to client (Withdraw c other s got) = c == client
+is_reply_to client (Withdrawn c s mode) = c == client
+is_reply_to client (Void c s mode) = false
+is_reply_to client (Withheld c s mode) = c == client
 is_reply_to client (Copy s to c mode) = false
 is_reply_to client (Freeze s to number modes) = false
 is_reply_to client (Token s to epoch) = false

@@ -4,7 +4,7 @@ use Rattle.std.proofs.lemmas.List.{take_more}
 use Rattle.std.proofs.lemmas.List.Sums.{length-filter, count_by-le-length, fold-append}
 use Rattle.std.proofs.lemmas.Bool.{cases_eq}
 use Rattle.lt_modes.specs.declared.event.Event.{Event}
-use Rattle.lt_modes.specs.declared.event.Event.TheVariants.{Grant, Try, Unlock, Change, DropAll, Wait, Token}
+use Rattle.lt_modes.specs.declared.event.Event.TheVariants.{Grant, Try, Unlock, Change, DropAll, Wait, Withdrawn, Token}
 use Rattle.lt_modes.specs.Script.{ScriptData}
 use Rattle.lt_modes.specs.declared.mode.Mode.{Mode}
 use Rattle.lt_modes.specs.declared.parts.Link.{Link}
@@ -98,6 +98,7 @@ abbrev pub waiting_after : List (Option Holding) → Event → List (Option Hold
 waiting_after waiting (Grant client s mode) = slice_set waiting client None
 waiting_after waiting (Wait client s mode) = slice_set waiting client (Some (holding client s mode))
 waiting_after waiting (Change client s gives_up mode) = slice_set waiting client None
+waiting_after waiting (Withdrawn client s mode) = slice_set waiting client None
 waiting_after waiting other = waiting
 
 abbrev pub owners_after : List Link → Event → List Link
@@ -115,6 +116,7 @@ waits_next : (waiting : List (Option Holding)) (client : ℕ) (event : Event) �
 waits_next waiting client (Grant c s mode) inside = written waiting c client None None inside
 waits_next waiting client (Wait c s mode) inside = written waiting c client (Some (holding c s mode)) None inside
 waits_next waiting client (Change c s gives_up mode) inside = written waiting c client None None inside
+waits_next waiting client (Withdrawn c s mode) inside = written waiting c client None None inside
 waits_next waiting client other inside = refl
 
 owner_next : (owners : List Link) (s : ℕ) (event : Event) → s < length owners → owner_at (owners_after owners event) s ≡ owner_after s (owner_at owners s) event
@@ -125,6 +127,7 @@ length-waiting : (waiting : List (Option Holding)) (event : Event) → length (w
 length-waiting waiting (Grant c s mode) = length-set waiting c None
 length-waiting waiting (Wait c s mode) = length-set waiting c (Some (holding c s mode))
 length-waiting waiting (Change c s gives_up mode) = length-set waiting c None
+length-waiting waiting (Withdrawn c s mode) = length-set waiting c None
 length-waiting waiting other = refl
 
 length-owners : (owners : List Link) (event : Event) → length (owners_after owners event) ≡ length owners

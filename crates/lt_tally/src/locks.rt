@@ -60,6 +60,10 @@ fn apply(held: &mut Vec<Holding>, script: &Script, event: Event) -> Result<(), A
         Event::Wait { .. }
         | Event::NotHeld { .. }
         | Event::Busy { .. }
+        | Event::Withdraw { .. }
+        | Event::Withdrawn { .. }
+        | Event::Void { .. }
+        | Event::Withheld { .. }
         | Event::Copy { .. }
         | Event::Freeze { .. }
         | Event::Token { .. } => {}

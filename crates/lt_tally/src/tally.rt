@@ -94,6 +94,7 @@ impl Tally {
             Event::Wait { client, set, mode } => {
                 self.wait(client, Some(Holding { client, set, mode }));
             }
+            Event::Withdrawn { client, .. } => self.wait(client, None),
             Event::Try {
                 client,
                 set,
@@ -117,6 +118,9 @@ impl Tally {
             Event::Token { set, to, epoch } => self.own(set, Link { node: to, epoch }),
             Event::NotHeld { .. }
             | Event::Busy { .. }
+            | Event::Withdraw { .. }
+            | Event::Void { .. }
+            | Event::Withheld { .. }
             | Event::Copy { .. }
             | Event::Freeze { .. } => {}
         }

@@ -15,6 +15,12 @@ const ONE_CLIENT: &str = "nodes 1\n\
 set s\n\
 client a at 0\n";
 
+const TWO_CLIENTS: &str = "version 3\n\
+nodes 1\n\
+set s\n\
+client a at 0\n\
+client b at 0\n";
+
 pub(crate) const LOCK: Command = Command::Lock {
     set: 0,
     mode: Mode::Write,
@@ -114,6 +120,37 @@ fn a_reply_is_told_though_its_move_is_forgotten(rt: HostRuntime) {
     poll(&rt, &mut session, Some(Reply::Granted));
     same(&rt, station.commands(), 3);
     same(&rt, station.script().commands(), 1);
+}
+
+// Submits that the client gives up what it waits for in the first set.
+fn withdraw<R: Abort>(rt: &R, session: &mut Session) {
+    holds(rt, session.left() > 0);
+    holds(rt, session.script().sets() > 0);
+    holds(rt, session.script().version() == 3);
+    same(rt, session.withdraw(0), Ok(()));
+}
+
+// The first client has the lock; the second one waits for it, and gives up. It is told of both of its commands, in order.
+#[test]
+fn a_wait_is_given_up(rt: HostRuntime) {
+    let script = script_of(&rt, rt.alloc(), TWO_CLIENTS);
+    let (mut stations, mut sessions) = live(&rt, rt.alloc(), &script);
+    holds(&rt, !stations.is_empty());
+    holds(&rt, sessions.len() > 1);
+    let mut station = stations.remove(0);
+    let mut second = sessions.remove(1);
+    let mut first = sessions.remove(0);
+    submit(&rt, &mut first, LOCK, Ok(()));
+    turn(&rt, &mut station, Turned::Moved);
+    poll(&rt, &mut first, Some(Reply::Granted));
+    submit(&rt, &mut second, LOCK, Ok(()));
+    turn(&rt, &mut station, Turned::Moved);
+    poll(&rt, &mut second, None);
+    withdraw(&rt, &mut second);
+    turn(&rt, &mut station, Turned::Moved);
+    poll(&rt, &mut second, Some(Reply::Withdrawn));
+    turn(&rt, &mut station, Turned::Quiet);
+    poll(&rt, &mut second, Some(Reply::True));
 }
 
 fn submit_first<R: Abort>(rt: &R, sessions: &mut Vec<Session>, command: Command)

@@ -1,10 +1,10 @@
 -- What a node sees in scripts that differ in the commands of clients of other nodes alone.
-use Rattle.std.proofs.Common.{◌≡◌, ℕ, List, Option, Some, None, Bool, true, false, length, refl, sym, ap, subst, ◌∙◌, ◌==◌, ◌&&◌, not, nat_lt, if◌then◌else◌, eqb-true, slice_get}
+use Rattle.std.proofs.Common.{◌≡◌, ℕ, List, Option, Some, None, Bool, true, false, length, refl, sym, ap, subst, ◌∙◌, ◌==◌, ◌&&◌, not, nat_lt, if◌then◌else◌, eqb-true, slice_get, ◌||◌}
 use Rattle.std.proofs.Math.Path.{fun_ext}
 use Rattle.lt_modes.specs.declared.command.Command.{Command}
-use Rattle.lt_modes.specs.declared.command.Command.TheVariants.{Lock, Try, Unlock, Change, DropAll}
+use Rattle.lt_modes.specs.declared.command.Command.TheVariants.{Lock, Try, Unlock, Change, DropAll, Withdraw}
 use Rattle.lt_modes.specs.Script.{ScriptData}
-use Rattle.lt_spec.specs.NodeMove.{home, NodeState, node_waits, commands_of, with_commands, SameAt}
+use Rattle.lt_spec.specs.NodeMove.{home, NodeState, node_waits, withdraws_itself, commands_of, with_commands, SameAt}
 use Rattle.lt_spec.specs.FixedOrder.{can_act}
 use Rattle.lt_desk.specs.LetterSeen.{letter_seen}
 use Rattle.lt_node.specs.Touched.{leaves_room_to_obey, leaves_room_to_act}
@@ -32,7 +32,9 @@ acts_same : (k : ℕ) (a b : ScriptData) → SameAt k a b → (n : NodeState) (c
 acts_same k a b h n client = by_home (home a client == k) refl
   where
     acts : Bool → List Command → Bool
-    acts here commands = nat_lt client (length a.clients) && (here && (not (node_waits a n client) && nat_lt (n.made client) (length commands)))
+    acts here commands =
+        nat_lt client (length a.clients)
+        && (here && ((not (node_waits a n client) || withdraws_itself n client (slice_get commands (n.made client))) && nat_lt (n.made client) (length commands)))
 
     by_home : (here : Bool) → (home a client == k) ≡ here → can_act (with_commands a b.commands) k n client ≡ can_act a k n client
     by_home true e = ap (λ (commands : List Command). acts (home a client == k) commands) (h.own client (eqb-true (home a client) k e))
@@ -44,21 +46,22 @@ first_same k a b h n =
     ap (λ (test : ℕ → Bool). least_below (length a.clients) test) (fun_ext (λ client. acts_same k a b h n client))
 
 -- a command touches the same sets, whatever the other commands are
-obeys_same : (a : ScriptData) (commands : List (ℕ × Command)) (n : NodeState) (o : Option Command)
-    → leaves_room_to_obey (with_commands a commands) n o ≡ leaves_room_to_obey a n o
-obeys_same a commands n None = refl
-obeys_same a commands n (Some (Lock s mode)) = refl
-obeys_same a commands n (Some (Try s mode)) = refl
-obeys_same a commands n (Some (Unlock s mode)) = refl
-obeys_same a commands n (Some (Change s gives_up mode)) = refl
-obeys_same a commands n (Some (DropAll other s)) = refl
+obeys_same : (a : ScriptData) (commands : List (ℕ × Command)) (n : NodeState) (client : ℕ) (o : Option Command)
+    → leaves_room_to_obey (with_commands a commands) n client o ≡ leaves_room_to_obey a n client o
+obeys_same a commands n client None = refl
+obeys_same a commands n client (Some (Lock s mode)) = refl
+obeys_same a commands n client (Some (Try s mode)) = refl
+obeys_same a commands n client (Some (Unlock s mode)) = refl
+obeys_same a commands n client (Some (Change s gives_up mode)) = refl
+obeys_same a commands n client (Some (DropAll other s)) = refl
+obeys_same a commands n client (Some (Withdraw other s)) = refl
 
 -- there is room for the same command of a client of the node
 room_same : (k : ℕ) (a b : ScriptData) → SameAt k a b → (n : NodeState) (client : ℕ) → home a client ≡ k
     → leaves_room_to_act (with_commands a b.commands) n client ≡ leaves_room_to_act a n client
 room_same k a b h n client at =
-    obeys_same a b.commands n (slice_get (commands_of (with_commands a b.commands) client) (n.made client))
-    ∙ ap (λ (commands : List Command). leaves_room_to_obey a n (slice_get commands (n.made client))) (h.own client at)
+    obeys_same a b.commands n client (slice_get (commands_of (with_commands a b.commands) client) (n.made client))
+    ∙ ap (λ (commands : List Command). leaves_room_to_obey a n client (slice_get commands (n.made client))) (h.own client at)
 
 -- so the node shows the same move
 pub choice_same : (k : ℕ) (a b : ScriptData) → SameAt k a b → (n : NodeState) (hand : Option Hand) → choice_by a k n hand ≡ choice_by b k n hand

@@ -1,5 +1,5 @@
 -- What an answer says of an input that was read: the report of its run, or why there is none.
-use Rattle.std.proofs.Common.{◌≡◌, ◌∙◌, ℕ, List, Option, ap, sym, subst}
+use Rattle.std.proofs.Common.{◌≡◌, ◌≢◌, ◌∙◌, ℕ, List, [], Option, ap, sym, subst}
 use Rattle.lt_io.specs.Streams.{SourceState}
 use Rattle.lt_call.specs.declared.outcome.Outcome.TheVariants as outcome
 use Rattle.lt_call.specs.Outcomes.{IsRefusal, SaysOfSource}
@@ -15,7 +15,7 @@ use Rattle.lt_checker.specs.Input.{IsEndedRun, FailsInput, WantsMemory}
 use Rattle.lt_waits.specs.declared.answer.Answer.{Answer}
 use Rattle.lt_waits.specs.Answers.{answer_of_input, outcome_of}
 use Rattle.lt_waits.specs.Serves.{Explains, waits_text, IsReportOf, IsWhyOf, IsUnfit}
-use Rattle.lt_waits.specs.Why.{NamesRing, why_text}
+use Rattle.lt_waits.specs.Why.{NamesRing, void_text, why_text}
 
 fails_says : (e : InputError) (before after : SourceState) → FailsInput e before after → SaysOfSource MAX_JOURNAL (outcome_of (answer_of_input e)) before after
 fails_says error.ReadFault before after fails = failed_reading MAX_JOURNAL before after fails.0 fails.1
@@ -69,8 +69,9 @@ reported left script world text ended explained told = record {
 
 -- and so is what is said of why clients wait
 pub said_why : (left : Option (List ℕ)) (script : ScriptData) (world : WorldData) (text : List ℕ) → IsEndedRun left script world
+    → (script.version ≢ 3 → void_text script world.run ≡ [])
     → (ring : Option (List ℕ)) × NamesRing script world.run ring × (text ≡ why_text script world.run ring) → IsWhyOf left text
-said_why left script world text ended said = record {
+said_why left script world text ended old said = record {
   script = script;
   run = world.run;
   denoted = ended.denoted;
@@ -79,4 +80,5 @@ said_why left script world text ended said = record {
   ring = said.0;
   names = said.1;
   told = said.2;
+  old = old;
 }

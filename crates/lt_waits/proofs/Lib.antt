@@ -7,6 +7,7 @@ mod Layers
 mod Least
 mod SoFar
 mod Naming
+mod Pairs
 mod RingEdges
 mod Rounding
 mod SameGraph

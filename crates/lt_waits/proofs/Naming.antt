@@ -13,7 +13,7 @@ use Rattle.lt_waits.specs.Edges.{ring_edges}
 use Rattle.lt_waits.specs.Serves.{GraphData, graph_of, Tells}
 use Rattle.lt_waits.specs.Reasons.{is_barred, want_of, by_lock, waits_by_lock, edges_text}
 use Rattle.lt_waits.specs.Shortest.{HasRing, IsRingOf, IsShortest, IsRingNamed}
-use Rattle.lt_waits.specs.Why.{NamesRing, items_of, behind_text, why_of, why_text}
+use Rattle.lt_waits.specs.Why.{NamesRing, items_of, behind_text, void_text, why_of, why_text}
 use Rattle.lt_waits.proofs.SameGraph.{Agree, agree_back, are_clients, first_below, has_ring_same, named_same, behind_same, idle_clients, idle_same}
 use Rattle.lt_lists.proofs.Members.{contains_first, contains_later}
 
@@ -97,7 +97,7 @@ pub record Said (script : ScriptData) (run : List Logged) (n : ℕ) (locks graph
   pub locks_are : Agree n locks (by_lock script (lines_of run) graph)
   pub some : IsTrue (is_some found) ↔ HasRing n graph
   pub named : IfSome found (λ ring. IsRingNamed n locks graph ring.items)
-  pub told : text ≡ why_of script (lines_of run) locks graph (items_of found)
+  pub told : text ≡ why_of script (lines_of run) locks graph (items_of found) ++ void_text script run
 
 some_items : (found : Option (Vec ℕ Global)) → is_some (items_of found) ≡ is_some found
 some_items None = refl
@@ -124,8 +124,9 @@ said_of script run locks graph found text said = (
     named = if_some (IsRingNamed n locks graph) (IsRingNamed n (waits_by_lock script run) waits)
         (λ ring named. named_same n locks (waits_by_lock script run) graph waits by_locks said.waits ring named) (items_of found) given;
   },
-  said.told ∙ why_same script (lines_of run) locks (waits_by_lock script run) graph waits (items_of found) by_locks said.waits
-      (if_some (IsRingNamed n locks graph) (AreBelow n) (λ ring named. named.ring_is.below) (items_of found) given),
+  said.told ∙ ap (λ (t : List ℕ). t ++ void_text script run)
+      (why_same script (lines_of run) locks (waits_by_lock script run) graph waits (items_of found) by_locks said.waits
+      (if_some (IsRingNamed n locks graph) (AreBelow n) (λ ring named. named.ring_is.below) (items_of found) given)),
 )
   where
     n : ℕ

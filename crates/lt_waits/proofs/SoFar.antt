@@ -46,7 +46,7 @@ piece_more script now before old done piece all wrote so_far whole =
     ∙ append_assoc old (waits_text script done) (waits_text script piece)
     ∙ ap (λ (t : List ℕ). old ++ t) (sym (report_append script done piece) ∙ sym (ap (waits_text script) whole))
 
-if_mapped : {Y : Type 0} (t : Bool) (f : ℕ → Y) (x : ℕ) → map f (if t then x ∷ [] else []) ≡ (if t then f x ∷ [] else [])
+pub if_mapped : {Y : Type 0} (t : Bool) (f : ℕ → Y) (x : ℕ) → map f (if t then x ∷ [] else []) ≡ (if t then f x ∷ [] else [])
 if_mapped true f x = refl
 if_mapped false f x = refl
 

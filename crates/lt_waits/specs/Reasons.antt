@@ -65,3 +65,26 @@ edge_line script lines e =
 -- the lines of such clients
 abbrev pub edges_text : ScriptData → List Event → List Edge → List ℕ
 edges_text script lines edges = text (map (edge_line script lines) edges)
+
+-- what a client that waits behind a void ask wants
+abbrev pub want_text : ScriptData → Option Holding → List ℕ
+want_text script None = codes " waits"
+want_text script (Some want) =
+    codes " wants " ++ (set_name script want.set ++ (codes " " ++ word_of want.mode)) ++ codes ","
+
+-- whose void ask is before it: that of the one of this name
+abbrev pub gave_up_text : List ℕ → List ℕ
+gave_up_text name = codes " behind an ask that " ++ (name ++ codes " gave up")
+
+-- the words behind the name of a client that waits behind a void ask of another one
+abbrev pub behind_void_text : ScriptData → List Event → Edge → List ℕ
+behind_void_text script lines e =
+    want_text script (want_of script lines e.client) ++ gave_up_text (client_name script e.other)
+
+-- the line of such a client
+abbrev pub void_line_text : ScriptData → List Event → Edge → List ℕ
+void_line_text script lines e = client_name script e.client ++ behind_void_text script lines e
+
+-- the lines of such clients
+abbrev pub voids_text : ScriptData → List Event → List Edge → List ℕ
+voids_text script lines edges = text (map (void_line_text script lines) edges)

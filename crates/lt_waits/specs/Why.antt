@@ -4,13 +4,13 @@ use Rattle.std.specs.Global.{Global}
 use Rattle.lt_modes.specs.declared.event.Event.{Event}
 use Rattle.lt_modes.specs.Script.{ScriptData}
 use Rattle.lt_spec.specs.Promised.{WaitInRing}
-use Rattle.lt_spec.specs.Holdings.{lines_of, waits_for}
+use Rattle.lt_spec.specs.Holdings.{lines_of, waits_for, waits_behind_void}
 use Rattle.lt_spec.specs.World.{Logged, world_after}
 use Rattle.lt_spec.specs.Rings.{Graph}
 use Rattle.lt_waits.specs.declared.edge.Edge.{Edge}
 use Rattle.lt_waits.specs.Behind.{behind, idle}
-use Rattle.lt_waits.specs.Edges.{ring_edges}
-use Rattle.lt_waits.specs.Reasons.{waits_by_lock, edges_text}
+use Rattle.lt_waits.specs.Edges.{ring_edges, pairs_of}
+use Rattle.lt_waits.specs.Reasons.{waits_by_lock, edges_text, voids_text}
 use Rattle.lt_waits.specs.Shortest.{IsRingNamed}
 
 -- at the end of the run a ring is named exactly if clients wait in one
@@ -38,7 +38,14 @@ why_of script lines locks graph (Some ring) =
     codes "ring\n" ++ edges_text script lines (ring_edges ring)
     ++ behind_text script lines (behind (length script.clients) locks graph ring)
 
--- what is said of the end of the run, where this ring is named
+-- the lines of those who wait behind void asks
+abbrev pub void_text : ScriptData → List Logged → List ℕ
+void_text script run =
+    voids_text script (lines_of run)
+    (pairs_of (length script.clients) (waits_behind_void script (world_after script run)))
+
+-- what is said of the end of the run, where this ring is named, and who waits behind void asks
 abbrev pub why_text : ScriptData → List Logged → Option (List ℕ) → List ℕ
 why_text script run found =
     why_of script (lines_of run) (waits_by_lock script run) (waits_for script (world_after script run)) found
+    ++ void_text script run

@@ -20,6 +20,7 @@ mod saying;
 mod serving;
 mod shortest;
 mod tallied;
+mod voids;
 mod waits;
 
 pub use answer::Answer;

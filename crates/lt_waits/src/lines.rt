@@ -140,8 +140,8 @@ fn push_ends_line(
     push_pair(out, script, "ends", client, walk_end(graph, client))
 }
 
-// Writes a line of a word and the names of two clients.
-fn push_pair(
+/// Writes a line of a word and the names of two clients.
+pub(crate) fn push_pair(
     out: &mut Vec<u8>,
     script: &Script,
     first: &str,

@@ -7,6 +7,7 @@ use crate::saying::why;
 use lt_call::Work;
 use lt_checker::check_input;
 use lt_io::Source;
+use lt_law_own_lines::law_old_lines;
 use std::alloc::Global;
 
 /// To say why clients wait at the end of the run whose script and journal are read.
@@ -28,6 +29,7 @@ impl Work for Reasons {
             Ok(ended) => ended,
             Err(error) => return Err(Answer::from(error)),
         };
+        law_old_lines();
         let told = why(alloc, &ended.script, &ended.world);
         drop(ended);
         match told {

@@ -7,16 +7,18 @@ ghost use Rattle.lt_waits.specs.Why.{NamesRing, behind_text, items_of, why_of, w
 use crate::asking::wait_graph;
 use crate::behind::{behind, idle};
 use crate::edge::{Edge, ring_edges};
-use crate::edge_lines::push_edges;
+use crate::edge_lines::{push_edges, push_void_edges};
 use crate::graph::WaitGraph;
 use crate::locking::lock_graph;
 use crate::tallied::Tallied;
+use crate::voids::void_pairs;
 use lt_script::Script;
 use lt_world::World;
 use std::alloc::{AllocError, Global};
 
 /// Why clients wait in a world of the script, in words: a ring, if some clients wait in one, and who waits behind it.
-/// A ring by locks alone comes before any other one, and of these a shortest one is named.
+/// A ring by locks alone comes before any other one, and of these a shortest one is named. At the end comes who waits behind
+/// void asks.
 pub fn why(alloc: Global, script: &Script, world: &World) -> Result<Vec<u8>, AllocError>
     requires { world.now.script ≡ script.now }
     ensures { IfOk result (λ text. (ring : Option (List ℕ)) × NamesRing script.now world.now.run ring
@@ -26,7 +28,10 @@ pub fn why(alloc: Global, script: &Script, world: &World) -> Result<Vec<u8>, All
     let tallied = Tallied::new(alloc, script, world.run())?;
     let locks = lock_graph(alloc, &tallied, &graph)?;
     let found = named_ring(alloc, &locks, &graph)?;
-    text_of(alloc, &tallied, &locks, &graph, found)
+    let voids = void_pairs(alloc, script, world)?;
+    let mut text = text_of(alloc, &tallied, &locks, &graph, found)?;
+    push_void_edges(&mut text, &tallied, &voids)?;
+    Ok(text)
 }
 
 // The shortest ring by locks alone, or else the shortest of all.

@@ -7,7 +7,8 @@ use crate::reporting::report;
 use lt_call::Work;
 use lt_checker::check_input;
 use lt_io::Source;
-use lt_law_waiting::{law_reports, law_waiting};
+use lt_law_own_lines::law_old_lines;
+use lt_law_waiting::{law_reports, law_void_waits, law_waiting};
 use std::alloc::Global;
 
 /// To report who waits for whom at the end of the run whose script and journal are read.
@@ -30,6 +31,8 @@ impl Work for Waits {
             Err(error) => return Err(Answer::from(error)),
         };
         law_waiting();
+        law_void_waits();
+        law_old_lines();
         law_reports();
         let told = report(alloc, &ended.script, &ended.world);
         drop(ended);

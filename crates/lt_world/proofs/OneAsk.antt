@@ -1,5 +1,5 @@
--- A client has one unanswered ask at most, so that the first one that is found tells for whom it waits; and who has none for a
--- set stands before nobody there.
+-- A client has one unanswered ask at most that it didn't give up, so that the first one that is found tells for whom it waits;
+-- and who has none for a set stands before nobody there.
 use Rattle.std.proofs.Common.{◌≡◌, ℕ, zero, suc, ◌<◌, ◌≤◌, ◌∙◌, inl, inr, List, [], ◌∷◌, length, Option, Some, None, Bool, true, false, refl, sym, ap, ap₂, subst, arith, ◌==◌, ◌&&◌, ◌||◌, not, if◌then◌else◌, find, count_by, is_some, option_map, IfSome, Contains, eq-eqb, eqb-true}
 use Rattle.std.specs.Option.{option_or}
 use Rattle.std.specs.List.{list_any}
@@ -10,19 +10,19 @@ use Rattle.lt_modes.specs.declared.ask.Ask.{Ask}
 use Rattle.lt_modes.specs.Fits.{has_client, parked_asks}
 use Rattle.lt_modes.specs.Modes.{excludes_itself}
 use Rattle.lt_modes.specs.Script.{ScriptData}
-use Rattle.lt_modes.specs.Serving.{queue_of, is_newer}
+use Rattle.lt_modes.specs.Serving.{queue_of, is_newer, is_gone}
 use Rattle.lt_modes.specs.Waiting.{pending_ask, is_before, stands_before, has_older, parked_behind}
 use Rattle.lt_lists.specs.Below.{any_below, sum_below}
 use Rattle.lt_lists.proofs.Members.{contains_first, contains_later, list_any-at, list_any-which}
 use Rattle.lt_lists.proofs.Sums.{sum_below-at}
 use Rattle.lt_spec.specs.Facts.{state_at, places_in_state}
-use Rattle.lt_spec.specs.Holdings.{kept_if, waits_for, waits_behind}
+use Rattle.lt_spec.specs.Holdings.{kept_if, behind_void_if, live_ask, waits_for, waits_behind, waits_behind_void}
 use Rattle.lt_spec.specs.NodeMove.{NodeState, home}
 use Rattle.lt_spec.specs.Script.{IsScript}
 use Rattle.lt_spec.specs.World.{Logged, World, world_after, IsRun}
 use Rattle.lt_law_accounts.proofs.Asks.{times_in-some}
 use Rattle.lt_model.specs.Homes.{Homes, IsAskAtHome, IsAskOf}
-use Rattle.lt_model.specs.Invariant.{WorldInvariant}
+use Rattle.lt_model.specs.Invariant.{WorldInvariant, is_live}
 use Rattle.lt_model.proofs.HomesMove.{homes_in_runs}
 use Rattle.lt_model.proofs.PathsMove.{kept_stands}
 use Rattle.lt_model.proofs.Runs.{stands_once}
@@ -30,7 +30,7 @@ use Rattle.lt_law_invariant.proofs.FewAsks.{whole}
 use Rattle.lt_law_invariant.proofs.SoundStates.{kept_in_runs}
 use Rattle.lt_node.specs.NodeData.{ask_below, first_ask}
 use Rattle.lt_world.specs.Fields.{WorldData, world_of}
-use Rattle.lt_world.specs.Waits.{stands_in_way, waits_by}
+use Rattle.lt_world.specs.Waits.{stands_in_way, void_in_way, waits_by}
 use Rattle.lt_world.proofs.Runs.{whole_run}
 
 -- What a search finds.
@@ -74,41 +74,49 @@ on_found test (Some found) = test found.0 (Some found.1)
 
 module _ (n : NodeState) (client : ℕ) where
   abbrev asks : ℕ → ℕ
-  asks s = count_by (λ (ask : Ask). ask.client == client) (n.set s).pending
+  asks s = count_by (is_live (n.set s) client) (n.set s).pending
+
+  live_counts : (s : ℕ) (ask : Ask) → live_ask (n.set s) client ≡ Some ask → 1 ≤ asks s
+  live_counts s ask e = by_gone (is_gone (n.set s) client) e
+    where
+      by_gone : (gone : Bool) → (if gone then None else pending_ask (n.set s) client) ≡ Some ask
+          → 1 ≤ count_by (λ (a : Ask). not gone && a.client == client) (n.set s).pending
+      by_gone true e = cc
+      by_gone false e = found_counts (λ (a : Ask). a.client == client) (n.set s).pending ask e
 
   abbrev with_set : ℕ → Option Ask → Option (ℕ × Ask)
   with_set s o = option_map (λ (ask : Ask). (s, ask)) o
 
   none_below : (sets : ℕ) → sum_below sets asks ≡ 0 → ask_below n client sets ≡ None
   none_below zero e = refl
-  none_below (suc s) e = by_ask (pending_ask (n.set s) client) refl (none_below s (omega (arith, e)))
+  none_below (suc s) e = by_ask (live_ask (n.set s) client) refl (none_below s (omega (arith, e)))
     where
-      by_ask : (o : Option Ask) → pending_ask (n.set s) client ≡ o → ask_below n client s ≡ None → ask_below n client (suc s) ≡ None
+      by_ask : (o : Option Ask) → live_ask (n.set s) client ≡ o → ask_below n client s ≡ None → ask_below n client (suc s) ≡ None
       by_ask None is nothing = ap₂ option_or nothing (ap (with_set s) is)
-      by_ask (Some ask) is nothing = absurd (omega (arith, e, found_counts (λ (a : Ask). a.client == client) (n.set s).pending ask is))
+      by_ask (Some ask) is nothing = absurd (omega (arith, e, live_counts s ask is))
 
   -- what passes with some ask of the client passes with that which is found
   one_found : (test : ℕ → Option Ask → Bool) → ((s : ℕ) → test s None ≡ false) → (sets : ℕ) → sum_below sets asks ≤ 1
-      → any_below sets (λ s. test s (pending_ask (n.set s) client)) ≡ on_found test (ask_below n client sets)
+      → any_below sets (λ s. test s (live_ask (n.set s) client)) ≡ on_found test (ask_below n client sets)
   one_found test never zero few = refl
-  one_found test never (suc s) few = by_ask (pending_ask (n.set s) client) refl (one_found test never s (omega (arith, few)))
+  one_found test never (suc s) few = by_ask (live_ask (n.set s) client) refl (one_found test never s (omega (arith, few)))
     where
-      by_ask : (o : Option Ask) → pending_ask (n.set s) client ≡ o
-          → any_below s (λ k. test k (pending_ask (n.set k) client)) ≡ on_found test (ask_below n client s)
-          → any_below (suc s) (λ k. test k (pending_ask (n.set k) client)) ≡ on_found test (ask_below n client (suc s))
+      by_ask : (o : Option Ask) → live_ask (n.set s) client ≡ o
+          → any_below s (λ k. test k (live_ask (n.set k) client)) ≡ on_found test (ask_below n client s)
+          → any_below (suc s) (λ k. test k (live_ask (n.set k) client)) ≡ on_found test (ask_below n client (suc s))
       by_ask None is before =
           ap₂ ◌||◌ before (ap (test s) is ∙ never s)
           ∙ or_false (on_found test (ask_below n client s))
           ∙ sym (ap (on_found test) (ap (λ (o : Option Ask). option_or (ask_below n client s) (with_set s o)) is ∙ or_none (ask_below n client s)))
       by_ask (Some ask) is before =
-          let nothing : ask_below n client s ≡ None = none_below s (omega (arith, few, found_counts (λ (a : Ask). a.client == client) (n.set s).pending ask is)) in
+          let nothing : ask_below n client s ≡ None = none_below s (omega (arith, few, live_counts s ask is)) in
           ap₂ ◌||◌ (before ∙ ap (on_found test) nothing) (ap (test s) is)
           ∙ sym (ap (on_found test) (ap₂ option_or nothing (ap (with_set s) is)))
 
   -- the set of an ask that is found is one of these
   found_inside : (sets : ℕ) (found : ℕ × Ask) → ask_below n client sets ≡ Some found → found.0 < sets
   found_inside zero found e = cc
-  found_inside (suc s) found e = by_first (ask_below n client s) refl (pending_ask (n.set s) client) e (λ first. found_inside s found first)
+  found_inside (suc s) found e = by_first (ask_below n client s) refl (live_ask (n.set s) client) e (λ first. found_inside s found first)
     where
       by_first : (o : Option (ℕ × Ask)) → ask_below n client s ≡ o → (p : Option Ask) → option_or o (with_set s p) ≡ Some found
           → (ask_below n client s ≡ Some found → found.0 < s) → found.0 < suc s
@@ -151,6 +159,25 @@ waits_by_ask w good is_run client other known =
     kept = kept_now w.script w.run good is_run
 
     same : (found : Option (ℕ × Ask)) → on_found (λ s. kept_if w.script (world_of w) s other) found ≡ stands_in_way w other found
+    same None = refl
+    same (Some found) = refl
+
+-- and behind whose void asks
+pub voids_by_ask : (w : WorldData) → IsScript w.script → IsRun w.script w.run → (client other : ℕ) → client < length w.script.clients
+    → waits_behind_void w.script (world_of w) client other
+    ≡ void_in_way w other (first_ask w.script ((world_of w).node (home w.script client)) client)
+voids_by_ask w good is_run client other known =
+    one_found n client (λ s. behind_void_if w.script (world_of w) s other) (λ s. refl) (length w.script.sets)
+    ((kept.clients (home w.script client) (good.homes client known)).one_ask client)
+    ∙ same (first_ask w.script n client)
+  where
+    n : NodeState
+    n = (world_of w).node (home w.script client)
+
+    kept : WorldInvariant w.script (world_of w)
+    kept = kept_now w.script w.run good is_run
+
+    same : (found : Option (ℕ × Ask)) → on_found (λ s. behind_void_if w.script (world_of w) s other) found ≡ void_in_way w other found
     same None = refl
     same (Some found) = refl
 

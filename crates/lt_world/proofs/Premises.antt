@@ -10,7 +10,7 @@ use Rattle.lt_modes.specs.declared.stamp.Stamp.{Stamp}
 use Rattle.lt_lists.specs.Below.{put}
 use Rattle.lt_lists.proofs.Puts.{put-same, put-other}
 use Rattle.lt_spec.specs.Script.{IsScript}
-use Rattle.lt_spec.specs.NodeMove.{leaves_asks, home, NodeState, node_waits, has_command, NodeMade, node_act, act_stamp}
+use Rattle.lt_spec.specs.NodeMove.{leaves_asks, home, NodeState, is_free_at, has_command, NodeMade, node_act, act_stamp}
 use Rattle.lt_spec.specs.World.{Logged, World, world_after, is_enabled, is_runnable, IsRun, put_mail, after_made, letter_for, node_move, move_stamp, has_mail, is_some_letter}
 use Rattle.lt_spec.specs.FixedOrder.{take_turn, senders, takes}
 use Rattle.lt_law_enabled.specs.OrderLaws.{HasLetter}
@@ -65,11 +65,11 @@ can_act script run q client n good is_run enabled few is =
     record {
       client_is = carried (λ s x state. client < length s.clients) is act.client_is;
       at_home = carried (λ s x state. home s client ≡ x) is act.at_home;
-      runnable = carried (λ s x state. IsTrue (not (node_waits s state client) && has_command s state client)) is
-          (subst (λ (x : ℕ). IsTrue (not (node_waits script (w.node x) client) && has_command script (w.node x) client)) act.at_home act.runs);
+      runnable = carried (λ s x state. IsTrue (is_free_at s state client && has_command s state client)) is
+          (subst (λ (x : ℕ). IsTrue (is_free_at script (w.node x) client && has_command script (w.node x) client)) act.at_home act.runs);
       within = carried (λ s x state. IsTrue (leaves_room_to_act s state client)) is
           (room_to_act script (w.node q) client good (nodes_within script run good is_run q below)
-          (subst (λ (x : ℕ). IsTrue (leaves_asks script (w.node x))) act.at_home (asks_placed script run good is_run client act.client_is act.runs))
+          (subst (λ (x : ℕ). IsTrue (leaves_asks script (w.node x) client)) act.at_home (asks_placed script run good is_run client act.client_is act.runs))
           (drops_within script run good is_run q below));
       clock = carried (λ s x state. state.clock + 1 < 2 ^ 62) is (omega (arith, few, clock_below script run q is_run));
     }

@@ -1,11 +1,15 @@
 -- How many moves each node has made, and all nodes together.
-use Rattle.std.proofs.Common.{◌≡◌, ◌≢◌, Bool, true, false, ℕ, zero, suc, ◌+◌, ◌*◌, ◌<◌, ◌≤◌, ◌^◌, List, [], ◌∷◌, ◌++◌, length, inl, inr, refl, sym, ap, subst, ◌∙◌, arith, length-set, get_or-set_same, get_or-set_other, ◌-◌, Option, Some, None, ap₂, ◌==◌, if◌then◌else◌, slice_set, slice_index_or, count_by, IsTrue, ◌&&◌, not, nat_lt, slice_get, option_map, unwrap_or, eq-eqb, ne_eqb}
+use Rattle.std.proofs.Common.{◌≡◌, ◌≢◌, Bool, true, false, ℕ, zero, suc, ◌+◌, ◌*◌, ◌<◌, ◌≤◌, ◌^◌, List, [], ◌∷◌, ◌++◌, length, inl, inr, refl, sym, ap, subst, ◌∙◌, arith, length-set, get_or-set_same, get_or-set_other, ◌-◌, Option, Some, None, ap₂, ◌==◌, if◌then◌else◌, slice_set, slice_index_or, count_by, IsTrue, ◌&&◌, not, nat_lt, slice_get, option_map, unwrap_or, eq-eqb, ne_eqb, ◌||◌, Contains}
 use Rattle.std.proofs.lemmas.Bool.{cases_eq, and_from, or_left, or_right, false≢true, and_parts}
 use Rattle.std.proofs.lemmas.List.{length_push}
+use Rattle.std.proofs.lemmas.List.Elements.{Contains-get_or}
+use Rattle.std.proofs.lemmas.Option.{get_or_from_slice_get, slice_get_within}
 use Rattle.std.proofs.lemmas.List.Sums.{sum_by-append}
 use Rattle.lt_modes.specs.declared.moves.Step.{Step}
 use Rattle.lt_modes.specs.declared.moves.Step.TheVariants.{Act, Take}
 use Rattle.lt_modes.specs.Script.{ScriptData}
+use Rattle.lt_modes.specs.declared.command.Command.{Command}
+use Rattle.lt_modes.specs.declared.command.Command.TheVariants.{Lock, Try, Unlock, Change, DropAll, Withdraw}
 use Rattle.lt_modes.specs.declared.stamp.Stamp.{Stamp}
 use Rattle.lt_modes.specs.State.{Letter}
 use Rattle.lt_modes.specs.Fits.{numbers_of}
@@ -14,16 +18,17 @@ use Rattle.lt_lists.specs.Below.{any_below, sum_below, put}
 use Rattle.lt_lists.proofs.Sums.{sum_below-change, sum_below-none}
 use Rattle.lt_lists.proofs.Searches.{any_below_at}
 use Rattle.lt_lists.proofs.Puts.{put-same, put-other}
-use Rattle.lt_spec.specs.Script.{IsScript}
+use Rattle.lt_spec.specs.Script.{IsScript, HasTargets}
 use Rattle.lt_spec.specs.World.{Logged, World, world_after, is_enabled, is_of_node, IsRun, moves_of, can_move, is_full, after, node_move, take_front, logged}
 use Rattle.lt_spec.specs.declared.moves.TheConstants.{MAX_MOVES}
-use Rattle.lt_spec.specs.NodeMove.{home, commands_of, NodeState, node_waits, has_command, act_stamp, take_stamp}
+use Rattle.lt_spec.specs.NodeMove.{home, commands_of, NodeState, node_waits, has_command, next_command, withdraws_itself, is_free_at, act_stamp, take_stamp}
 use Rattle.lt_law_enabled.proofs.Order.{takes_where}
 use Rattle.lt_model.specs.Invariant.{WorldInvariant}
 use Rattle.lt_law_invariant.proofs.SoundStates.{kept_in_runs}
 use Rattle.lt_law_invariant.proofs.FewAsks.{whole}
 use Rattle.lt_law_own_lines.specs.WaitingLaws.{AreOfOthers, EachAsksKnown, SameClient}
 use Rattle.lt_law_own_lines.proofs.WaitingMoves.{waiting_in_acts, waiting_in_node_takes, known_where_sound}
+use Rattle.lt_node.proofs.AdvanceLemmas.{targets_of}
 use Rattle.lt_world.specs.Fields.{AreCounted, AreAtMost, AreTurns, turn_of, run_with, lines_of_last_move, OthersStand}
 use Rattle.lt_world.proofs.Premises.{act_parts, act_inside, front_fits}
 use Rattle.lt_world.proofs.Runs.{longer_world, whole_run}
@@ -129,11 +134,38 @@ room_left script limit moves run good h none q step e =
 
 -- the turn of a client at its node
 abbrev turn_at : ScriptData → NodeState → ℕ → Option ℕ
-turn_at script n client = if not (node_waits script n client) && has_command script n client then Some (n.made client) else None
+turn_at script n client = if is_free_at script n client && has_command script n client then Some (n.made client) else None
 
-same_turn : (script : ScriptData) (n later : NodeState) (client : ℕ) → SameClient script n later client → turn_at script later client ≡ turn_at script n client
-same_turn script n later client h =
-    ap₂ (λ (waiting : Bool) (made : ℕ). if not waiting && nat_lt made (length (commands_of script client)) then Some made else None) h.in_some h.made
+-- its next command gives up what it waits for, as before
+same_withdraw : (script : ScriptData) (n later : NodeState) (client : ℕ) → IsScript script → SameClient script n later client
+    → withdraws_itself later client (next_command script later client) ≡ withdraws_itself n client (next_command script n client)
+same_withdraw script n later client good h =
+    ap (λ (k : ℕ). withdraws_itself later client (slice_get commands k)) h.made ∙ by_next (next_command script n client) refl
+  where
+    commands : List Command
+    commands = commands_of script client
+
+    named : (command : Command) → next_command script n client ≡ Some command → HasTargets script.sets script.clients client command
+    named command e =
+        targets_of script client command good
+        (subst (Contains commands) (get_or_from_slice_get commands (n.made client) command command e)
+        (Contains-get_or commands (n.made client) command (slice_get_within commands (n.made client) command e)))
+
+    by_next : (o : Option Command) → next_command script n client ≡ o → withdraws_itself later client o ≡ withdraws_itself n client o
+    by_next None e = refl
+    by_next (Some (Lock s mode)) e = refl
+    by_next (Some (Try s mode)) e = refl
+    by_next (Some (Unlock s mode)) e = refl
+    by_next (Some (Change s gives_up mode)) e = refl
+    by_next (Some (DropAll other s)) e = refl
+    by_next (Some (Withdraw other s)) e = ap (λ (b : Bool). other == client && b) (h.in_each s (named (Withdraw other s) e).0)
+
+same_turn : (script : ScriptData) (n later : NodeState) (client : ℕ) → IsScript script → SameClient script n later client
+    → turn_at script later client ≡ turn_at script n client
+same_turn script n later client good h =
+    ap (λ (made : ℕ). if is_free_at script later client && nat_lt made (length (commands_of script client)) then Some made else None) h.made
+    ∙ ap (λ (free : Bool). if free && has_command script n client then Some (n.made client) else None)
+    (ap₂ (λ (waiting withdraws : Bool). not waiting || withdraws) h.in_some (same_withdraw script n later client good h))
 
 -- after a run the asks of a node are known before each later move of it
 known_after : (script : ScriptData) (run : List Logged) (q : ℕ) (stamp : Stamp) → IsScript script → IsRun script run → q < script.nodes → stamp.node ≡ q
@@ -172,13 +204,13 @@ node_after script w q (Act client) = refl
 node_after script w q (Take p) = refl
 
 -- and so its turn
-turn_kept : (script : ScriptData) (w : World) (q c : ℕ) (step : Step) → SameClient script (w.node q) (node_move script w q step).node c
+turn_kept : (script : ScriptData) (w : World) (q c : ℕ) (step : Step) → IsScript script → SameClient script (w.node q) (node_move script w q step).node c
     → turn_of script (after script w q step) c ≡ turn_of script w c
-turn_kept script w q c step same =
+turn_kept script w q c step good same =
     ap (λ (node : ℕ → NodeState). turn_at script (node (home script c)) c) (node_after script w q step)
     ∙ elim (cases_eq (home script c) q) [
       | inl here ↦ subst (λ (h : ℕ). turn_at script (put w.node q moved h) c ≡ turn_at script (w.node h) c) (sym here)
-          (ap (λ (n : NodeState). turn_at script n c) (put-same w.node q moved) ∙ same_turn script (w.node q) moved c same)
+          (ap (λ (n : NodeState). turn_at script n c) (put-same w.node q moved) ∙ same_turn script (w.node q) moved c good same)
       | inr there ↦ ap (λ (n : NodeState). turn_at script n c) (put-other w.node q moved (home script c) there)
     ]
   where
@@ -211,5 +243,5 @@ others_stand script run run' q step turns good is_run enabled few h longer =
         let lines : AreOfOthers c (node_move script w q step).events =
         subst (AreOfOthers c) (lines_of_last run (logged script w q step)) (λ k d within. none k d (omega arith) within) in
         h.turns_are c below
-        ∙ (sym (turn_kept script w q c step (same_client script run q c step good is_run enabled few other lines))
+        ∙ (sym (turn_kept script w q c step good (same_client script run q c step good is_run enabled few other lines))
         ∙ ap (λ (v : World). turn_of script v c) (sym (longer_world script run q step)))

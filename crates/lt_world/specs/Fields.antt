@@ -1,5 +1,5 @@
 -- What the fields of a world hold, for the moves that were made.
-use Rattle.std.specs.Prelude.{◌≡◌, ◌<◌, ◌≤◌, ◌+◌, ◌^◌, ℕ, List, [], Option, Some, None, length, slice_index_or, slice_set, if◌then◌else◌, IsTrue, Bool, false, ◌==◌, ◌&&◌, nat_lt, ◌∷◌, ◌++◌, ◌≢◌, ◌-◌, unwrap_or, not}
+use Rattle.std.specs.Prelude.{◌≡◌, ◌<◌, ◌≤◌, ◌+◌, ◌^◌, ℕ, List, [], Option, Some, None, length, slice_index_or, slice_set, if◌then◌else◌, IsTrue, Bool, false, ◌==◌, ◌&&◌, nat_lt, ◌∷◌, ◌++◌, ◌≢◌, ◌-◌, unwrap_or}
 use Rattle.lt_modes.specs.declared.moves.Step.{Step}
 use Rattle.lt_modes.specs.Script.{ScriptData}
 use Rattle.lt_modes.specs.declared.mode.Mode.{Mode}
@@ -12,7 +12,7 @@ use Rattle.lt_modes.specs.Fits.{fits, numbers_of}
 use Rattle.lt_lists.specs.Below.{sum_below}
 use Rattle.lt_spec.specs.Script.{IsScript}
 use Rattle.lt_spec.specs.World.{Logged, World, world_after, made_by, is_runnable, is_enabled, opened, IsRun, moves_of, logged, line_client}
-use Rattle.lt_spec.specs.NodeMove.{NodeState, home, node_waits, has_command}
+use Rattle.lt_spec.specs.NodeMove.{NodeState, home, is_free_at, has_command}
 use Rattle.lt_spec.specs.declared.moves.TheConstants.{MAX_MOVES}
 use Rattle.lt_spec.specs.Facts.{state_at}
 use Rattle.lt_merge.specs.Merging.{RunData, events_at}
@@ -197,7 +197,7 @@ other_named step (Some client) = if is_act_of step client then None else Some cl
 pub record CanAct (n : NodeData) (client : ℕ) : Type 0 where
   pub client_is : client < length n.script.clients
   pub at_home : home n.script client ≡ n.me
-  pub runnable : IsTrue (not (node_waits n.script (state_of n) client) && has_command n.script (state_of n) client)
+  pub runnable : IsTrue (is_free_at n.script (state_of n) client && has_command n.script (state_of n) client)
   pub within : IsTrue (leaves_room_to_act n.script (state_of n) client)
   pub clock : n.clock + 1 < 2 ^ 62
 

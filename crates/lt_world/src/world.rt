@@ -3,6 +3,7 @@ mod full;
 mod order;
 mod ready;
 mod turns;
+mod voids;
 mod waiting;
 
 ghost use Rattle.std.specs.Prelude.{◌≡◌, ◌≤◌, ◌<◌, ◌+◌, ◌^◌, ◌↔◌, ℕ, [], ◌∷◌, ◌++◌, length, IsTrue, IsFalse, IsNone, IfOk, IfSome, OnSome, OnOk, OnErr, option_map, slice_index_or, slice_set};
@@ -177,7 +178,7 @@ impl World {
         network.into_run()
     }
 
-    // Whether the client doesn't wait and has a command left.
+    // Whether the client has a command left that it can make now.
     fn is_runnable(&self, client: u16) -> bool
         requires { client < length self.now.script.clients }
         ensures { result ≡ is_runnable self.now.script (world_of self.now) client }
@@ -185,7 +186,7 @@ impl World {
         self.turns.number(client).is_some()
     }
 
-    // Whether an ask of the client is unanswered.
+    // Whether the client waits.
     fn is_waiting(&self, client: u16) -> bool
         requires { client < length self.now.script.clients }
         ensures { result ≡ is_waiting self.now.script (world_of self.now) client }

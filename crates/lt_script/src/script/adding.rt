@@ -1,6 +1,6 @@
 // What is added to a script: a last set, client or command. What a script shares with a copy it gets for its own first.
 ghost use Rattle.std.specs.Prelude.{◌≡◌, ◌<◌, ◌++◌, ◌∷◌, [], true, false, length, OnOk, OnErr, IfOk};
-ghost use Rattle.lt_spec.specs.Script.{is_name, IsFamilyOfNext, IsRequest, HasModesOf, most_clients, load_of, is_declared};
+ghost use Rattle.lt_spec.specs.Script.{is_name, IsFamilyOfNext, IsRequest, IsOfVersion, most_clients, load_of, is_declared};
 ghost use Rattle.std.specs.Arc.{arc_value};
 ghost use Rattle.lt_script.specs.Index.{hash_of};
 ghost use Rattle.lt_spec.specs.declared.limits.TheConstants.{MAX_SETS_OF_SERVICE, MAX_CLIENTS_OF_NODE, MAX_COMMANDS_OF_SERVICE};
@@ -111,7 +111,7 @@ impl Script {
     pub fn add_command(&mut self, client: u16, command: Command) -> Result<(), AllocError>
         requires room { length self.old.commands < MAX_COMMANDS_OF_SERVICE }
         requires request { IsRequest self.old.sets self.old.clients (client, command) }
-        requires modes { HasModesOf self.old.version command }
+        requires modes { IsOfVersion self.old.version command }
         ensures added { OnOk result
             (self.new ≡ record self.old { commands = self.old.commands ++ (client, command) ∷ [] }) }
         ensures unchanged { OnErr result (self.new ≡ self.old) }

@@ -81,14 +81,15 @@ impl World {
         }
     }
 
-    // Whether the ask waits behind one of the other client, or this one's lock stands in its way.
+    // Whether the ask waits behind one of the other client that isn't void, or this one's lock stands in its way.
     fn is_marked_or_bars(&self, set: u32, other: u16, ask: &Ask, behind: &[bool]) -> bool
         requires set { set < length self.now.script.sets }
         requires other { other < length self.now.script.clients }
         requires behind { AreBehind self.now set ask.now.client behind.now }
         ensures { result ≡ is_kept_by self.now.script (world_of self.now) set other ask.now }
     {
-        behind[usize::from(other)] || self.holds_against(set, ask.mode, other)
+        (behind[usize::from(other)] && !self.gave_up(set, other))
+            || self.holds_against(set, ask.mode, other)
     }
 }
 

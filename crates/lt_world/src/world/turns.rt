@@ -117,7 +117,11 @@ fn client_of(line: &Event) -> Option<u16>
         | Event::NotHeld { client, .. }
         | Event::Change { client, .. }
         | Event::DropAll { client, .. }
-        | Event::Busy { client, .. } => Some(client),
+        | Event::Busy { client, .. }
+        | Event::Withdraw { client, .. }
+        | Event::Withdrawn { client, .. }
+        | Event::Void { client, .. }
+        | Event::Withheld { client, .. } => Some(client),
         Event::Copy { .. } | Event::Freeze { .. } | Event::Token { .. } => None,
     }
 }

@@ -3,11 +3,11 @@ ghost use Rattle.lt_modes.specs.Modes.{count_of};
 ghost use Rattle.lt_modes.specs.Waiting.{pending_ask, stands_before, parked_behind};
 ghost use Rattle.lt_spec.specs.Facts.{state_at};
 ghost use Rattle.lt_spec.specs.NodeMove.{home};
-ghost use Rattle.lt_spec.specs.Holdings.{holds_against, waits_behind, is_kept_by, waits_for};
+ghost use Rattle.lt_spec.specs.Holdings.{holds_against, waits_behind, gave_up, is_kept_by, waits_for, waits_behind_void};
 ghost use Rattle.lt_spec.specs.Rings.{numbers_below};
 ghost use Rattle.lt_node.specs.NodeData.{first_ask};
 ghost use Rattle.lt_world.specs.Fields.{world_of, bars_by_lock};
-ghost use Rattle.lt_world.specs.Waits.{stands_in_way, waits_by};
+ghost use Rattle.lt_world.specs.Waits.{stands_in_way, void_in_way, waits_by};
 
 use super::World;
 use lt_modes::{Ask, MODES, Mode};
@@ -40,18 +40,20 @@ impl World {
         Ok(())
     }
 
-    // The client's unanswered ask with its set, if it has one.
-    fn ask_of(&self, client: u16) -> Option<(u32, Ask)>
+    // The ask for which the client waits with its set, if it does.
+    pub(super) fn ask_of(&self, client: u16) -> Option<(u32, Ask)>
         requires { client < length self.now.script.clients }
         ensures within { IfSome result (λ found. found.0 < length self.now.script.sets) }
         ensures waits { (other : ℕ)
             → waits_for self.now.script (world_of self.now) client other ≡ waits_by self.now client other result }
+        ensures voids { (other : ℕ)
+            → waits_behind_void self.now.script (world_of self.now) client other ≡ void_in_way self.now other result }
     {
         let _ = &self.script;
         self.first_ask(client)
     }
 
-    // The client's unanswered ask in the first set that has one, with this set.
+    // The client's unanswered ask that it didn't give up, in the first set that has one, with this set.
     fn first_ask(&self, client: u16) -> Option<(u32, Ask)>
         requires { client < length self.now.script.clients }
         ensures { result ≡ first_ask self.now.script ((world_of self.now).node (home self.now.script client)) client }
@@ -86,7 +88,18 @@ impl World {
         requires other { other < length self.now.script.clients }
         ensures { result ≡ is_kept_by self.now.script (world_of self.now) set other ask.now }
     {
-        self.holds_against(set, ask.mode, other) || self.waits_behind(set, other, ask.client)
+        self.holds_against(set, ask.mode, other)
+            || (!self.gave_up(set, other) && self.waits_behind(set, other, ask.client))
+    }
+
+    // Whether the client's ask for the set is void.
+    pub(super) fn gave_up(&self, set: u32, client: u16) -> bool
+        requires set { set < length self.now.script.sets }
+        requires client { client < length self.now.script.clients }
+        ensures { result ≡ gave_up self.now.script (world_of self.now) set client }
+    {
+        let home = usize::from(self.script.home(client));
+        self.network.nodes[home].is_gone(set, client)
     }
 
     // Whether the client holds a lock of the set with which the mode conflicts.

@@ -2,7 +2,7 @@ use Rattle.std.proofs.Common.{◌≡◌, ◌∙◌, ap, sym, subst, arith, ◌++
 use Rattle.std.proofs.lemmas.List.Elements.{All-from_recursion}
 use Rattle.lt_modes.specs.Script.{ScriptData}
 use Rattle.lt_modes.specs.declared.command.Command.{Command}
-use Rattle.lt_spec.specs.Script.{HasModesOf}
+use Rattle.lt_spec.specs.Script.{IsOfVersion}
 use Rattle.lt_gen.specs.Generator.{group_commands, requests_of, requests_in, Making}
 use Rattle.lt_gen.proofs.GroupLemmas.{group_modes}
 use Rattle.lt_gen.proofs.Generated.{next_turn, all_made, still_counted, fewer_turns}
@@ -11,7 +11,7 @@ use Rattle.lt_gen.proofs.making.add_commands.Goals as goal
 pub add_turn-requires-clause-modes : goal.add_turn-requires-clause-modes
 add_turn-requires-clause-modes c =
     rw (c.deref.ensures.value, c.in_ok-made.ensures)
-    (All-from_recursion (HasModesOf c.loop-left.script.version) (group_commands c.drawn-group.result) (group_modes c.loop-left.script.version c.drawn-group.result c.drawn-group.ensures.five))
+    (All-from_recursion (IsOfVersion c.loop-left.script.version) (group_commands c.drawn-group.result) (group_modes c.loop-left.script.version c.drawn-group.result c.drawn-group.ensures.five))
 
 pub loop-left-preserved : goal.loop-left-preserved
 loop-left-preserved c =

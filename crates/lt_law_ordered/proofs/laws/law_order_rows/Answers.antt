@@ -11,4 +11,6 @@ returns c = record {
   no_clients = refl;
   family_dropped = refl;
   drop_of_another = refl;
+  waits_given_up = refl;
+  given_up_and_kept = refl;
 }

@@ -1,5 +1,6 @@
 use Rattle.lt_spec.proofs.FirstBad.{first_bad_is_exact}
-use Rattle.lt_law_ordered.proofs.OrderedRest.{ordered_finish, ordered_release, ranked_finish, ranked_release, alone_finish, ranked_hold, ranked_wait, stuck_by_ring}
+use Rattle.lt_law_ordered.proofs.OrderedRest.{ordered_finish, ordered_release, ranked_finish, ranked_release, alone_finish, ranked_hold, ranked_wait}
+use Rattle.lt_law_ordered.proofs.Releasing.{stuck_by_ring, stuck_by_ring_or_void}
 use Rattle.lt_law_ordered.proofs.laws.law_ordered.Goals as goal
 
 pub returns : goal.returns
@@ -12,5 +13,6 @@ returns c = record {
   hold = ranked_hold;
   wait = ranked_wait;
   deadlock = stuck_by_ring;
+  deadlock_or_void = stuck_by_ring_or_void;
   first_bad = first_bad_is_exact;
 }

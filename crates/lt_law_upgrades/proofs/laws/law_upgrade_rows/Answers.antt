@@ -10,4 +10,5 @@ returns c = record {
   changed_while_later = refl;
   tried_again = refl;
   changed_twice = refl;
+  given_up_change = refl;
 }

@@ -13,4 +13,5 @@ returns c = record {
   ring_of_three = refl;
   ring_of_four = refl;
   ring_and_ended = refl;
+  void_in_the_way = refl;
 }

@@ -1,4 +1,4 @@
-use Rattle.lt_script.proofs.FaultOrder.{limits_are, reserved_are, numbers_are, forms_are}
+use Rattle.lt_script.proofs.FaultOrder.{limits_are, reserved_are, numbers_are, forms_are, later_forms_are}
 use Rattle.lt_script.proofs.laws.law_literals.Goals as goal
 
 pub returns : goal.returns
@@ -7,4 +7,5 @@ returns c = record {
   reserved = reserved_are;
   numbers = numbers_are;
   forms = forms_are;
+  later_forms = later_forms_are;
 }

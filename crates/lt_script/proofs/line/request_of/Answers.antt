@@ -16,3 +16,6 @@ returns-in-Change c = subst (λ (asked : CommandWords). Resolves c.args.script.n
 
 pub returns-in-Drop : goal.returns-in-Drop
 returns-in-Drop c = subst (λ (asked : CommandWords). Resolves c.args.script.now (CommandForm c.args.client.now (asked_seen asked)) c.drop_all.result) (sym c.in-Drop.is) c.drop_all.ensures
+
+pub returns-in-Withdraw : goal.returns-in-Withdraw
+returns-in-Withdraw c = subst (λ (asked : CommandWords). Resolves c.args.script.now (CommandForm c.args.client.now (asked_seen asked)) c.withdraw.result) (sym c.in-Withdraw.is) c.withdraw.ensures

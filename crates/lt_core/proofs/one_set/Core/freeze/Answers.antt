@@ -23,6 +23,7 @@ send_notices-requires-clause-fits c =
       pending = before.pending;
       parked = map parked_seen before.parked.items;
       desk = desk_seen before.desk;
+      gone = before.marks.clients;
     } in
     let here : s.desk ≡ Some desk = search rules in
     let made = c.freeze-targets.ensures.made before.set stamp s refl here in
@@ -48,6 +49,7 @@ returns-clause-does c =
       pending = before.pending;
       parked = map parked_seen before.parked.items;
       desk = desk_seen before.desk;
+      gone = before.marks.clients;
     } in
     let here : s.desk ≡ Some desk = search rules in
     let made = c.freeze-targets.ensures.made before.set stamp s refl here in
@@ -65,6 +67,7 @@ returns-clause-does c =
       row_room = before.held.spare;
       parked_room = deque_capacity before.parked - deque_len before.parked;
       tell_room = tells_by before.spare;
+      mark_room = before.marks.room;
     } in
     subst (λ (old : CoreData). Does (freeze old.set stamp old.state) old c.args.out.now core c.send_notices.new.out) c.self.view_is
     (record {

@@ -17,6 +17,7 @@ returns-clause-core c =
       pending = before.pending;
       parked = map parked_seen before.parked.items;
       desk = desk_seen before.desk;
+      gone = before.marks.clients;
     } in
     rw (← c.self.view_is)
     (λ i. record {
@@ -27,4 +28,5 @@ returns-clause-core c =
       row_room = before.held.spare;
       parked_room = deque_capacity before.parked - deque_len before.parked;
       tell_room = tells_by before.spare;
+      mark_room = before.marks.room;
     })

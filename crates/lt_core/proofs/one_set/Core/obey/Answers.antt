@@ -8,7 +8,7 @@ use Rattle.lt_core.proofs.NoticeLemmas.{out_silent}
 use Rattle.lt_core.proofs.one_set.Core.obey.Goals as goal
 
 pub lock-requires-clause-room : goal.lock-requires-clause-room
-lock-requires-clause-room c = subst (RoomForCommand c.args.stamp.clock c.args.self.now) c.in-Lock.is c.requires.room
+lock-requires-clause-room c = subst (RoomForCommand c.args.client c.args.stamp.clock c.args.self.now) c.in-Lock.is c.requires.room
 
 pub lock-requires-clause-fits : goal.lock-requires-clause-fits
 lock-requires-clause-fits c =
@@ -29,7 +29,7 @@ pub returns-in-Lock-clause-room : goal.returns-in-Lock-clause-room
 returns-in-Lock-clause-room c = c.lock.ensures.room
 
 pub try_lock-requires-clause-room : goal.try_lock-requires-clause-room
-try_lock-requires-clause-room c = subst (RoomForCommand c.args.stamp.clock c.args.self.now) c.in-Try.is c.requires.room
+try_lock-requires-clause-room c = subst (RoomForCommand c.args.client c.args.stamp.clock c.args.self.now) c.in-Try.is c.requires.room
 
 pub try_lock-requires-clause-fits : goal.try_lock-requires-clause-fits
 try_lock-requires-clause-fits c =
@@ -50,7 +50,7 @@ pub returns-in-Try-clause-room : goal.returns-in-Try-clause-room
 returns-in-Try-clause-room c = c.try_lock.ensures.room
 
 pub unlock-requires-clause-room : goal.unlock-requires-clause-room
-unlock-requires-clause-room c = subst (RoomForCommand c.args.stamp.clock c.args.self.now) c.in-Unlock.is c.requires.room
+unlock-requires-clause-room c = subst (RoomForCommand c.args.client c.args.stamp.clock c.args.self.now) c.in-Unlock.is c.requires.room
 
 pub unlock-requires-clause-fits : goal.unlock-requires-clause-fits
 unlock-requires-clause-fits c =
@@ -71,7 +71,7 @@ pub returns-in-Unlock-clause-room : goal.returns-in-Unlock-clause-room
 returns-in-Unlock-clause-room c = c.unlock.ensures.room
 
 pub change-requires-clause-room : goal.change-requires-clause-room
-change-requires-clause-room c = subst (RoomForCommand c.args.stamp.clock c.args.self.now) c.in-Change.is c.requires.room
+change-requires-clause-room c = subst (RoomForCommand c.args.client c.args.stamp.clock c.args.self.now) c.in-Change.is c.requires.room
 
 pub change-requires-clause-fits : goal.change-requires-clause-fits
 change-requires-clause-fits c =
@@ -92,7 +92,7 @@ pub returns-in-Change-clause-room : goal.returns-in-Change-clause-room
 returns-in-Change-clause-room c = c.change.ensures.room
 
 pub drop_all-requires : goal.drop_all-requires
-drop_all-requires c = record { room = subst (RoomForCommand c.args.stamp.clock c.args.self.now) c.in-DropAll.is c.requires.room }
+drop_all-requires c = record { room = subst (RoomForCommand c.args.client c.args.stamp.clock c.args.self.now) c.in-DropAll.is c.requires.room }
 
 pub returns-in-DropAll-clause-answer : goal.returns-in-DropAll-clause-answer
 returns-in-DropAll-clause-answer c =

@@ -32,6 +32,7 @@ returns-in-Some-clause-does c =
       pending = before.pending;
       parked = map parked_seen before.parked.items;
       desk = desk_seen before.desk;
+      gone = before.marks.clients;
     } in
     let here : s.desk ≡ Some c.in-Some.desk.desk = ap desk_seen c.in-Some.is in
     let after = record s { desk = Some (dealt c.in-Some.desk.desk item) } in
@@ -61,11 +62,13 @@ returns-in-Some-clause-room c = λ k clock room.
         pending = before.pending;
         parked = map parked_seen before.parked.items;
         desk = desk_seen before.desk;
+        gone = before.marks.clients;
       };
       room = room_by before.desk before.held.spare;
       row_room = before.held.spare;
       parked_room = deque_capacity before.parked - deque_len before.parked;
       tell_room = tells_by before.spare;
+      mark_room = before.marks.room;
     } in
     room_dealt k clock seen before.desk c.in-Some.desk c.deal.new.desk before.held.spare (parked_seen c.args.item) (subst (HasRoom (k + 1) clock) (sym c.self.view_is) room)
     c.in-Some.is left.queue left.numbers left.room left.spare
@@ -86,6 +89,7 @@ returns-in-Park-clause-room c =
       pending = before.pending;
       parked = map parked_seen before.parked.items;
       desk = desk_seen before.desk;
+      gone = before.marks.clients;
     } in
     rw (← c.self.view_is)
     (λ k clock room. room_parked _ _ (parked_seen c.args.item) k clock (λ i. record state { parked = parked i }) refl (omega (arith, pushed.len, pushed.capacity)) (omega arith) room)

@@ -45,6 +45,7 @@ returns-clause-does c =
       pending = before.pending;
       parked = map parked_seen before.parked.items;
       desk = desk_seen before.desk;
+      gone = before.marks.clients;
     } in
     let here : s.desk ≡ Some c.in-Some.desk.desk = ap desk_seen c.in-Some.is in
     let is : c.copy-ask.result ≡ ask_at s k = c.copy-ask.ensures.ask ∙ ap (λ o. slice_index_or (queue_of_desk o) k no_ask) (sym here) in

@@ -36,6 +36,7 @@ returns c =
       pending = before.pending;
       parked = map parked_seen before.parked.items;
       desk = desk_seen before.desk;
+      gone = before.marks.clients;
     } in
     let to : c.ask-to.result.node ≡ v = ap (λ ask. ask.node) c.ask-to.ensures in
     let left : c.hand_over.new.self.desk ≡ leaving stamp s desk =

@@ -1,7 +1,7 @@
 use Rattle.std.proofs.Common.{◌≡◌, ◌≢◌, ◌∙◌, ℕ, [], ◌∷◌, Bool, ap, arith, eq-eqb, if◌then◌else◌, length-append, ne_eqb, remove, subst, sym}
 use Rattle.lt_modes.specs.State.{Made, SetState}
 use Rattle.lt_modes.specs.Modes.{locks_in}
-use Rattle.lt_modes.specs.Serving.{answer_event, ask_at, put_queue, queue_of, serve_copy, serve_local, serve_one}
+use Rattle.lt_modes.specs.Serving.{end_event, ask_at, put_queue, queue_of, serve_copy, serve_local, serve_one}
 use Rattle.lt_modes.specs.declared.ask.Ask.{Ask}
 use Rattle.lt_modes.specs.declared.stamp.Stamp.{Stamp}
 use Rattle.lt_desk.specs.DeskData.{FitsOut, OutData}
@@ -42,10 +42,11 @@ pub answer-requires-clause-fits : goal.answer-requires-clause-fits
 answer-requires-clause-fits c =
     let core = c.args.self.now in
     let out = c.args.out.now in
+    let mid = c.take_out-ask.new.self in
     let fits = subst (λ (made : Made). FitsOut made out) (here_is core.set c.args.stamp c.args.k core.state c.queued.result c.queued.ensures c.if-queued-stamp.true) c.requires.fits in
     record {
       posts = fits.posts;
-      events = omega (arith, fits.events, length-append out.events (answer_event core.set (ask_at core.state c.args.k) ∷ []), length-append out.events (answer_event c.take_out-ask.new.self.set c.take_out-ask.result ∷ []));
+      events = omega (arith, fits.events, length-append out.events (end_event core.set core.state (ask_at core.state c.args.k) ∷ []), length-append out.events (end_event mid.set mid.state c.take_out-ask.result ∷ []));
     }
 
 pub answer-requires-clause-room : goal.answer-requires-clause-room

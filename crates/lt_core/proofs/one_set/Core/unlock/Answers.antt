@@ -57,6 +57,7 @@ returns-then-not-take-clause-does c =
       pending = before.pending;
       parked = map parked_seen before.parked.items;
       desk = desk_seen before.desk;
+      gone = before.marks.clients;
     } in
     let is = sym (ap (by_count before.set c.args.client c.args.mode s) none) in
     rw (← c.self.view_is)
@@ -94,6 +95,7 @@ returns-clause-does c =
       pending = before.pending;
       parked = map parked_seen before.parked.items;
       desk = desk_seen before.desk;
+      gone = before.marks.clients;
     } in
     let is = sym (ap (by_count before.set c.args.client c.args.mode s) some) in
     rw (← c.self.view_is)

@@ -10,7 +10,7 @@ use Rattle.lt_core.proofs.CommandLemmas.{room_for_wait, asked_does, asked_fits}
 use Rattle.lt_core.proofs.one_set.Core.wait.Goals as goal
 
 pub push-requires : goal.push-requires
-push-requires c = subst (λ (k : CoreData). length k.state.pending < 16) (sym c.self.view_is) c.requires.room.pending
+push-requires c = subst (λ (k : CoreData). length k.state.pending < 16) (sym c.self.view_is) c.requires.pending
 
 pub push_event-requires : goal.push_event-requires
 push_event-requires c =
@@ -21,10 +21,10 @@ pub route-requires-clause-node : goal.route-requires-clause-node
 route-requires-clause-node c = subst (λ (k : CoreData). c.args.stamp.node ≡ k.node) (sym c.self.view_is) c.requires.node
 
 pub route-requires-clause-rows : goal.route-requires-clause-rows
-route-requires-clause-rows c = (room_less 1 c.args.stamp.clock _ (subst (HasRoom 2 c.args.stamp.clock) (sym c.self.view_is) c.requires.room.move)).rows
+route-requires-clause-rows c = (room_less 1 c.args.stamp.clock _ (subst (HasRoom 2 c.args.stamp.clock) (sym c.self.view_is) c.requires.room)).rows
 
 pub route-requires-clause-parked : goal.route-requires-clause-parked
-route-requires-clause-parked c = (room_less 1 c.args.stamp.clock _ (subst (HasRoom 2 c.args.stamp.clock) (sym c.self.view_is) c.requires.room.move)).parked
+route-requires-clause-parked c = (room_less 1 c.args.stamp.clock _ (subst (HasRoom 2 c.args.stamp.clock) (sym c.self.view_is) c.requires.room)).parked
 
 pub route-requires-clause-fits : goal.route-requires-clause-fits
 route-requires-clause-fits c =
@@ -40,6 +40,7 @@ route-requires-clause-fits c =
       pending = before.pending;
       parked = map parked_seen before.parked.items;
       desk = desk_seen before.desk;
+      gone = before.marks.clients;
     } in
     let seen : CoreData = record {
       node = before.links.me;
@@ -49,6 +50,7 @@ route-requires-clause-fits c =
       row_room = before.held.spare;
       parked_room = deque_capacity before.parked - deque_len before.parked;
       tell_room = tells_by before.spare;
+      mark_room = before.marks.room;
     } in
     let mine = ask_of stamp c.args.client c.args.mode c.args.gives_up s in
     let ask : Ask = record mine { holder = c.is_holder.result } in
@@ -72,6 +74,7 @@ returns-clause-does c =
       pending = before.pending;
       parked = map parked_seen before.parked.items;
       desk = desk_seen before.desk;
+      gone = before.marks.clients;
     } in
     let seen : CoreData = record {
       node = before.links.me;
@@ -81,6 +84,7 @@ returns-clause-does c =
       row_room = before.held.spare;
       parked_room = deque_capacity before.parked - deque_len before.parked;
       tell_room = tells_by before.spare;
+      mark_room = before.marks.room;
     } in
     let mine = ask_of stamp c.args.client c.args.mode c.args.gives_up s in
     let ask : Ask = record mine { holder = c.is_holder.result } in
@@ -94,5 +98,5 @@ returns-clause-does c =
 
 pub returns-clause-room : goal.returns-clause-room
 returns-clause-room c =
-    let room = subst (HasRoom 2 c.args.stamp.clock) (sym c.self.view_is) c.requires.room.move in
+    let room = subst (HasRoom 2 c.args.stamp.clock) (sym c.self.view_is) c.requires.room in
     c.route.ensures.room 1 c.args.stamp.clock (record { rows = room.rows; parked = room.parked; locks = room.locks; epoch = room.epoch; number = room.number; tells = room.tells })

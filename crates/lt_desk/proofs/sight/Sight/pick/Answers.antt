@@ -67,8 +67,8 @@ loop-k-preserved c =
           h first c.loop-k.invariant.within;
     }
 
-pub returns-then-is_within-clause-next : goal.returns-then-is_within-clause-next
-returns-then-is_within-clause-next c =
+pub returns-then-none_later-clause-next : goal.returns-then-none_later-clause-next
+returns-then-none_later-clause-next c =
     let sight = c.args.self.now in
     let s = sight_state sight in
     let d = desk_of sight in
@@ -89,14 +89,14 @@ returns-then-is_within-clause-next c =
     c.union-barred.ensures ∙ barred_further asks k ask c.loop-k.barred c.barred_by.result h refl c.loop-k.invariant.barred more in
     let rest : AreBarred (bars later) (drop (k + 1) asks) =
     subst (λ b. AreBarred b (drop (k + 1) asks)) barred
-    (all_barred asks c.modes-wanted.result c.union-barred.result (k + 1) c.modes-wanted.ensures (sym c.is_within.ensures ∙ c.if-is_within.true)) in
+    (all_barred asks c.modes-wanted.result c.union-barred.result (k + 1) c.modes-wanted.ensures (c.none_later.ensures.within c.if-none_later.true)) in
     let served = turn_later sight.me s d before later k asks ask (is_service c.turn-turn.result) (next_service sight.me s)
     h refl seen (turn_service sight.me s d before k ask c.turn-turn.result is) fails c.loop-k.invariant.service in
     let drawn = first_later sight.me s d before later k asks ask c.loop-k.draw c.first_draw-draw.result (next_draw sight.me s)
     h refl seen first c.loop-k.invariant.draw in
     c.draw_at.ensures
     ∙ picked_draw sight.me s c.first_draw-draw.result (draw_from sight.me s d later (k + 1) (drop (k + 1) asks))
-    (sym served ∙ none_next sight.me s d later (k + 1) (drop (k + 1) asks) rest) (none_drawn sight.me s d later (k + 1) (drop (k + 1) asks) rest) drawn
+    (sym served ∙ none_next sight.me s d later (k + 1) (drop (k + 1) asks) (c.none_later.ensures.alone c.if-none_later.true) rest) (none_drawn sight.me s d later (k + 1) (drop (k + 1) asks) rest) drawn
 
 pub turn-turn-requires : goal.turn-turn-requires
 turn-turn-requires c = c.own_part-own.ensures
@@ -109,8 +109,8 @@ returns-then-is_served-clause-within c =
     let n = length c.args.self.now.queue.now.asks in
     subst (IsInQueue n) (sym c.service.ensures) (service_within n c.loop-k.k _ (is_place c.loop-k.k c.len-k-end.result n c.loop-k-test.true c.len-k-end.ensures.length))
 
-pub returns-then-is_within-clause-within : goal.returns-then-is_within-clause-within
-returns-then-is_within-clause-within c =
+pub returns-then-none_later-clause-within : goal.returns-then-none_later-clause-within
+returns-then-none_later-clause-within c =
     let sight = c.args.self.now in
     let asks = sight.queue.now.asks in
     let k = c.loop-k.k in

@@ -1,12 +1,13 @@
 use Rattle.std.proofs.Common.{◌≡◌, ◌∙◌, ◌+◌, ℕ, Some, ap, arith, sym}
+use Rattle.std.proofs.lemmas.Bool.{and_parts}
 use Rattle.lt_modes.specs.declared.stamp.Stamp.{Stamp}
 use Rattle.lt_modes.specs.Script.{ScriptData}
-use Rattle.lt_spec.specs.NodeMove.{NodeState}
+use Rattle.lt_spec.specs.NodeMove.{NodeState, is_free_at}
 use Rattle.lt_node.specs.NodeData.{state_of}
 use Rattle.lt_node.specs.Touched.{drops_few}
 use Rattle.lt_node.specs.Clients.{answer_to, answer_if}
 use Rattle.lt_node.proofs.DropLemmas.{answer_after}
-use Rattle.lt_node.proofs.TouchLemmas.{few_after, few_to_act, ready_after, ready_to_act}
+use Rattle.lt_node.proofs.TouchLemmas.{few_after, few_to_act, keeps_after, keeps_to_act, ready_after, ready_to_act}
 use Rattle.lt_node.proofs.node.Node.act.Goals as goal
 
 pub obey-requires-clause-ready : goal.obey-requires-clause-ready
@@ -18,6 +19,15 @@ obey-requires-clause-ready c =
     let told = c.advance-command.ensures in
     ready_after n c.advance-command.new.self c.args.out.now now command told.place.0 told.place.1 told.cores
     (ready_to_act n c.args.out.now now c.args.client command c.requires.within told.command (omega (arith, clock)) c.requires.room)
+
+pub obey-requires-clause-keeps : goal.obey-requires-clause-keeps
+obey-requires-clause-keeps c =
+    let n = c.args.self.now in
+    let command = c.advance-command.result in
+    let told = c.advance-command.ensures in
+    keeps_after n c.advance-command.new.self c.args.client command told.place.0 told.place.1 told.cores
+    (keeps_to_act n c.args.out.now c.args.client command c.requires.within told.command
+    (and_parts (is_free_at n.script (state_of n) c.args.client) _ c.requires.runnable).0 told.targets c.requires.room)
 
 pub obey-requires-clause-few : goal.obey-requires-clause-few
 obey-requires-clause-few c =

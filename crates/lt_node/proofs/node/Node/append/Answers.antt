@@ -1,5 +1,5 @@
 use Rattle.std.proofs.Common.{◌<◌, ◌∙◌, ℕ, ap, length, map, refl, slice_set, subst, sym}
-use Rattle.lt_spec.specs.Script.{HasModesOf, HasTargets}
+use Rattle.lt_spec.specs.Script.{IsOfVersion, HasTargets}
 use Rattle.lt_spec.specs.declared.limits.TheConstants.{MAX_COMMANDS_OF_SERVICE}
 use Rattle.lt_node.specs.NodeData.{IsNode, NodeData}
 use Rattle.lt_node.specs.Clients.{AreOwn, KnowsClients, progress_made, with_request}
@@ -43,7 +43,7 @@ pub append_to-requires-clause-targets : goal.append_to-requires-clause-targets
 append_to-requires-clause-targets c = subst (λ (n : NodeData). HasTargets n.script.sets n.script.clients c.args.client c.args.command) (sym c.self.view_is) c.requires.targets
 
 pub append_to-requires-clause-modes : goal.append_to-requires-clause-modes
-append_to-requires-clause-modes c = subst (λ (n : NodeData). HasModesOf n.script.version c.args.command) (sym c.self.view_is) c.requires.modes
+append_to-requires-clause-modes c = subst (λ (n : NodeData). IsOfVersion n.script.version c.args.command) (sym c.self.view_is) c.requires.modes
 
 pub append_to-requires-clause-room : goal.append_to-requires-clause-room
 append_to-requires-clause-room c = subst (λ (n : NodeData). length n.script.commands < MAX_COMMANDS_OF_SERVICE) (sym c.self.view_is) c.requires.room

@@ -28,7 +28,7 @@ returns c =
     let next =
     next_at _ c.args.self.now c.self.inside.homes.items c.self.inside.clients.items c.args.client c.from.result c.index.result.now c.self.view_is c.self.invariant.0 refl c.self.invariant.1
     c.from.ensures c.index.ensures c.requires.client c.requires.home c.requires.left in
-    c.leaves_room_to_obey.ensures ∙ ap (leaves_room_to_obey n.script (state_of n)) (ap Some c.upcoming.ensures ∙ sym (next_is n c.args.client c.index.result.now next))
+    c.leaves_room_to_obey.ensures ∙ ap (leaves_room_to_obey n.script (state_of n) c.args.client) (ap Some c.upcoming.ensures ∙ sym (next_is n c.args.client c.index.result.now next))
 
 pub index-requires : goal.index-requires
 index-requires c = subst (λ (n : ℕ). c.from.result < n) (sym c.self.inside.clients.ok.0) (client_inside _ c.args.self.now c.self.inside.clients.items c.args.client c.from.result c.self.view_is c.self.invariant.0 refl c.from.ensures c.requires.client)

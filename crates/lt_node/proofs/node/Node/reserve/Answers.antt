@@ -3,7 +3,7 @@ use Rattle.std.proofs.lemmas.Bool.{false≢true}
 use Rattle.lt_node.proofs.NodeLemmas.{node_same, same_node}
 use Rattle.lt_node.proofs.AdvanceLemmas.{next_at}
 use Rattle.lt_node.proofs.NodeSets.{sets_same}
-use Rattle.lt_node.proofs.RoomLemmas.{IsNextHere, next_here, had_memory, had_to_send, room_made}
+use Rattle.lt_node.proofs.RoomLemmas.{IsNextHere, next_here, had_mark, had_memory, had_to_send, room_made}
 use Rattle.lt_node.proofs.node.Node.reserve.Goals as goal
 
 pub upcoming-command-requires : goal.upcoming-command-requires
@@ -37,7 +37,8 @@ returns-in_err-touched-clause-full c = λ room.
     next_here _ c.args.self.now c.args.client c.index.result.now c.kept.result.now c.upcoming-command.result c.self.inside.sets c.self.view_is c.self.invariant.0 c.self.invariant.2 refl
     next c.upcoming-command.ensures c.kept.ensures c.requires.within in
     let memory = had_memory c.args.self.now c.args.client c.kept.result.now c.upcoming-command.result c.self.inside.sets c.args.out.now here room in
-    absurd (false≢true (subst (λ r. IsOk r) c.in_err-touched.was (c.reserve_touched.ensures.full memory)))
+    let mark = had_mark c.args.self.now c.args.client c.kept.result.now c.upcoming-command.result c.self.inside.sets c.args.out.now here room in
+    absurd (false≢true (subst (λ r. IsOk r) c.in_err-touched.was (c.reserve_touched.ensures.full memory mark)))
 
 pub invariant_of-self : goal.invariant_of-self
 invariant_of-self c = (
@@ -68,7 +69,7 @@ returns-clause-room c =
     next c.upcoming-command.ensures c.kept.ensures c.requires.within in
     let said = c.in_ok-touched.ensures in
     room_made c.reserve.result c.args.self.now _ c.args.client c.in_ok-touched.touched c.kept.result.now c.upcoming-command.result c.reserve_touched.new.sets c.args.out.now c.reserve.new.self
-    here.touched (same_node _ c.args.self.now c.reserve_touched.new.sets.cores c.self.view_is said.same.kept)
+    here.touched here.next said.mark (same_node _ c.args.self.now c.reserve_touched.new.sets.cores c.self.view_is said.same.kept)
     (sets_same c.self.inside.script.whole c.self.inside.me c.self.inside.sets c.reserve_touched.new.sets c.self.invariant.2 said.same) refl said.room said.sent
     c.reserve.ensures.posts c.reserve.ensures.events c.reserve.ensures.post_room c.reserve.ensures.event_room
 

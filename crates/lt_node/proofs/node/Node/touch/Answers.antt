@@ -1,8 +1,7 @@
-use Rattle.std.proofs.Common.{◌∙◌, [], ◌∷◌, ℕ, ap, refl, subst, sym}
+use Rattle.std.proofs.Common.{◌∙◌, ℕ, ap, refl, subst, sym}
 use Rattle.lt_core.specs.CoreData.{CoreData, answer_of, move_of}
-use Rattle.lt_node.specs.NodeData.{AreReady, NodeData}
+use Rattle.lt_node.specs.NodeData.{IsSetReady, NodeData}
 use Rattle.lt_node.proofs.NodeSets.{core_held, node_of_sets, set_done, set_inside, sets_moved}
-use Rattle.lt_node.proofs.TouchLemmas.{one_ready}
 use Rattle.lt_node.specs.Sets.{core_in}
 use Rattle.lt_node.proofs.node.Node.touch.Goals as goal
 
@@ -14,8 +13,8 @@ act-requires-clause-node c = c.requires.node ∙ sym (ap (λ (n : NodeData). n.m
 
 pub act-requires-clause-ready : goal.act-requires-clause-ready
 act-requires-clause-ready c =
-    one_ready c.args.set c.args.stamp.clock (core_in c.self.inside.sets) c.args.out.now
-    (subst (λ (f : ℕ → CoreData). AreReady (c.args.set ∷ []) c.args.stamp.clock f c.args.out.now) (core_held _ c.args.self.now c.self.inside.sets c.self.view_is refl c.self.invariant.2) c.requires.ready)
+    subst (λ (f : ℕ → CoreData). IsSetReady c.args.client c.args.command c.args.stamp.clock (f c.args.set) c.args.out.now)
+    (core_held _ c.args.self.now c.self.inside.sets c.self.view_is refl c.self.invariant.2) c.requires.ready
 
 pub returns-clause-answer : goal.returns-clause-answer
 returns-clause-answer c =

@@ -7,6 +7,6 @@ use Rattle.lt_node.proofs.node.Node.with_dropped.Goals as goal
 
 pub overflow_add-all : goal.overflow_add-all
 overflow_add-all c =
-    let few = few_held (state_of c.args.self.now) c.args.set c.args.client (sym c.leaves_room_in.ensures ∙ c.if-not-leaves_room_in.false) in
-    let own = ap (λ (s : SetState). locks_of s.held c.args.client) c.core.ensures in
+    let few = few_held (state_of c.args.self.now) c.args.client c.args.set c.args.other (sym c.leaves_room_in.ensures ∙ c.if-not-leaves_room_in.false) in
+    let own = ap (λ (s : SetState). locks_of s.held c.args.other) c.core.ensures in
     omega (arith, few, c.held_count.ensures, own, c.requires.few)

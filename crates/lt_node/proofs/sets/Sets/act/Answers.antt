@@ -4,7 +4,7 @@ use Rattle.lt_node.specs.NodeData.{IsSetReady}
 use Rattle.lt_node.specs.Sets.{SetsData}
 use Rattle.lt_node.proofs.CountLemmas.{few_left}
 use Rattle.lt_node.proofs.StoredLemmas.{has_place, in_hand, in_places, may_leave, set_moved, stored_moved}
-use Rattle.lt_node.proofs.TouchLemmas.{room_at, fits_at}
+use Rattle.lt_node.proofs.TouchLemmas.{fits_at, tells_at}
 use Rattle.lt_node.specs.Sets.{core_of}
 use Rattle.lt_node.proofs.sets.Sets.act.Goals as goal
 
@@ -12,22 +12,22 @@ pub place_of-place-requires-clause-inside : goal.place_of-place-requires-clause-
 place_of-place-requires-clause-inside c = in_places c.self.inside.nodes c.self.inside.me c.self.inside.places.items c.self.inside.cores.items c.args.self.now c.self.view_is c.args.set c.requires.set
 
 pub place_of-place-requires-clause-touched : goal.place_of-place-requires-clause-touched
-place_of-place-requires-clause-touched c = has_place c.self.inside.nodes c.self.inside.me c.self.inside.places.items c.self.inside.cores.items c.args.self.now c.self.view_is c.args.set c.requires.ready.room.tells
+place_of-place-requires-clause-touched c = has_place c.self.inside.nodes c.self.inside.me c.self.inside.places.items c.self.inside.cores.items c.args.self.now c.self.view_is c.args.set (tells_at c.args.client c.args.command c.args.stamp.clock _ c.args.out.now c.requires.ready)
 
 pub wait_less-requires : goal.wait_less-requires
 wait_less-requires c =
     let hand = in_hand c.self.inside.nodes c.self.inside.me c.self.inside.first c.self.inside.places.items c.self.inside.cores.items c.self.inside.waiting.items c.args.self.now c.args.set c.place_of-place.result c.index_mut-core.result.now c.self.invariant c.self.view_is c.requires.set c.place_of-place.ensures c.index_mut-core.ensures.value in
-    may_leave c.self.inside.nodes c.self.inside.me c.self.inside.first c.self.inside.places.items c.self.inside.cores.items c.self.inside.waiting.items c.self.invariant c.args.self.now c.self.view_is c.args.set c.place_of-place.result c.index_mut-core.result.now c.index_mut-core.result.now hand c.asks.result.now c.asks.ensures
+    may_leave c.self.inside.nodes c.self.inside.me c.self.inside.first c.self.inside.places.items c.self.inside.cores.items c.self.inside.waiting.items c.self.invariant c.args.self.now c.self.view_is c.args.set c.place_of-place.result c.index_mut-core.result.now c.index_mut-core.result.now hand c.asks.result.now c.gone.result.now c.asks.ensures c.gone.ensures
 
 pub wait_more-requires : goal.wait_more-requires
 wait_more-requires c =
-    few_left (length c.self.inside.places.items) (core_of c.self.inside.nodes c.self.inside.me c.self.inside.places.items c.self.inside.cores.items) c.asks.result.now c.self.inside.waiting.items c.wait_less.new.counts.items c.self.invariant.waiting c.self.invariant.few_sets c.wait_less.ensures
+    few_left (length c.self.inside.places.items) (core_of c.self.inside.nodes c.self.inside.me c.self.inside.places.items c.self.inside.cores.items) c.asks.result.now c.gone.result.now c.self.inside.waiting.items c.wait_less.new.counts.items c.self.invariant.waiting c.self.invariant.few_sets c.wait_less.ensures
 
 pub invariant_of-self : goal.invariant_of-self
 invariant_of-self c =
     let hand = in_hand c.self.inside.nodes c.self.inside.me c.self.inside.first c.self.inside.places.items c.self.inside.cores.items c.self.inside.waiting.items c.args.self.now c.args.set c.place_of-place.result c.index_mut-core.result.now c.self.invariant c.self.view_is c.requires.set c.place_of-place.ensures c.index_mut-core.ensures.value in
-    stored_moved c.self.inside.nodes c.self.inside.me c.self.inside.first c.self.inside.places.items c.self.inside.cores.items c.self.inside.waiting.items c.self.invariant c.args.self.now c.self.view_is c.args.set c.place_of-place.result c.index_mut-core.result.now c.act-answer.new.self hand _ c.args.out.now c.act-answer.new.out c.asks.result.now c.asks-2.result.now c.wait_less.new.counts.items c.wait_more.new.counts.items
-    c.act-answer.ensures.does c.asks.ensures c.asks-2.ensures c.wait_less.ensures c.wait_more.ensures
+    stored_moved c.self.inside.nodes c.self.inside.me c.self.inside.first c.self.inside.places.items c.self.inside.cores.items c.self.inside.waiting.items c.self.invariant c.args.self.now c.self.view_is c.args.set c.place_of-place.result c.index_mut-core.result.now c.act-answer.new.self hand _ c.args.out.now c.act-answer.new.out c.asks.result.now c.asks-2.result.now c.gone.result.now c.gone-2.result.now c.wait_less.new.counts.items c.wait_more.new.counts.items
+    c.act-answer.ensures.does c.asks.ensures c.gone.ensures c.asks-2.ensures c.gone-2.ensures c.wait_less.ensures c.wait_more.ensures
 
 pub returns-clause-does : goal.returns-clause-does
 returns-clause-does c =
@@ -47,10 +47,10 @@ act-answer-requires-clause-node c =
 pub act-answer-requires-clause-room : goal.act-answer-requires-clause-room
 act-answer-requires-clause-room c =
     let hand = in_hand c.self.inside.nodes c.self.inside.me c.self.inside.first c.self.inside.places.items c.self.inside.cores.items c.self.inside.waiting.items c.args.self.now c.args.set c.place_of-place.result c.index_mut-core.result.now c.self.invariant c.self.view_is c.requires.set c.place_of-place.ensures c.index_mut-core.ensures.value in
-    room_at c.args.stamp.clock c.index_mut-core.result.now c.args.out.now c.args.command (subst (λ (x : CoreData). IsSetReady c.args.stamp.clock x c.args.out.now) (sym hand.core_is) c.requires.ready)
+    (subst (λ (x : CoreData). IsSetReady c.args.client c.args.command c.args.stamp.clock x c.args.out.now) (sym hand.core_is) c.requires.ready).room
 
 pub act-answer-requires-clause-fits : goal.act-answer-requires-clause-fits
 act-answer-requires-clause-fits c =
     let hand = in_hand c.self.inside.nodes c.self.inside.me c.self.inside.first c.self.inside.places.items c.self.inside.cores.items c.self.inside.waiting.items c.args.self.now c.args.set c.place_of-place.result c.index_mut-core.result.now c.self.invariant c.self.view_is c.requires.set c.place_of-place.ensures c.index_mut-core.ensures.value in
     fits_at c.args.stamp.clock c.index_mut-core.result.now c.args.out.now c.args.stamp c.args.client c.args.command
-    (subst (λ (x : CoreData). IsSetReady c.args.stamp.clock x c.args.out.now) (sym hand.core_is) c.requires.ready)
+    (subst (λ (x : CoreData). IsSetReady c.args.client c.args.command c.args.stamp.clock x c.args.out.now) (sym hand.core_is) c.requires.ready)

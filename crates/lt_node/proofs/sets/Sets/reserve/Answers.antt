@@ -58,3 +58,13 @@ returns-clause-full c = λ memory.
     (omega (arith, c.requires.set, same_count c.args.self.now c.touch.new.self c.touch.ensures.same)) c.place_of-place.ensures c.index_mut.ensures.value) in
     let same = ap (λ (d : SetsData). core_in d c.args.set) (c.touch.ensures.had memory) in
     c.reserve.ensures.full (subst (λ (x : CoreData). HasMemory 0 x) (sym (hand.core_is ∙ same)) memory)
+
+pub returns-in_err-touch-clause-mark : goal.returns-in_err-touch-clause-mark
+returns-in_err-touch-clause-mark c = c.touch.ensures.mark
+
+pub returns-clause-mark : goal.returns-clause-mark
+returns-clause-mark c =
+    let hand = (in_hand c.self.inside.nodes c.self.inside.me c.self.inside.first c.self.inside.places.items c.self.inside.cores.items c.self.inside.waiting.items c.touch.new.self c.args.set c.place_of-place.result c.index_mut.result.now c.self.invariant c.self.view_is
+    (omega (arith, c.requires.set, same_count c.args.self.now c.touch.new.self c.touch.ensures.same)) c.place_of-place.ensures c.index_mut.ensures.value) in
+    let now = now_here c.self.inside.nodes c.self.inside.me c.self.inside.first c.self.inside.places.items c.self.inside.cores.items c.self.inside.waiting.items c.self.invariant c.touch.new.self c.self.view_is c.args.set c.place_of-place.result c.index_mut.result.now c.reserve.new.self hand in
+    omega (arith, c.touch.ensures.mark, c.reserve.ensures.kept.marks, ap (λ (x : CoreData). x.mark_room) now, ap (λ (x : CoreData). x.mark_room) hand.core_is)

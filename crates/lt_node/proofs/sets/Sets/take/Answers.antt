@@ -18,17 +18,17 @@ place_of-place-requires-clause-touched c = has_place c.self.inside.nodes c.self.
 pub wait_less-requires : goal.wait_less-requires
 wait_less-requires c =
     let hand = in_hand c.self.inside.nodes c.self.inside.me c.self.inside.first c.self.inside.places.items c.self.inside.cores.items c.self.inside.waiting.items c.args.self.now c.args.letter.set c.place_of-place.result c.index_mut-core.result.now c.self.invariant c.self.view_is c.requires.set c.place_of-place.ensures c.index_mut-core.ensures.value in
-    may_leave c.self.inside.nodes c.self.inside.me c.self.inside.first c.self.inside.places.items c.self.inside.cores.items c.self.inside.waiting.items c.self.invariant c.args.self.now c.self.view_is c.args.letter.set c.place_of-place.result c.index_mut-core.result.now c.index_mut-core.result.now hand c.asks.result.now c.asks.ensures
+    may_leave c.self.inside.nodes c.self.inside.me c.self.inside.first c.self.inside.places.items c.self.inside.cores.items c.self.inside.waiting.items c.self.invariant c.args.self.now c.self.view_is c.args.letter.set c.place_of-place.result c.index_mut-core.result.now c.index_mut-core.result.now hand c.asks.result.now c.gone.result.now c.asks.ensures c.gone.ensures
 
 pub wait_more-requires : goal.wait_more-requires
 wait_more-requires c =
-    few_left (length c.self.inside.places.items) (core_of c.self.inside.nodes c.self.inside.me c.self.inside.places.items c.self.inside.cores.items) c.asks.result.now c.self.inside.waiting.items c.wait_less.new.counts.items c.self.invariant.waiting c.self.invariant.few_sets c.wait_less.ensures
+    few_left (length c.self.inside.places.items) (core_of c.self.inside.nodes c.self.inside.me c.self.inside.places.items c.self.inside.cores.items) c.asks.result.now c.gone.result.now c.self.inside.waiting.items c.wait_less.new.counts.items c.self.invariant.waiting c.self.invariant.few_sets c.wait_less.ensures
 
 pub invariant_of-self : goal.invariant_of-self
 invariant_of-self c =
     let hand = in_hand c.self.inside.nodes c.self.inside.me c.self.inside.first c.self.inside.places.items c.self.inside.cores.items c.self.inside.waiting.items c.args.self.now c.args.letter.set c.place_of-place.result c.index_mut-core.result.now c.self.invariant c.self.view_is c.requires.set c.place_of-place.ensures c.index_mut-core.ensures.value in
-    stored_moved c.self.inside.nodes c.self.inside.me c.self.inside.first c.self.inside.places.items c.self.inside.cores.items c.self.inside.waiting.items c.self.invariant c.args.self.now c.self.view_is c.args.letter.set c.place_of-place.result c.index_mut-core.result.now c.take.new.self hand _ c.args.out.now c.take.new.out c.asks.result.now c.asks-2.result.now c.wait_less.new.counts.items c.wait_more.new.counts.items
-    c.take.ensures.does c.asks.ensures c.asks-2.ensures c.wait_less.ensures c.wait_more.ensures
+    stored_moved c.self.inside.nodes c.self.inside.me c.self.inside.first c.self.inside.places.items c.self.inside.cores.items c.self.inside.waiting.items c.self.invariant c.args.self.now c.self.view_is c.args.letter.set c.place_of-place.result c.index_mut-core.result.now c.take.new.self hand _ c.args.out.now c.take.new.out c.asks.result.now c.asks-2.result.now c.gone.result.now c.gone-2.result.now c.wait_less.new.counts.items c.wait_more.new.counts.items
+    c.take.ensures.does c.asks.ensures c.gone.ensures c.asks-2.ensures c.gone-2.ensures c.wait_less.ensures c.wait_more.ensures
 
 pub returns : goal.returns
 returns c =

@@ -1,6 +1,6 @@
-use Rattle.std.proofs.Common.{◌+◌, ◌++◌, ◌∙◌, List, [], ◌∷◌, ap, arith, length-set, slice_index_or, sym}
+use Rattle.std.proofs.Common.{◌++◌, ◌∙◌, List, [], ◌∷◌, ap, arith, length-set, slice_index_or, sym}
 use Rattle.lt_core.specs.CoreData.{CoreData}
-use Rattle.lt_node.specs.Sets.{SetsData}
+use Rattle.lt_node.specs.Sets.{SetsData, core_by}
 use Rattle.lt_node.proofs.SetsLemmas.{core_is_of, made_kept, made_other, made_touched, stored_more}
 use Rattle.lt_node.proofs.StoredLemmas.{core_seen, in_places, none_with_room, place_read, same_sets}
 use Rattle.lt_node.proofs.sets.Sets.touch.Goals as goal
@@ -55,3 +55,10 @@ returns-clause-touched c =
 
 pub returns-clause-had : goal.returns-clause-had
 returns-clause-had c = λ memory. absurd (none_with_room c.self.inside.nodes c.self.inside.me c.self.inside.places.items c.self.inside.cores.items c.args.self.now c.self.view_is c.args.set (place_read c.self.inside.nodes c.self.inside.me c.self.inside.places.items c.self.inside.cores.items c.args.self.now c.self.view_is c.args.set c.index.result.now c.requires c.index.ensures ∙ c.if-index-ne0.false) memory)
+
+pub returns-clause-mark : goal.returns-clause-mark
+returns-clause-mark c =
+    let none = place_read c.self.inside.nodes c.self.inside.me c.self.inside.places.items c.self.inside.cores.items c.args.self.now c.self.view_is c.args.set c.index.result.now c.requires c.index.ensures ∙ c.if-index-ne0.false in
+    let seen = core_seen c.self.inside.nodes c.self.inside.me c.self.inside.places.items c.self.inside.cores.items c.args.self.now c.self.view_is c.args.set
+    ∙ ap (core_by c.self.inside.nodes c.self.inside.me c.self.inside.cores.items c.args.set) none in
+    omega (arith, ap (λ (x : CoreData). x.mark_room) seen)

@@ -1,7 +1,7 @@
 use Rattle.std.proofs.Common.{◌∙◌, ◌<◌, ◌++◌, ◌∷◌, [], length, sym, ap, subst}
 use Rattle.lt_modes.specs.Script.{ScriptData}
 use Rattle.lt_spec.specs.declared.limits.TheConstants.{MAX_COMMANDS_OF_SERVICE}
-use Rattle.lt_spec.specs.Script.{IsRequest, HasModesOf}
+use Rattle.lt_spec.specs.Script.{IsRequest, IsOfVersion}
 use Rattle.lt_script.specs.Views.{script_data}
 use Rattle.lt_script.proofs.ScriptLemmas.{command_added}
 use Rattle.lt_script.proofs.script.Script.add_command.Goals as goal
@@ -12,7 +12,7 @@ invariant_of-self-2 c =
     let at = c.self.view_is ∙ c.in_ok-own_commands.ensures in
     let room = subst (λ (v : ScriptData). length v.commands < MAX_COMMANDS_OF_SERVICE) (sym at) c.requires.room in
     let request = subst (λ (v : ScriptData). IsRequest v.sets v.clients (c.args.client, c.args.command)) (sym at) c.requires.request in
-    let modes = subst (λ (v : ScriptData). HasModesOf v.version c.args.command) (sym at) c.requires.modes in
+    let modes = subst (λ (v : ScriptData). IsOfVersion v.version c.args.command) (sym at) c.requires.modes in
     rw (c.in_ok-push.ensures.items, c.in-Some.ensures.value) (command_added s c.args.client c.args.command c.self.invariant room request modes)
 
 pub invariant_of-self : goal.invariant_of-self

@@ -1,5 +1,5 @@
 use Rattle.std.proofs.Common.{◌++◌, ◌∷◌, [], Bool, true, sym, subst, ap, ◌∙◌}
-use Rattle.lt_modes.specs.declared.event.Event.TheVariants.{Wait, Try, Unlock, DropAll, Token}
+use Rattle.lt_modes.specs.declared.event.Event.TheVariants.{Wait, Withdrawn, Try, Unlock, DropAll, Token}
 use Rattle.lt_spec.specs.Holdings.{holdings}
 use Rattle.lt_tally.specs.LockTable.{Tally, IsTallied}
 use Rattle.lt_tally.proofs.Telling.{tells_next, tells_event}
@@ -45,6 +45,14 @@ returns-in-Wait-clause-applied c = λ events tells.
     let now = tells_next script _ events (Wait wait.client wait.set wait.mode) c.args.self.now.held tells tells.held in
     subst (λ (tally : Tally). IsTallied script tally (events ++ c.args.event ∷ [])) (sym c.wait.ensures)
     (tells_event script _ events c.args.event _ wait.is now)
+
+pub returns-in-Withdrawn-clause-applied : goal.returns-in-Withdrawn-clause-applied
+returns-in-Withdrawn-clause-applied c = λ events tells.
+    let script = c.args.script.now in
+    let withdrawn = c.in-Withdrawn in
+    let now = tells_next script _ events (Withdrawn withdrawn.client withdrawn.set withdrawn.mode) c.args.self.now.held tells tells.held in
+    subst (λ (tally : Tally). IsTallied script tally (events ++ c.args.event ∷ [])) (sym c.wait-in-Withdrawn.ensures)
+    (tells_event script _ events c.args.event _ withdrawn.is now)
 
 pub returns-in-Token-clause-applied : goal.returns-in-Token-clause-applied
 returns-in-Token-clause-applied c = λ events tells.

@@ -1,4 +1,5 @@
 use Rattle.lt_waits.proofs.Judged.{unfit_says, unfit_refusal, unfit_wants, said_why}
+use Rattle.lt_waits.proofs.Explaining.{old_unmarked, no_void_text}
 use Rattle.lt_waits.proofs.reasons.ReasonsWork.make.Goals as goal
 
 pub returns-in-Err-clause-reading : goal.returns-in-Err-clause-reading
@@ -19,4 +20,8 @@ why-told-requires g c = c.in-Ok.ensures.told.script_is
 pub returns-in-Ok-told-clause-text : goal.returns-in-Ok-told-clause-text
 returns-in-Ok-told-clause-text g c =
     let ended = c.in-Ok.ended in
-    said_why (g.S.Source.state c.args.source.now).left ended.script ended.world c.in-Ok-told.text.items c.in-Ok.ensures.told c.in-Ok-told.ensures
+    let told = c.in-Ok.ensures.told in
+    said_why (g.S.Source.state c.args.source.now).left ended.script ended.world c.in-Ok-told.text.items told
+    (λ older. no_void_text ended.script ended.world.run
+    (old_unmarked ended.script ended.world.run c.law_old_lines.ensures.unmarked c.in-Ok.ensures.kept told.finished.is_run older))
+    c.in-Ok-told.ensures

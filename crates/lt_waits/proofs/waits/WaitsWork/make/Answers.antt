@@ -21,6 +21,17 @@ pub returns-in-Ok-told-clause-text : goal.returns-in-Ok-told-clause-text
 returns-in-Ok-told-clause-text g c =
     let ended = c.in-Ok.ended in
     let told = c.in-Ok.ensures.told in
-    let why = explained ended.script ended.world.run c.law_waiting.ensures.some c.law_reports.ensures.cycles c.law_reports.ensures.rings
-    c.law_waiting.ensures.ends c.law_waiting.ensures.all c.in-Ok.ensures.kept told.finished in
+    let why = explained ended.script ended.world.run (record {
+      each = c.law_void_waits.ensures.some;
+      each_unmarked = c.law_waiting.ensures.some;
+      cycles = c.law_reports.ensures.cycles;
+      rings = c.law_reports.ensures.rings;
+      ends = c.law_void_waits.ensures.ends;
+      ends_unmarked = c.law_waiting.ensures.ends;
+      waiters = c.law_void_waits.ensures.all;
+      waiters_unmarked = c.law_waiting.ensures.all;
+      voids = c.law_void_waits.ensures.pairs;
+      no_void = c.law_waiting.ensures.no_void;
+      old = c.law_old_lines.ensures.unmarked;
+    }) c.in-Ok.ensures.kept told.finished in
     reported (g.S.Source.state c.args.source.now).left ended.script ended.world c.in-Ok-told.text.items told why c.in-Ok-told.ensures

@@ -4,8 +4,8 @@ use Rattle.lt_spec.specs.NodeMove.{home}
 use Rattle.lt_spec.specs.Script.{IsScript}
 use Rattle.lt_spec.specs.World.{IsRun}
 use Rattle.lt_world.specs.Fields.{WorldData, world_of}
-use Rattle.lt_world.specs.Waits.{waits_by}
-use Rattle.lt_world.proofs.OneAsk.{found_within, waits_by_ask}
+use Rattle.lt_world.specs.Waits.{void_in_way, waits_by}
+use Rattle.lt_world.proofs.OneAsk.{found_within, voids_by_ask, waits_by_ask}
 use Rattle.lt_world.proofs.world.World.ask_of.Goals as goal
 
 pub returns-clause-within : goal.returns-clause-within
@@ -21,3 +21,11 @@ returns-clause-waits c = λ other.
     waits_by_ask w (subst (λ (w : WorldData). IsScript w.script) c.self.view_is holds.is_script)
     (subst (λ (w : WorldData). IsRun w.script w.run) c.self.view_is holds.is_run) c.args.client other c.requires
     ∙ ap (waits_by w c.args.client other) (sym c.first_ask.ensures)
+
+pub returns-clause-voids : goal.returns-clause-voids
+returns-clause-voids c = λ other.
+    let w = c.args.self.now in
+    let holds = c.self.invariant.holds in
+    voids_by_ask w (subst (λ (w : WorldData). IsScript w.script) c.self.view_is holds.is_script)
+    (subst (λ (w : WorldData). IsRun w.script w.run) c.self.view_is holds.is_run) c.args.client other c.requires
+    ∙ ap (void_in_way w other) (sym c.first_ask.ensures)
