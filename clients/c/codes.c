@@ -173,7 +173,8 @@ static void submitting(void) {
     IS(lockrun_submit(&ann, LOCKRUN_LOCK, 2, LOCKRUN_READ, 0), LOCKRUN_BAD_ARGUMENT);
     IS(lockrun_submit(&ann, LOCKRUN_LOCK, 0, LOCKRUN_WRITE + 1, 0), LOCKRUN_BAD_ARGUMENT);
     IS(lockrun_submit(&ann, LOCKRUN_LOCK, 0, LOCKRUN_READ_INTENTION_WRITE, 0), LOCKRUN_BAD_ARGUMENT);
-    IS(lockrun_submit(&ann, LOCKRUN_DROP + 1, 0, LOCKRUN_READ, 0), LOCKRUN_BAD_ARGUMENT);
+    IS(lockrun_submit(&ann, LOCKRUN_WITHDRAW + 1, 0, LOCKRUN_READ, 0), LOCKRUN_BAD_ARGUMENT);
+    IS(lockrun_submit(&ann, LOCKRUN_WITHDRAW, 0, 0, 0), LOCKRUN_BAD_ARGUMENT);
     IS(lockrun_submit(&ann, LOCKRUN_DROP, 0, 1, 0), LOCKRUN_BAD_ARGUMENT);
     IS(lockrun_submit(&ann, LOCKRUN_DROP, 0, 1 << 16, 0), LOCKRUN_BAD_ARGUMENT);
     IS(lockrun_submit(&ann, LOCKRUN_LOCK, 0, LOCKRUN_UPGRADE, 0), LOCKRUN_OK);
@@ -356,7 +357,7 @@ static void eight_sets(void) {
     static const char script[] = "nodes 1\nset a\nclient c at 0\n";
     const lockrun_new_set sets[] = {new_set("b", "a"), new_set("c1", "b"), new_set("d", ""), new_set("e", "d"),
                                     new_set("f", ""), new_set("g", ""), new_set("h", "g")};
-    const char *text = "nodes 1\nset a\nset b with a\nset c1 with a\nset d\nset e with d\nset f\nset g\nset h with g\n"
+    const char *text = "version 3\nnodes 1\nset a\nset b with a\nset c1 with a\nset d\nset e with d\nset f\nset g\nset h with g\n"
                        "client c at 0\n";
     uint8_t bytes[128];
     lockrun_nodes nodes;
@@ -402,6 +403,39 @@ static void forgetting(void) {
     IS(service.at != 0 || journal.at != 0, 0);
 }
 
+/* What a client waits for is given up, by itself and by its neighbour. Of another node, and in another version, it isn't. */
+static void withdrawing(void) {
+    IS(open_text("version 3\nnodes 2\nset a\nset b\nclient c at 0\nclient d at 0\nclient e at 1\n", 100, 4), LOCKRUN_OK);
+    for (int k = 0; k < 2; k++) IS(lockrun_take_station(&service, &station[k]), LOCKRUN_OK);
+    IS(lockrun_take_session(&service, &ann), LOCKRUN_OK);
+    IS(lockrun_take_session(&service, &ben), LOCKRUN_OK);
+    IS(lockrun_submit(&ann, LOCKRUN_WITHDRAW, 0, 2, 0), LOCKRUN_BAD_ARGUMENT);
+    IS(lockrun_submit(&ann, LOCKRUN_WITHDRAW, 0, 3, 0), LOCKRUN_BAD_ARGUMENT);
+    IS(lockrun_submit(&ann, LOCKRUN_WITHDRAW, 0, 1 << 16, 0), LOCKRUN_BAD_ARGUMENT);
+    IS(lockrun_submit(&ann, LOCKRUN_WITHDRAW, 2, 0, 0), LOCKRUN_BAD_ARGUMENT);
+    IS(lockrun_submit(&ann, LOCKRUN_WITHDRAW, 0, 0, 0), LOCKRUN_OK);
+    IS(reply(&ann), LOCKRUN_FALSE);
+    IS(lockrun_submit(&ann, LOCKRUN_LOCK, 0, LOCKRUN_WRITE, 0), LOCKRUN_OK);
+    IS(reply(&ann), LOCKRUN_GRANTED);
+    IS(lockrun_submit(&ben, LOCKRUN_LOCK, 0, LOCKRUN_READ, 0), LOCKRUN_OK);
+    IS(reply(&ben), LOCKRUN_NOTHING);
+    IS(lockrun_submit(&ben, LOCKRUN_WITHDRAW, 0, 1, 0), LOCKRUN_OK);
+    IS(reply(&ben), LOCKRUN_WITHDRAWN);
+    IS(lockrun_poll(&ben, &count), LOCKRUN_TRUE);
+    IS(lockrun_submit(&ben, LOCKRUN_LOCK, 0, LOCKRUN_READ, 0), LOCKRUN_OK);
+    IS(reply(&ben), LOCKRUN_NOTHING);
+    IS(lockrun_submit(&ben, LOCKRUN_WITHDRAW, 1, 1, 0), LOCKRUN_OK);
+    IS(reply(&ben), LOCKRUN_NOTHING);
+    IS(lockrun_submit(&ann, LOCKRUN_WITHDRAW, 0, 1, 0), LOCKRUN_OK);
+    IS(reply(&ann), LOCKRUN_TRUE);
+    IS(reply(&ben), LOCKRUN_WITHDRAWN);
+    IS(lockrun_poll(&ben, &count), LOCKRUN_FALSE);
+    lockrun_free(&service);
+    for (int k = 0; k < 2; k++) lockrun_free(&station[k]);
+    lockrun_free(&ann);
+    lockrun_free(&ben);
+}
+
 /* A caller whose time is over is told that it still waits, until the lock is granted. */
 static void patience(void) {
     static const char script[] = "nodes 2\nset a\nclient c at 0\nclient d at 1\n";
@@ -412,7 +446,7 @@ static void patience(void) {
     IS(submitted + polled, 0);
     IS(lockrun_lock(first, 0, LOCKRUN_READ, LOCKRUN_FOREVER), LOCKRUN_GRANTED);
     IS(lockrun_try(second, 0, LOCKRUN_WRITE, LOCKRUN_FOREVER), LOCKRUN_FALSE);
-    IS(lockrun_lock(second, 0, LOCKRUN_WRITE, 5), LOCKRUN_WAITS);
+    IS(lockrun_ask(second, 0, LOCKRUN_WRITE, 5), LOCKRUN_WAITS);
     IS(lockrun_unlock(second, 0, LOCKRUN_WRITE, 5), LOCKRUN_WAITS);
     IS(lockrun_wait(second, 0), LOCKRUN_WAITS);
     IS(lockrun_nodes_served(&nodes, &submitted, &polled), LOCKRUN_OK);
@@ -438,7 +472,7 @@ static void forgetful(void) {
     IS(lockrun_nodes_open(&nodes, script, sizeof script - 1, 1 << 20), LOCKRUN_OK);
     lockrun_caller *first = &nodes.caller[0], *second = &nodes.caller[1];
     IS(lockrun_lock(first, 0, LOCKRUN_READ, LOCKRUN_FOREVER), LOCKRUN_GRANTED);
-    IS(lockrun_lock(second, 0, LOCKRUN_WRITE, 0), LOCKRUN_WAITS);
+    IS(lockrun_ask(second, 0, LOCKRUN_WRITE, 0), LOCKRUN_WAITS);
     IS(lockrun_nodes_forget(&nodes), LOCKRUN_OK);
     IS(lockrun_unlock(first, 0, LOCKRUN_READ, LOCKRUN_FOREVER), LOCKRUN_UNLOCKED);
     IS(lockrun_wait(second, LOCKRUN_FOREVER), LOCKRUN_GRANTED);
@@ -463,6 +497,7 @@ int main(void) {
     many_sets();
     eight_sets();
     forgetting();
+    withdrawing();
     patience();
     forgetful();
     puts(bad ? "codes: some answers are others" : "codes: each answer is as it should be");

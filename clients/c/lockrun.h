@@ -32,11 +32,18 @@ enum lockrun_mode {
     LOCKRUN_READ,
     LOCKRUN_UPGRADE,
     LOCKRUN_INTENTION_WRITE,
-    LOCKRUN_READ_INTENTION_WRITE, /* of a script of version 2 alone */
+    LOCKRUN_READ_INTENTION_WRITE, /* of a script of version 2 or 3 alone */
     LOCKRUN_WRITE
 };
 
-enum lockrun_kind { LOCKRUN_LOCK, LOCKRUN_TRY, LOCKRUN_UNLOCK, LOCKRUN_CHANGE, LOCKRUN_DROP };
+enum lockrun_kind {
+    LOCKRUN_LOCK,
+    LOCKRUN_TRY,
+    LOCKRUN_UNLOCK,
+    LOCKRUN_CHANGE,
+    LOCKRUN_DROP,
+    LOCKRUN_WITHDRAW /* of a script of version 3 alone */
+};
 
 enum lockrun_code {
     LOCKRUN_OK,
@@ -62,7 +69,9 @@ enum lockrun_reply {
     LOCKRUN_NOT_HELD,
     LOCKRUN_CHANGED,
     LOCKRUN_DROPPED,
-    LOCKRUN_BUSY
+    LOCKRUN_BUSY,
+    LOCKRUN_WITHDRAWN, /* of a lock or a change: it was given up; the client holds what it held */
+    LOCKRUN_WITHHELD   /* of a lock or a change: what the client gave up in this set still stands: ask again later */
 };
 
 /* Opens the script's nodes, sets and clients; its commands are left out. Each node makes at most `limit` moves, which is at
@@ -97,7 +106,10 @@ uint32_t lockrun_turn(lockrun_station *station);
 uint32_t lockrun_forget(lockrun_station *station);
 
 /* Submits a command of this lockrun_kind. `first` is the mode, of LOCKRUN_CHANGE the mode that is held, of LOCKRUN_DROP the
- * client whose locks are dropped; `second` is the new mode of LOCKRUN_CHANGE, and else not looked at. */
+ * client whose locks are dropped, of LOCKRUN_WITHDRAW the client whose wait in the set is given up; `second` is the new mode
+ * of LOCKRUN_CHANGE, and else not looked at. While a client waits, the one command of its that is made is a LOCKRUN_WITHDRAW
+ * of itself in the set where it waits: LOCKRUN_WITHDRAWN, or what came first, is the reply to what it waits for, and then
+ * LOCKRUN_TRUE, or LOCKRUN_FALSE where nothing waited, that to the withdraw. */
 uint32_t lockrun_submit(lockrun_session *session, uint32_t kind, uint32_t set, uint32_t first, uint32_t second);
 
 /* The next reply, or LOCKRUN_NOTHING. Of LOCKRUN_DROPPED `count` tells how many locks were dropped. */

@@ -1,64 +1,27 @@
-/* lockrun_easy.h: calls that wait, over lockrun.h. Plain C11, and C++11; nothing of it is proved.
+/* lockrun_easy.h: calls that wait, over lockrun.h and lockrun_nodes.h. Plain C11, and C++11; nothing of it is proved.
  *
  * No thread runs the nodes: whoever waits turns them, one thread at a time for each node. A caller is used by one thread
- * at a time. A call waits at most `patience` milliseconds, or for ever if that is LOCKRUN_FOREVER. If the time is over it
- * answers LOCKRUN_WAITS: the command stays asked for, and lockrun_wait goes on waiting for its reply. Until then each
- * other call of the caller answers LOCKRUN_WAITS and does nothing.
+ * at a time. A call waits at most `patience` milliseconds, or for ever if that is LOCKRUN_FOREVER.
+ *
+ * Once the time of a lockrun_lock or a lockrun_change is over it gives up, and answers LOCKRUN_WITHDRAWN: then the caller
+ * asks for nothing, and holds what it held. If the time of another call is over it answers LOCKRUN_WAITS: the command stays
+ * asked for, and lockrun_wait goes on waiting for its reply, or lockrun_give_up gives it up. Until then each other call of
+ * the caller answers LOCKRUN_WAITS and does nothing. So it is too after LOCKRUN_NO_MEMORY and LOCKRUN_LOG_FULL of a node.
+ *
+ * In a script of version 2, if its text says so, calls that would have to give up answer LOCKRUN_BAD_ARGUMENT and ask for
+ * nothing.
  */
 #ifndef LOCKRUN_EASY_H
 #define LOCKRUN_EASY_H
-#include "lockrun.h"
-#include <sched.h>
-#include <stdlib.h>
-#include <string.h>
-#include <time.h>
-#ifdef __cplusplus
-#include <atomic>
-typedef std::atomic_flag lockrun_flag;
-#else
-#include <stdatomic.h>
-typedef atomic_flag lockrun_flag;
-#endif
+#include "lockrun_nodes.h"
 
 enum { LOCKRUN_WAITS = 32, LOCKRUN_FOREVER = -1 };
 
 /* How often a caller looks before it turns other nodes too, yields, and naps; and the longest nap, in nanoseconds. */
 enum { LOCKRUN_OWN = 2, LOCKRUN_SPINS = 20, LOCKRUN_YIELDS = 200, LOCKRUN_LONGEST_NAP = 1000000 };
 
-/* Nodes, and callers, are so many bytes apart that what different threads write lies in different lines of the caches. */
-enum { LOCKRUN_APART = 128 };
-
-typedef struct {
-    lockrun_station station;
-    lockrun_flag busy;
-    char apart[LOCKRUN_APART - sizeof(lockrun_station) - sizeof(lockrun_flag)];
-} lockrun_node;
-
-typedef struct {
-    size_t count;
-    lockrun_node *node;
-    lockrun_service service;
-    size_t callers;
-    struct lockrun_caller *caller;
-} lockrun_nodes;
-
-typedef struct lockrun_caller {
-    lockrun_session session;
-    lockrun_nodes *nodes;
-    uint64_t dropped; /* how many locks the last LOCKRUN_DROPPED was of */
-    uint32_t home;
-    int waits;
-    char apart[LOCKRUN_APART - sizeof(lockrun_session) - sizeof(lockrun_nodes *) - sizeof(uint64_t) - 2 * sizeof(uint32_t)];
-} lockrun_caller;
-
-/* One turn of a node, unless another thread is turning it. */
-static inline uint32_t lockrun_turn_node(lockrun_nodes *nodes, size_t place) {
-    lockrun_node *node = &nodes->node[place];
-    if (atomic_flag_test_and_set(&node->busy)) return LOCKRUN_NOTHING;
-    uint32_t code = lockrun_turn(&node->station);
-    atomic_flag_clear(&node->busy);
-    return code;
-}
+/* How long a caller pauses at most before it asks again for what was withheld, in milliseconds. */
+enum { LOCKRUN_LONGEST_PAUSE = 64 };
 
 static inline int lockrun_is_fault(uint32_t code) { return code == LOCKRUN_LOG_FULL || code == LOCKRUN_NO_MEMORY; }
 
@@ -94,17 +57,67 @@ static inline int lockrun_is_over(unsigned tries, int64_t patience, int64_t *end
     return lockrun_now() >= *end;
 }
 
+/* Has room for a further set in the list of those in which the caller has locks. */
+static inline uint32_t lockrun_reserve(lockrun_caller *caller) {
+    if (caller->holds < caller->room) return LOCKRUN_OK;
+    size_t room = caller->room ? 2 * caller->room : 4;
+    lockrun_held *grown = (lockrun_held *)realloc(caller->held, room * sizeof *grown);
+    if (!grown) return LOCKRUN_NO_MEMORY;
+    caller->held = grown;
+    caller->room = room;
+    return LOCKRUN_OK;
+}
+
+/* Where the set stands in that list, the last one first; behind all if it doesn't. */
+static inline size_t lockrun_place(lockrun_caller *caller, uint32_t set) {
+    for (size_t k = caller->holds; k > 0; k--)
+        if (caller->held[k - 1].set == set) return k - 1;
+    return caller->holds;
+}
+
+/* All locks of the family that a drop names are gone: if there are none but these, the list is empty. */
+static inline void lockrun_forget_family(lockrun_caller *caller, size_t place) {
+    uint64_t all = 0;
+    for (size_t k = 0; k < caller->holds; k++) all += caller->held[k].count;
+    if (caller->dropped >= all) caller->holds = 0;
+    else if (place < caller->holds) caller->held[place] = caller->held[--caller->holds];
+}
+
+/* Keeps what the reply to the caller's command says of its locks. */
+static inline void lockrun_keep(lockrun_caller *caller, uint32_t code) {
+    size_t place = lockrun_place(caller, caller->set);
+    if (code == LOCKRUN_GRANTED || (code == LOCKRUN_TRUE && caller->kind == LOCKRUN_TRY)) {
+        lockrun_held none = {caller->set, 0};
+        if (place == caller->holds) caller->held[caller->holds++] = none;
+        caller->held[place].count++;
+    } else if (code == LOCKRUN_UNLOCKED && place < caller->holds) {
+        if (--caller->held[place].count == 0) caller->held[place] = caller->held[--caller->holds];
+    } else if (code == LOCKRUN_DROPPED && caller->first == lockrun_client(&caller->session)) {
+        lockrun_forget_family(caller, place);
+    }
+}
+
+/* Takes the next reply, if there is one: whether it was the last that is to come. */
+static inline int lockrun_take_reply(lockrun_caller *caller) {
+    uint32_t code = lockrun_poll(&caller->session, &caller->dropped);
+    if (code == LOCKRUN_NOTHING) return 0;
+    if (caller->waits) {
+        caller->waits = 0;
+        caller->answer = code;
+        lockrun_keep(caller, code);
+    } else {
+        caller->withdraws = 0;
+    }
+    return !caller->withdraws;
+}
+
 /* Waits for the reply to what the caller asked: a lockrun_reply, LOCKRUN_WAITS, or what keeps a node from going on. */
 static inline uint32_t lockrun_wait(lockrun_caller *caller, int64_t patience) {
     int64_t end = 0;
-    if (!caller->waits) return LOCKRUN_NOTHING;
+    if (!caller->waits && !caller->withdraws) return LOCKRUN_NOTHING;
     for (unsigned tries = 0;; tries++) {
         uint32_t turned = lockrun_help(caller, tries);
-        uint32_t code = lockrun_poll(&caller->session, &caller->dropped);
-        if (code != LOCKRUN_NOTHING) {
-            caller->waits = 0;
-            return code;
-        }
+        if (lockrun_take_reply(caller)) return caller->answer;
         if (lockrun_is_fault(turned)) return turned;
         if (lockrun_is_over(tries, patience, &end)) return LOCKRUN_WAITS;
         lockrun_back_off(tries);
@@ -114,11 +127,57 @@ static inline uint32_t lockrun_wait(lockrun_caller *caller, int64_t patience) {
 /* Submits a command and waits for its reply: a lockrun_reply, or the code of what kept it from being submitted. */
 static inline uint32_t lockrun_call(lockrun_caller *caller, uint32_t kind, uint32_t set, uint32_t first, uint32_t second,
                                     int64_t patience) {
-    if (caller->waits) return LOCKRUN_WAITS;
-    uint32_t code = lockrun_submit(&caller->session, kind, set, first, second);
+    if (caller->waits || caller->withdraws) return LOCKRUN_WAITS;
+    uint32_t code = kind == LOCKRUN_LOCK || kind == LOCKRUN_TRY ? lockrun_reserve(caller) : (uint32_t)LOCKRUN_OK;
+    if (code == LOCKRUN_OK) code = lockrun_submit(&caller->session, kind, set, first, second);
     if (code != LOCKRUN_OK) return code; /* LOCKRUN_FULL never: all that was submitted before has its reply */
+    caller->kind = kind;
+    caller->set = set;
+    caller->first = first;
     caller->waits = 1;
     return lockrun_wait(caller, patience);
+}
+
+/* Gives up what the caller asked for and has no reply to: LOCKRUN_WITHDRAWN, or the reply that came first. LOCKRUN_NOTHING if
+ * it asked for nothing. It waits for no other client. */
+static inline uint32_t lockrun_give_up(lockrun_caller *caller) {
+    if (!caller->waits && !caller->withdraws) return LOCKRUN_NOTHING;
+    if (!caller->withdraws) {
+        uint32_t own = lockrun_client(&caller->session);
+        uint32_t code = lockrun_submit(&caller->session, LOCKRUN_WITHDRAW, caller->set, own, 0);
+        if (code != LOCKRUN_OK) return code;
+        caller->withdraws = 1;
+    }
+    return lockrun_wait(caller, LOCKRUN_FOREVER);
+}
+
+/* Turns the nodes for so many milliseconds: LOCKRUN_OK, or what keeps a node from going on. */
+static inline uint32_t lockrun_pause(lockrun_caller *caller, int64_t pause) {
+    int64_t end = lockrun_now() + pause;
+    for (unsigned tries = 0; lockrun_now() < end; tries++) {
+        uint32_t turned = lockrun_help(caller, tries);
+        if (lockrun_is_fault(turned)) return turned;
+        lockrun_back_off(tries);
+    }
+    return LOCKRUN_OK;
+}
+
+/* Asks for a lock or a change and gives up once the time is over. What the caller gave up before in the same set may still
+ * stand at another node; then it asks again, after pauses that grow. */
+static inline uint32_t lockrun_call_within(lockrun_caller *caller, uint32_t kind, uint32_t set, uint32_t first,
+                                           uint32_t second, int64_t patience) {
+    if (caller->waits || caller->withdraws) return LOCKRUN_WAITS;
+    if (patience >= 0 && !caller->nodes->gives_up) return LOCKRUN_BAD_ARGUMENT;
+    uint32_t code = lockrun_call(caller, kind, set, first, second, patience);
+    for (int64_t pause = 1; code == LOCKRUN_WITHHELD; pause = pause < LOCKRUN_LONGEST_PAUSE ? 2 * pause : pause) {
+        if (patience == 0) return LOCKRUN_WITHDRAWN;
+        int64_t nap = patience > 0 && patience < pause ? patience : pause;
+        if (patience > 0) patience -= nap;
+        code = lockrun_pause(caller, nap);
+        if (code == LOCKRUN_OK) code = lockrun_call(caller, kind, set, first, second, patience);
+    }
+    if (code == LOCKRUN_WAITS) code = lockrun_give_up(caller);
+    return code == LOCKRUN_WITHHELD ? (uint32_t)LOCKRUN_WITHDRAWN : code;
 }
 
 /* The number of the set with this name: LOCKRUN_OK or LOCKRUN_NOTHING. */
@@ -126,9 +185,26 @@ static inline uint32_t lockrun_find(lockrun_caller *caller, const char *name, ui
     return lockrun_set(&caller->session, (const uint8_t *)name, strlen(name), set);
 }
 
-/* LOCKRUN_GRANTED. */
+/* LOCKRUN_GRANTED; or LOCKRUN_WITHDRAWN, once the time is over or another client gave the wait up. */
 static inline uint32_t lockrun_lock(lockrun_caller *caller, uint32_t set, enum lockrun_mode mode, int64_t patience) {
+    return lockrun_call_within(caller, LOCKRUN_LOCK, set, mode, 0, patience);
+}
+
+/* LOCKRUN_CHANGED or LOCKRUN_NOT_HELD; or LOCKRUN_WITHDRAWN, and then it holds the old mode. */
+static inline uint32_t lockrun_change(lockrun_caller *caller, uint32_t set, enum lockrun_mode held, enum lockrun_mode mode,
+                                      int64_t patience) {
+    return lockrun_call_within(caller, LOCKRUN_CHANGE, set, held, mode, patience);
+}
+
+/* The same for a caller that goes on waiting: LOCKRUN_WAITS once the time is over. Only these may answer LOCKRUN_WITHHELD, on
+ * several nodes: what the caller gave up before in this set still stands. */
+static inline uint32_t lockrun_ask(lockrun_caller *caller, uint32_t set, enum lockrun_mode mode, int64_t patience) {
     return lockrun_call(caller, LOCKRUN_LOCK, set, mode, 0, patience);
+}
+
+static inline uint32_t lockrun_ask_change(lockrun_caller *caller, uint32_t set, enum lockrun_mode held,
+                                          enum lockrun_mode mode, int64_t patience) {
+    return lockrun_call(caller, LOCKRUN_CHANGE, set, held, mode, patience);
 }
 
 /* LOCKRUN_TRUE or LOCKRUN_FALSE. */
@@ -141,133 +217,29 @@ static inline uint32_t lockrun_unlock(lockrun_caller *caller, uint32_t set, enum
     return lockrun_call(caller, LOCKRUN_UNLOCK, set, mode, 0, patience);
 }
 
-/* LOCKRUN_CHANGED or LOCKRUN_NOT_HELD. */
-static inline uint32_t lockrun_change(lockrun_caller *caller, uint32_t set, enum lockrun_mode held, enum lockrun_mode mode,
-                                      int64_t patience) {
-    return lockrun_call(caller, LOCKRUN_CHANGE, set, held, mode, patience);
-}
-
 /* Drops the locks of a client of the same node in the set's family: LOCKRUN_DROPPED or LOCKRUN_BUSY. */
 static inline uint32_t lockrun_drop(lockrun_caller *caller, uint32_t set, uint32_t whose, int64_t patience) {
     return lockrun_call(caller, LOCKRUN_DROP, set, whose, 0, patience);
 }
 
-/* Frees all that isn't in use by another thread. */
-static inline void lockrun_nodes_free(lockrun_nodes *nodes) {
-    for (size_t k = 0; k < nodes->count; k++) if (nodes->node[k].station.at) lockrun_free(&nodes->node[k].station);
-    for (size_t k = 0; k < nodes->callers; k++) if (nodes->caller[k].session.at) lockrun_free(&nodes->caller[k].session);
-    if (nodes->service.at) lockrun_free(&nodes->service);
-    free(nodes->node);
-    free(nodes->caller);
-    memset(nodes, 0, sizeof *nodes);
+/* Gives up what another client of the same node waits for in the set: LOCKRUN_TRUE, or LOCKRUN_FALSE if it waits for nothing
+ * there. */
+static inline uint32_t lockrun_withdraw(lockrun_caller *caller, uint32_t set, uint32_t whose, int64_t patience) {
+    return lockrun_call(caller, LOCKRUN_WITHDRAW, set, whose, 0, patience);
 }
 
-/* Takes the next station, or the next session, into a list that grows by it. */
-static inline uint32_t lockrun_add_node(lockrun_nodes *nodes) {
-    lockrun_station station = {0};
-    uint32_t code = lockrun_take_station(&nodes->service, &station);
-    if (code != LOCKRUN_OK) return code;
-    lockrun_node *grown = (lockrun_node *)realloc((void *)nodes->node, (nodes->count + 1) * sizeof *grown);
-    if (!grown) { lockrun_free(&station); return LOCKRUN_NO_MEMORY; }
-    nodes->node = grown;
-    grown += nodes->count++;
-    grown->station = station;
-    atomic_flag_clear(&grown->busy);
-    return LOCKRUN_OK;
-}
-
-static inline uint32_t lockrun_add_caller(lockrun_nodes *nodes) {
-    lockrun_session session = {0};
-    uint32_t code = lockrun_take_session(&nodes->service, &session);
-    if (code != LOCKRUN_OK) return code;
-    lockrun_caller *grown = (lockrun_caller *)realloc(nodes->caller, (nodes->callers + 1) * sizeof *grown);
-    if (!grown) { lockrun_free(&session); return LOCKRUN_NO_MEMORY; }
-    nodes->caller = grown;
-    lockrun_caller caller = {session, nodes, 0, lockrun_home(&session), 0, {0}};
-    nodes->caller[nodes->callers++] = caller;
-    return LOCKRUN_OK;
-}
-
-/* Takes all stations and sessions of the service, if it was opened. */
-static inline uint32_t lockrun_nodes_begin(lockrun_nodes *nodes, uint32_t code) {
-    while (code == LOCKRUN_OK) code = lockrun_add_node(nodes);
-    if (code == LOCKRUN_NOTHING) code = LOCKRUN_OK;
-    while (code == LOCKRUN_OK) code = lockrun_add_caller(nodes);
-    if (code == LOCKRUN_NOTHING) return LOCKRUN_OK;
-    lockrun_nodes_free(nodes);
-    return code;
-}
-
-/* Opens all nodes of a script, with a caller for each client. `nodes` stays where it is until it is finished or freed. */
-static inline uint32_t lockrun_nodes_open(lockrun_nodes *nodes, const char *text, size_t length, uint64_t limit) {
-    memset(nodes, 0, sizeof *nodes);
-    return lockrun_nodes_begin(nodes, lockrun_open((const uint8_t *)text, length, limit, 4, &nodes->service));
-}
-
-/* The same with further sets. */
-static inline uint32_t lockrun_nodes_open_sets(lockrun_nodes *nodes, const char *text, size_t length,
-                                               const lockrun_new_set *sets, size_t count, uint64_t limit) {
-    memset(nodes, 0, sizeof *nodes);
-    const uint8_t *bytes = (const uint8_t *)text;
-    return lockrun_nodes_begin(nodes, lockrun_open_sets(bytes, length, sets, count, limit, 4, &nodes->service));
-}
-
-/* Lets all nodes make turns until none of them makes a move in two turns. */
-static inline void lockrun_nodes_rest(lockrun_nodes *nodes) {
-    for (int quiet = 0; quiet < 2; quiet++)
-        for (size_t k = 0; k < nodes->count; k++)
-            if (lockrun_turn_node(nodes, k) == LOCKRUN_OK) quiet = -1;
-}
-
-/* Gives all stations and sessions back, in order. */
-static inline uint32_t lockrun_nodes_give(lockrun_nodes *nodes) {
-    uint32_t code = LOCKRUN_OK;
-    for (size_t k = 0; k < nodes->count && code == LOCKRUN_OK; k++)
-        code = lockrun_give(&nodes->service, &nodes->node[k].station);
-    for (size_t k = 0; k < nodes->callers && code == LOCKRUN_OK; k++)
-        code = lockrun_give(&nodes->service, &nodes->caller[k].session);
-    return code;
-}
-
-/* Takes those again that were given back. */
-static inline uint32_t lockrun_nodes_take(lockrun_nodes *nodes) {
-    uint32_t code = LOCKRUN_OK;
-    for (size_t k = 0; k < nodes->count && code == LOCKRUN_OK; k++)
-        if (!nodes->node[k].station.at) code = lockrun_take_station(&nodes->service, &nodes->node[k].station);
-    for (size_t k = 0; k < nodes->callers && code == LOCKRUN_OK; k++)
-        if (!nodes->caller[k].session.at) code = lockrun_take_session(&nodes->service, &nodes->caller[k].session);
-    return code;
-}
-
-/* How many commands all callers submitted so far, and how many replies they polled, while no other thread is in a call.
- * After LOCKRUN_NO_MEMORY no other call is made until this one, made again, answers LOCKRUN_OK; or the nodes are freed. */
-static inline uint32_t lockrun_nodes_served(lockrun_nodes *nodes, size_t *submitted, size_t *polled) {
-    uint32_t code = lockrun_nodes_take(nodes);
-    if (code == LOCKRUN_OK) code = lockrun_nodes_give(nodes);
-    if (code == LOCKRUN_OK) code = lockrun_served(&nodes->service, submitted, polled);
-    uint32_t taken = lockrun_nodes_take(nodes);
-    return code == LOCKRUN_OK ? taken : code;
-}
-
-/* Lets each node forget its moves and commands; then they have no journal. Other threads may be in calls. */
-static inline uint32_t lockrun_nodes_forget(lockrun_nodes *nodes) {
-    uint32_t code = LOCKRUN_OK;
-    for (size_t k = 0; k < nodes->count; k++) {
-        lockrun_node *node = &nodes->node[k];
-        while (atomic_flag_test_and_set(&node->busy)) sched_yield();
-        uint32_t forgot = lockrun_forget(&node->station);
-        atomic_flag_clear(&node->busy);
-        if (forgot != LOCKRUN_OK) code = forgot;
+/* Gives up what the caller waits for, and then drops all locks that it was granted, family by family: LOCKRUN_DROPPED, and
+ * `dropped` says how many they were; or what kept it from that, and then it can be called again. */
+static inline uint32_t lockrun_abort(lockrun_caller *caller) {
+    uint32_t own = lockrun_client(&caller->session), code = lockrun_give_up(caller);
+    uint64_t all = 0;
+    if (caller->waits || caller->withdraws) return code;
+    while (caller->holds > 0) {
+        code = lockrun_drop(caller, caller->held[caller->holds - 1].set, own, LOCKRUN_FOREVER);
+        if (code != LOCKRUN_DROPPED) return code;
+        all += caller->dropped;
     }
-    return code;
-}
-
-/* Ends the nodes, while no other thread is in a call: the journal of their run. */
-static inline uint32_t lockrun_nodes_finish(lockrun_nodes *nodes, lockrun_journal *journal) {
-    lockrun_nodes_rest(nodes);
-    uint32_t code = lockrun_nodes_give(nodes);
-    if (code == LOCKRUN_OK) code = lockrun_finish(&nodes->service, journal);
-    lockrun_nodes_free(nodes);
-    return code;
+    caller->dropped = all;
+    return LOCKRUN_DROPPED;
 }
 #endif

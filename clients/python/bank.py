@@ -67,7 +67,7 @@ def compare(nodes, commands):
 def audit(session):
     """No intention to write goes with a read of the whole bank. It is asked for with little patience, and waited for."""
     try:
-        bank = session.lock('bank', 'read', 0)
+        bank = session.ask('bank', 'read', 0)
     except StillWaits:
         bank = session.wait(60)
     with bank:

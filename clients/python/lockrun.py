@@ -1,7 +1,11 @@
 """Sessions of the lock service for Python, by ctypes.
 
-LOCKRUN_LIBRARY names the shared object; clients/run says how it is linked. No thread runs the nodes: whoever waits turns
-them, one thread at a time for each node. A session is used by one thread at a time.
+LOCKRUN_LIBRARY names the shared object; else it lies beside this file, as in the wheel, or where the system looks for it. No
+thread runs the nodes: whoever waits turns them, one thread at a time for each node. A session is used by one thread at a time.
+
+A call with a timeout, in seconds, gives up once the time is over: it raises Withdrawn, and then the session asks for nothing and
+holds what it held. Only version 3 of scripts knows how to give up: its line is put before a script that has no line of a version.
+In version 2, if the script says so, such a call raises LockError.
 
     nodes = Nodes('nodes 1\\nset counter\\nclient ann at 0\\n')
     with nodes.session('ann').lock('counter', 'write'):
@@ -16,12 +20,16 @@ from ctypes import POINTER, c_size_t, c_uint8, c_uint32, c_uint64
 
 OK, NOTHING, WRONG_HANDLE, NO_MEMORY, BAD_ARGUMENT, BAD_SCRIPT, SPENT, FULL, LOG_FULL, FORGOTTEN, TOO_MANY, BAD_SET = \
     range(12)
-LOCK, TRY, UNLOCK, CHANGE, DROP = range(5)
-GRANTED, TRUE, FALSE, UNLOCKED, NOT_HELD, CHANGED, DROPPED, BUSY = range(16, 24)
+LOCK, TRY, UNLOCK, CHANGE, DROP, WITHDRAW = range(6)
+GRANTED, TRUE, FALSE, UNLOCKED, NOT_HELD, CHANGED, DROPPED, BUSY, WITHDRAWN, WITHHELD = range(16, 26)
 MODES = ('intention_read', 'read', 'upgrade', 'intention_write', 'read_intention_write', 'write')
+
+SHARED = 'liblockrun.so.1'
 
 # After so many looks a caller turns other nodes too, and naps; and the longest nap, in seconds.
 OWN, SPINS, LONGEST_NAP = 2, 20, 0.001
+# How long it pauses before it asks again for what was withheld, in seconds: at first, and at most.
+FIRST_PAUSE, LONGEST_PAUSE = 0.001, 0.064
 
 FAULTS = {
     NO_MEMORY: 'out of memory',
@@ -34,6 +42,7 @@ FAULTS = {
     BAD_SET: 'a further set has no new name, or its parent is no set before it',
     NOT_HELD: "the client doesn't hold this mode",
     BUSY: 'the client whose locks should be dropped waits',
+    WITHHELD: 'what the client gave up in this set still stands',
 }
 
 
@@ -84,7 +93,18 @@ class LockError(Exception):
 
 
 class StillWaits(Exception):
-    """The time is over, and the lock is still asked for: `Session.wait` goes on waiting."""
+    """The time is over, and the lock is still asked for: `Session.wait` goes on waiting, and `Session.give_up` gives it up."""
+
+
+class Withdrawn(TimeoutError):
+    """The wait was given up, since its time is over or another client gave it up. The session asks for nothing, and holds what
+    it held."""
+
+
+def library_path():
+    """The shared object, by its path or its name."""
+    beside = os.path.join(os.path.dirname(os.path.abspath(__file__)), SHARED)
+    return os.environ.get('LOCKRUN_LIBRARY') or (beside if os.path.exists(beside) else SHARED)
 
 
 def load(path):
@@ -108,6 +128,18 @@ def numbered(script):
     return {words[1]: number for number, words in enumerate(words for words in lines if words[:1] == ['client'])}
 
 
+def version(script):
+    """The number of the script's version, by its first line that isn't skipped."""
+    lines = (line.split() for line in script.splitlines())
+    first = next((words for words in lines if words and not words[0].startswith('#')), [])
+    return 1 if first[:1] != ['version'] else 3 if first[1:] == ['3'] else 2
+
+
+def fault_of(code):
+    """The error that a reply stands for."""
+    return Withdrawn() if code == WITHDRAWN else LockError(code)
+
+
 def bytes_of(text):
     """The bytes of a text for C, and how many they are."""
     data = text.encode()
@@ -125,10 +157,11 @@ class Nodes:
     have no journal."""
 
     def __init__(self, script, limit=1 << 40, library=None, sets=()):
-        self.library = load(library or os.environ['LOCKRUN_LIBRARY'])
+        self.library = load(library or library_path())
         self.clients = numbered(script)
         self.service, more = Handle(), new_sets(sets)
-        said(self.library.lockrun_open_sets(*bytes_of(script), more, len(more), limit, 4, self.service))
+        whole, self.gives_up = 'version 3\n' * (version(script) == 1) + script, version(script) != 2
+        said(self.library.lockrun_open_sets(*bytes_of(whole), more, len(more), limit, 4, self.service))
         self.stations = [(station, threading.Lock()) for station in self._all(self.library.lockrun_take_station)]
         self.sessions = [Session(self, session) for session in self._all(self.library.lockrun_take_session)]
 
@@ -228,8 +261,11 @@ class Session:
 
     def __init__(self, nodes, handle):
         self.nodes, self.handle = nodes, handle
-        # Whether a reply is still to come, and the lock that it is to grant, if the command asked for one.
-        self.waits, self.asked = False, None
+        # The command whose reply is still to come, whether that to a withdraw of it is to come too, and the reply to the command
+        # where only that to the withdraw is.
+        self.asked, self.withdraws, self.answer = None, False, None
+        # The sets in which the client has locks, and how many; and how often it dropped all.
+        self.held, self.aborts = {}, 0
         # The numbers of sets that were named here before.
         self.sets = {}
         self.home = nodes.library.lockrun_home(handle)
@@ -248,21 +284,37 @@ class Session:
             self.sets[name] = number.value
         return self.sets[name]
 
-    def lock(self, name, mode, patience=None):
-        """Waits until the lock is granted, or for so many seconds; then StillWaits is raised."""
+    def lock(self, name, mode, timeout=None):
+        """Waits until the lock is granted, or for so many seconds; then it gives up, and Withdrawn is raised. No exception leaves
+        the lock asked for."""
+        code = self._within(timeout, LOCK, name, MODES.index(mode))
+        if code != GRANTED:
+            raise fault_of(code)
+        return Guard(self, name, mode)
+
+    def ask(self, name, mode, patience=None):
+        """Waits for so many seconds, for callers that go on waiting: after StillWaits the lock is still asked for. `wait` goes on
+        waiting for it, `give_up` gives it up, and until then no other call does anything."""
         self._submit(LOCK, name, MODES.index(mode))
-        self.asked = Guard(self, name, mode)
         return self.wait(patience)
 
     def wait(self, patience=None):
         """Goes on waiting for the lock that was asked for."""
-        if self.asked is None:
-            raise LockError(NOTHING)
+        name, mode = self._asked_lock()
         code, _ = self._reply(patience)
-        guard, self.asked = self.asked, None
+        if code != GRANTED:
+            raise fault_of(code)
+        return Guard(self, name, mode)
+
+    def give_up(self):
+        """Gives up the lock that was asked for: None, or the guard if it was granted first. It waits for no other client."""
+        name, mode = self._asked_lock()
+        code, _ = self._give_up()
+        if code in (WITHDRAWN, WITHHELD):
+            return None
         if code != GRANTED:
             raise LockError(code)
-        return guard
+        return Guard(self, name, mode)
 
     def try_lock(self, name, mode):
         """Has the lock at once, or None."""
@@ -276,50 +328,181 @@ class Session:
             raise LockError(code)
         return count
 
+    def withdraw(self, name, whose):
+        """Gives up what another client of the same node waits for in the set: whether it waited there. Its call raises
+        Withdrawn."""
+        code, _ = self._call(WITHDRAW, name, self.nodes.clients[whose])
+        if code not in (TRUE, FALSE):
+            raise LockError(code)
+        return code == TRUE
+
+    def abort(self):
+        """Gives up what it waits for, and then drops all its locks, family by family: how many they were. Guards of before do
+        nothing at their end."""
+        self._end_ask()
+        count = 0
+        while self.held:
+            count += self._call(DROP, next(reversed(self.held)), self.client)[1]
+        self.aborts += 1
+        return count
+
+    def _asked_lock(self):
+        """The name and the mode of the lock that was asked for."""
+        if self.asked is None or self.asked[0] != LOCK:
+            raise LockError(NOTHING)
+        return self.asked[1], MODES[self.asked[2]]
+
     def _submit(self, kind, name, first, second=0):
-        if self.waits:
+        if self.asked is not None:
             raise StillWaits
-        said(self.nodes.library.lockrun_submit(self.handle, kind, self.number(name), first, second))
-        self.waits = True
+        number, left = self.number(name), self.left()
+        try:
+            said(self.nodes.library.lockrun_submit(self.handle, kind, number, first, second))
+        finally:
+            # An exception that came in between, such as one of the keyboard, may have come before the call or after it.
+            if self.left() < left:
+                self.asked = kind, name, first
 
     def _call(self, kind, name, first, second=0):
-        """A call that nobody can go on with later. A turn without memory loses nothing, so it is made again."""
+        """A call that waits for no other client."""
         self._submit(kind, name, first, second)
+        return self._reply(None)
+
+    def _within(self, timeout, kind, name, first, second=0):
+        """Asks for a lock or a change, and gives up once the time is over. What was given up before in the same set may still stand
+        at another node; then it asks again, after pauses that grow."""
+        if self.asked is not None:
+            raise StillWaits
+        if timeout is not None and not self.nodes.gives_up:
+            raise LockError(BAD_ARGUMENT)
+        end, pause = None if timeout is None else time.monotonic() + timeout, FIRST_PAUSE
         while True:
+            code = self._reply_or_give_up(end, kind, name, first, second)
+            if code != WITHHELD:
+                return code
+            if end is not None and time.monotonic() >= end:
+                return WITHDRAWN
+            self._pause(pause if end is None else min(pause, end - time.monotonic()))
+            pause = min(2 * pause, LONGEST_PAUSE)
+
+    def _reply_or_give_up(self, end, kind, name, first, second):
+        """The reply to the command, which is given up once the time is over."""
+        try:
+            self._submit(kind, name, first, second)
             try:
-                return self._reply(None)
-            except LockError as error:
-                if error.code != NO_MEMORY:
-                    raise
-            time.sleep(LONGEST_NAP)
+                return self._reply_until(end)[0]
+            except StillWaits:
+                return self._give_up()[0]
+        except BaseException:
+            self._end_ask()
+            raise
+
+    def _give_up(self):
+        """Gives up the command whose reply is still to come: the reply, which may have come first. Turns of the own node give it."""
+        if not self.withdraws:
+            number, left = self.number(self.asked[1]), self.left()
+            try:
+                said(self.nodes.library.lockrun_submit(self.handle, WITHDRAW, number, self.client, 0))
+            finally:
+                self.withdraws = self.left() < left
+        tries = 0
+        while True:
+            self._turn(self.nodes.turn, self.home)
+            if (reply := self._take_reply()) is not None:
+                return reply
+            tries = back_off(tries)
+
+    def _end_ask(self):
+        """Gives up what is asked for, if anything is; and a lock that was granted first is unlocked."""
+        if self.asked is None:
+            return
+        _, name, mode = self.asked
+        if self._give_up()[0] == GRANTED:
+            self._call(UNLOCK, name, mode)
 
     def _reply(self, patience):
-        end = None if patience is None else time.monotonic() + patience
-        count, tries = c_uint64(), 0
+        return self._reply_until(None if patience is None else time.monotonic() + patience)
+
+    def _reply_until(self, end):
+        tries = 0
         while True:
-            self.nodes.turn(self.home) if tries < OWN else self.nodes.turn_all()
-            code = self.nodes.library.lockrun_poll(self.handle, count)
-            if code != NOTHING:
-                self.waits = False
-                return code, count.value
+            self._help(tries)
+            if (reply := self._take_reply()) is not None:
+                return reply
             if tries >= OWN and end is not None and time.monotonic() >= end:
                 raise StillWaits
-            if tries >= SPINS:
-                time.sleep(min(LONGEST_NAP, (tries - SPINS) * 1e-6))
-            tries += 1
+            tries = back_off(tries)
+
+    def _take_reply(self):
+        """Takes the next reply, if there is one: that to the command, once all have come."""
+        count = c_uint64()
+        code = self.nodes.library.lockrun_poll(self.handle, count)
+        if code == NOTHING:
+            return None
+        if self.answer is None:
+            self.answer = code, count.value
+            self._keep(code, count.value)
+        else:
+            self.withdraws = False
+        if self.withdraws:
+            return None
+        reply, self.answer, self.asked = self.answer, None, None
+        return reply
+
+    def _keep(self, code, count):
+        """Keeps what a reply says of the client's locks."""
+        kind, name, first = self.asked
+        if code == GRANTED or (code == TRUE and kind == TRY):
+            self.held[name] = self.held.get(name, 0) + 1
+        elif code == UNLOCKED and self.held.get(name, 0) > 1:
+            self.held[name] -= 1
+        elif code == UNLOCKED or (code == DROPPED and first == self.client):
+            if code == DROPPED and count >= sum(self.held.values()):
+                self.held.clear()
+            self.held.pop(name, None)
+
+    def _pause(self, pause):
+        """Turns the nodes for so many seconds."""
+        end, tries = time.monotonic() + pause, 0
+        while time.monotonic() < end:
+            self._help(tries)
+            tries = back_off(tries)
+
+    def _help(self, tries):
+        if tries < OWN:
+            self._turn(self.nodes.turn, self.home)
+        else:
+            self._turn(self.nodes.turn_all)
+
+    @staticmethod
+    def _turn(turn, *node):
+        """Turns; want of memory loses nothing, so the turn is made again."""
+        try:
+            turn(*node)
+        except LockError as error:
+            if error.code != NO_MEMORY:
+                raise
+
+
+def back_off(tries):
+    """Naps after some tries, and counts them."""
+    if tries >= SPINS:
+        time.sleep(min(LONGEST_NAP, (tries - SPINS) * 1e-6))
+    return tries + 1
 
 
 class Guard:
     """A lock that a session holds: a context manager that gives it up."""
 
     def __init__(self, session, name, mode):
-        self.session, self.name, self.mode = session, name, mode
+        self.session, self.name, self.mode, self.aborts = session, name, mode, session.aborts
 
-    def change(self, mode):
-        """Changes the mode. It waits until the new one goes with what others hold."""
-        code, _ = self.session._call(CHANGE, self.name, MODES.index(self.mode), MODES.index(mode))
+    def change(self, mode, timeout=None):
+        """Changes the mode. It waits until the new one goes with what others hold, or for so many seconds; then it gives up, and
+        Withdrawn is raised. After an exception it has the mode that it had."""
+        code = self.session._within(timeout, CHANGE, self.name, MODES.index(self.mode), MODES.index(mode))
         if code != CHANGED:
-            raise LockError(code)
+            raise fault_of(code)
         self.mode = mode
 
     def unlock(self):
@@ -332,4 +515,6 @@ class Guard:
         return self
 
     def __exit__(self, *_):
-        self.unlock()
+        if self.aborts == self.session.aborts:
+            self.session._end_ask()
+            self.unlock()

@@ -20,7 +20,7 @@ def asked(nodes, handle):
 def wait_a_little(session):
     """Whether the client still waits for its lock."""
     try:
-        session.lock('a', 'write', 0)
+        session.ask('a', 'write', 0)
     except StillWaits:
         return True
     return False

@@ -21,7 +21,12 @@ pub enum Error {
     NotHeld,
     /// The client whose locks should be dropped waits.
     Busy,
-    /// The time is over, and the command is still asked for: `Session::wait` goes on waiting.
+    /// The wait was given up, since its time is over or another client gave it up. The session asks for nothing, and holds what it
+    /// held.
+    Withdrawn,
+    /// What the session gave up before in this set still stands at another node: `Session::ask` again later.
+    Withheld,
+    /// The time is over, and the lock is still asked for: `Session::wait` goes on waiting, and `Session::give_up` gives it up.
     StillWaits,
     /// Nothing is asked for.
     NothingAsked,
@@ -41,6 +46,8 @@ impl Error {
             exports::BAD_SET => Error::BadSet,
             exports::NOT_HELD => Error::NotHeld,
             exports::BUSY => Error::Busy,
+            exports::WITHDRAWN => Error::Withdrawn,
+            exports::WITHHELD => Error::Withheld,
             _ => Error::BadArgument,
         }
     }
@@ -59,6 +66,8 @@ impl fmt::Display for Error {
             Error::BadSet => "a further set has no new name, or its parent is no set before it",
             Error::NotHeld => "the client doesn't hold this mode",
             Error::Busy => "the client whose locks should be dropped waits",
+            Error::Withdrawn => "the wait was given up",
+            Error::Withheld => "what the client gave up in this set still stands",
             Error::StillWaits => "the client still waits",
             Error::NothingAsked => "the client asked for nothing",
             Error::OtherSessions => "these are not all sessions of the nodes",

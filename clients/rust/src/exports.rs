@@ -24,7 +24,13 @@ pub struct NewSet {
 extern "C" {
     pub fn lockrun_open(text: *const u8, length: usize, limit: u64, places: u32, service: *mut Handle) -> u32;
     pub fn lockrun_open_sets(
-        text: *const u8, length: usize, sets: *const NewSet, count: usize, limit: u64, places: u32, service: *mut Handle,
+        text: *const u8,
+        length: usize,
+        sets: *const NewSet,
+        count: usize,
+        limit: u64,
+        places: u32,
+        service: *mut Handle,
     ) -> u32;
     pub fn lockrun_take_station(service: *mut Handle, station: *mut Handle) -> u32;
     pub fn lockrun_take_session(service: *mut Handle, session: *mut Handle) -> u32;
@@ -80,6 +86,7 @@ pub const TRY: u32 = 1;
 pub const UNLOCK: u32 = 2;
 pub const CHANGE: u32 = 3;
 pub const DROP: u32 = 4;
+pub const WITHDRAW: u32 = 5;
 
 pub const GRANTED: u32 = 16;
 pub const TRUE: u32 = 17;
@@ -89,3 +96,5 @@ pub const NOT_HELD: u32 = 20;
 pub const CHANGED: u32 = 21;
 pub const DROPPED: u32 = 22;
 pub const BUSY: u32 = 23;
+pub const WITHDRAWN: u32 = 24;
+pub const WITHHELD: u32 = 25;

@@ -3,13 +3,17 @@
 //! their own.
 //!
 //! No thread runs the nodes: whoever waits turns them, one thread at a time for each node.
+#![doc = include_str!("../README.md")]
 #![deny(unsafe_op_in_unsafe_fn)]
 
 mod error;
 mod exports;
+mod guard;
 mod nodes;
 mod session;
+mod waiting;
 
 pub use error::Error;
+pub use guard::Guard;
 pub use nodes::{open, open_sets, Journal, NewSet, Nodes, Served};
-pub use session::{Guard, Mode, Session};
+pub use session::{Mode, Session};

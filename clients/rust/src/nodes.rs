@@ -1,7 +1,8 @@
 //! Nodes: opened, turned by whoever waits, and finished.
 use crate::error::{check, Error};
 use crate::exports::{self, Handle};
-use crate::session::{Session, LONGEST_NAP};
+use crate::session::Session;
+use crate::waiting::LONGEST_NAP;
 use std::sync::{Arc, Mutex, MutexGuard, TryLockError};
 use std::thread::sleep;
 
@@ -49,14 +50,33 @@ pub struct NewSet<'a> {
 
 /// Opens the script's nodes, sets and clients: its nodes, and a session for each client, in order. Each node makes at most
 /// `limit` moves.
+///
+/// The script is of version 3, which alone knows how to give up a wait: its line is put before a script that has no line of a
+/// version. In version 2, if the script says so, a call that would have to give up is a `BadArgument`.
+///
+/// ```
+/// let (_nodes, sessions) = lockrun::open("nodes 1\nset a\nclient ann at 0\n", 1 << 20)?;
+/// assert_eq!(sessions.len(), 1);
+/// # Ok::<(), lockrun::Error>(())
+/// ```
 pub fn open(script: &str, limit: u64) -> Result<(Nodes, Vec<Session>), Error> {
     open_sets(script, &[], limit)
 }
 
 /// The same with further sets behind those of the script, at most 65,536 with these. If they are more than 8 the nodes have no
 /// journal.
+///
+/// ```
+/// # use lockrun::{open_sets, NewSet};
+/// let rows = [NewSet { name: "row", parent: Some("table") }];
+/// let (_nodes, mut sessions) = open_sets("nodes 1\nset table\nclient ann at 0\n", &rows, 1 << 20)?;
+/// assert_eq!(sessions[0].set("row"), Some(1));
+/// # Ok::<(), lockrun::Error>(())
+/// ```
 pub fn open_sets(script: &str, sets: &[NewSet<'_>], limit: u64) -> Result<(Nodes, Vec<Session>), Error> {
     let sets: Vec<exports::NewSet> = sets.iter().map(new_set).collect();
+    let version = version(script);
+    let script = if version == 1 { format!("version 3\n{script}") } else { script.into() };
     let (text, length, mut service) = (script.as_ptr(), script.len(), Handle::NONE);
     // SAFETY: the text and the names are borrowed for the call, and the handle stands for nothing.
     check(unsafe { exports::lockrun_open_sets(text, length, sets.as_ptr(), sets.len(), limit, 4, &mut service) })?;
@@ -64,7 +84,19 @@ pub fn open_sets(script: &str, sets: &[NewSet<'_>], limit: u64) -> Result<(Nodes
     let sessions = take_all(&mut service, exports::lockrun_take_session)?;
     let stations = Arc::new(Stations(stations.into_iter().map(Mutex::new).map(Station).collect()));
     let nodes = Nodes { service, stations: stations.clone(), clients: sessions.len() };
-    Ok((nodes, sessions.into_iter().map(|raw| Session::new(raw, stations.clone())).collect()))
+    Ok((nodes, sessions.into_iter().map(|raw| Session::new(raw, stations.clone(), version != 2)).collect()))
+}
+
+// The number of the script's version, by its first line that isn't skipped.
+fn version(script: &str) -> u32 {
+    let mut lines = script.lines().map(str::split_whitespace);
+    let first =
+        lines.find_map(|mut words| words.next().filter(|word| !word.starts_with('#')).map(|word| (word, words.next())));
+    match first {
+        Some(("version", Some("3"))) => 3,
+        Some(("version", _)) => 2,
+        _ => 1,
+    }
 }
 
 // The same for C, where a parent of no bytes is none.
@@ -115,6 +147,14 @@ impl Stations {
 impl Nodes {
     /// Lets each node forget its moves and commands: their memory serves further ones. Then they have no journal. Other
     /// threads may be in calls. Want of memory loses nothing.
+    ///
+    /// ```
+    /// # use lockrun::Mode;
+    /// # let (mut nodes, mut sessions) = lockrun::open("nodes 1\nset a\nset b\nclient ann at 0\nclient ben at 0\n", 1 << 20)?;
+    /// drop(sessions[0].lock(0, Mode::Write)?);
+    /// nodes.forget()?;
+    /// # Ok::<(), lockrun::Error>(())
+    /// ```
     pub fn forget(&self) -> Result<(), Error> {
         self.stations.0.iter().try_for_each(|station| {
             // SAFETY: the lock gives the handle to one call at a time.
@@ -124,6 +164,14 @@ impl Nodes {
 
     /// What all sessions were served so far: there is a run in which they were served so, and the nodes go on. It borrows all
     /// sessions that were opened with them, in any order.
+    ///
+    /// ```
+    /// # use lockrun::{Mode, Served};
+    /// # let (mut nodes, mut sessions) = lockrun::open("nodes 1\nset a\nset b\nclient ann at 0\nclient ben at 0\n", 1 << 20)?;
+    /// drop(sessions[0].lock(0, Mode::Write)?);
+    /// assert_eq!(nodes.served(&mut sessions)?, Served { submitted: 2, polled: 2 });
+    /// # Ok::<(), lockrun::Error>(())
+    /// ```
     pub fn served(&mut self, sessions: &mut [Session]) -> Result<Served, Error> {
         let mut sessions: Vec<&mut Session> = sessions.iter_mut().collect();
         sessions.sort_by_key(|session| session.client());
@@ -148,14 +196,22 @@ impl Nodes {
 
     // Whether these, which are in the order of clients, are all sessions that were opened with the nodes.
     fn are_all<'s>(&self, sessions: impl ExactSizeIterator<Item = &'s Session>) -> bool {
-        let is_own = |(client, session): (usize, &Session)| {
-            session.is_of(&self.stations) && session.client() as usize == client
-        };
+        let is_own =
+            |(client, session): (usize, &Session)| session.is_of(&self.stations) && session.client() as usize == client;
         sessions.len() == self.clients && sessions.enumerate().all(is_own)
     }
 
     /// Lets all nodes make turns until none makes a move, and ends them. It takes all sessions that were opened with them,
     /// in any order. If these aren't they, or an error comes, all is dropped.
+    ///
+    /// ```
+    /// # use lockrun::Mode;
+    /// # let (mut nodes, mut sessions) = lockrun::open("nodes 1\nset a\nset b\nclient ann at 0\nclient ben at 0\n", 1 << 20)?;
+    /// drop(sessions[0].lock(0, Mode::Write)?);
+    /// let journal = nodes.finish(sessions)?;
+    /// assert_eq!((journal.held, journal.waiting), (0, 0));
+    /// # Ok::<(), lockrun::Error>(())
+    /// ```
     pub fn finish(mut self, mut sessions: Vec<Session>) -> Result<Journal, Error> {
         sessions.sort_by_key(Session::client);
         if !self.are_all(sessions.iter()) {
@@ -163,7 +219,7 @@ impl Nodes {
         }
         while self.stations.turn_all()? | self.stations.turn_all()? {}
         let sessions: Vec<Handle> = sessions.into_iter().map(Session::into_handle).collect();
-        let stations = Arc::into_inner(self.stations).ok_or(Error::OtherSessions)?;
+        let stations = Arc::try_unwrap(self.stations).map_err(|_| Error::OtherSessions)?;
         for station in stations.0 {
             let mut station = station.0.into_inner().unwrap_or_else(|poisoned| poisoned.into_inner());
             give(&mut self.service, &mut station)?;
@@ -210,10 +266,7 @@ fn finish(mut service: Handle) -> Result<Journal, Error> {
     Ok(Journal { script, text, held, waiting })
 }
 
-fn text(
-    journal: &mut Handle,
-    copy: unsafe extern "C" fn(*mut Handle, usize, *mut u8, usize) -> usize,
-) -> Vec<u8> {
+fn text(journal: &mut Handle, copy: unsafe extern "C" fn(*mut Handle, usize, *mut u8, usize) -> usize) -> Vec<u8> {
     let (mut whole, mut part) = (Vec::new(), [0; 4096]);
     loop {
         // SAFETY: the journal stands for something, and the part has so many bytes.

@@ -87,7 +87,7 @@ fn compare(nodes: &mut Nodes, sessions: &mut [Session], commands: usize) -> Resu
 
 // No intention to write goes with a read of the whole bank. It is asked for with little patience, and waited for.
 fn audit(session: &mut Session, money: &Money) -> Result<i64, Error> {
-    match session.lock_within(BANK, Mode::Read, Duration::ZERO) {
+    match session.ask(BANK, Mode::Read, Duration::ZERO) {
         Ok(_bank) => return Ok(add_up(money)),
         Err(Error::StillWaits) => {}
         Err(error) => return Err(error),

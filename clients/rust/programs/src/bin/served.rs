@@ -6,7 +6,7 @@ use std::time::Duration;
 fn forgetful(script: &str) -> Result<(), Error> {
     let (mut nodes, mut sessions) = open(script, 1 << 20)?;
     std::mem::forget(sessions[0].lock(0, Mode::Read)?);
-    assert_eq!(sessions[1].lock_within(0, Mode::Write, Duration::ZERO).err(), Some(Error::StillWaits));
+    assert_eq!(sessions[1].ask(0, Mode::Write, Duration::ZERO).err(), Some(Error::StillWaits));
     nodes.forget()?;
     assert_eq!(nodes.served(&mut sessions)?, Served { submitted: 2, polled: 1 });
     assert_eq!(sessions[0].drop_locks(0, 0)?, 1);
@@ -44,7 +44,7 @@ fn main() -> Result<(), Error> {
     assert_eq!(nodes.served(&mut others), Err(Error::OtherSessions));
     let [ann, ben] = sessions.as_mut_slice() else { unreachable!("two clients") };
     std::mem::forget(ann.lock(0, Mode::Read)?);
-    assert_eq!(ben.lock_within(0, Mode::Write, Duration::ZERO).err(), Some(Error::StillWaits));
+    assert_eq!(ben.ask(0, Mode::Write, Duration::ZERO).err(), Some(Error::StillWaits));
     sessions.reverse();
     assert_eq!(nodes.served(&mut sessions)?, Served { submitted: 2, polled: 1 });
     assert_eq!(sessions[1].drop_locks(0, 0)?, 1);
