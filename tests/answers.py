@@ -2,6 +2,7 @@
 """Runs the proved programs on small inputs, and compares what they write, their statuses and the first line of standard
 error. The answers are by the rules, or by a program that was written apart. What `check` reads comes to it in small pieces
 too, and journals also with each line exchanged for another. It prints how many calls were made."""
+import json
 import subprocess
 import sys
 from pathlib import Path
@@ -300,7 +301,18 @@ SCRIPTS = [
     ('# \1\r?\nnodes 1\n', None),
     ('nodes 1\nset s\nclient a at 0\na lock s read_intention_write\n', 'line 4: S10'),
     ('version 2\nnodes 1\nset s\nclient a at 0\na lock s read_intention_write\na unlock s read_intention_write\n', None),
-    ('version 3\nnodes 1\n', 'line 1: S3'),
+    ('version 3\nnodes 1\nset s\nclient a at 0\na withdraw a s\na lock s read_intention_write\n', None),
+    ('version 3\nnodes 1\nset s\nclient a at 0\na withdraw b s\n', 'line 5: S8'),
+    ('version 3\nnodes 2\nset s\nclient a at 0\nclient b at 1\na withdraw b s\n', 'line 6: S11'),
+    ('version 3\nnodes 1\nset s\nclient a at 0\na withdraw s\n', 'line 5: S3'),
+    ('version 2\nnodes 1\nset s\nclient a at 0\na withdraw a s\n', 'line 5: S3'),
+    ('nodes 1\nset s\nclient a at 0\na withdraw a s\n', 'line 4: S3'),
+    ('version 3\nnodes 1\nversion 3\n', 'line 3: S5'),
+    ('version 3\nnodes 1\nversion 2\n', 'line 3: S5'),
+    ('version 2\nnodes 1\nversion 3\n', 'line 3: S3'),
+    ('nodes 1\nversion 3\n', 'line 2: S3'),
+    ('version 3\nnodes 65\n', 'line 2: S9'),
+    ('version 4\nnodes 1\n', 'line 1: S3'),
     ('version 02\nnodes 1\n', 'line 1: S3'),
     ('version 2\nnodes 1\nversion 2\n', 'line 3: S5'),
     ('nodes 1\nversion 2\n', 'line 2: S5'),
@@ -516,7 +528,7 @@ def call_in(program, words, text, size, status, output=None, line=''):
             pass
         told, said = (part.decode() for part in ran.communicate())
     first = said.partition('\n')[0]
-    if ran.returncode != status or output not in (None, told) or not first.startswith(line) or bool(first) != bool(line):
+    if status not in (None, ran.returncode) or output not in (None, told) or not first.startswith(line) or bool(first) != bool(line):
         wrong.append(f'{program} {" ".join(words)} of {text[:300]!r}: status {ran.returncode}, {first!r}, {told[:300]!r}')
     return told
 
@@ -541,6 +553,21 @@ def runs():
         if [line for line in journal.splitlines() if line.startswith('held ')] != THEIR_LOCKS:
             wrong.append(f'{program} of three readers: {journal}')
         call('lockrun', ['check'], f'{THREE_READERS}journal\n{journal}', DONE, f'ok {journal.rsplit("end ", 1)[-1]}')
+
+
+def given_up():
+    """Runs in which waits are given up, by a model of the rules that was written apart: each made in the fixed order where
+    its moves stand in that, and checked; who waits behind a void ask at its end; and a run of its script on live sessions."""
+    for row in json.loads((TOP / 'tests/withdraw.json').read_text()):
+        script, journal = ('\n'.join(row[part]) + '\n' for part in ('script', 'journal'))
+        if row['fixed_order']:
+            call('lockrun', ['sim', 'first'], script, row['status'], journal)
+        call('lockrun', ['check'], f'{script}journal\n{journal}', DONE, f'ok {journal.rsplit("end ", 1)[-1]}')
+        behind = ''.join(f'void {client} {other}\n' for client, other in row.get('behind', []))
+        call('lockwaits', [], f'{script}journal\n{journal}', DONE, f'no cycle\n{behind}')
+        for program, words in [('lockrun', ['run']), ('lockrun', ['sim', '7']), ('locklive', [])]:
+            made = call(program, words, script, None)
+            call('lockrun', ['check'], f'{script}journal\n{made}', DONE, f'ok {made.rsplit("end ", 1)[-1]}')
 
 
 def scripts():
@@ -597,7 +624,7 @@ def others():
 
 def main():
     """Makes all calls; the status is 0 if nothing is wrong."""
-    for part in [runs, scripts, conflicts, others]:
+    for part in [runs, given_up, scripts, conflicts, others]:
         part()
     for fault in wrong:
         print(f'tests/answers.py: {fault}')

@@ -30,7 +30,8 @@ IN_RUST = {'u32': 'u32', 'u64': 'u64', 'usize': 'size', '*mut Handle': '*handle'
 IN_PYTHON = {ctypes.c_uint32: 'u32', ctypes.c_size_t: 'size', lockrun.AT: '*handle', lockrun.SETS: '*set',
              lockrun.BYTES: '*u8', lockrun.NUMBER: '*u32', lockrun.SIZE: '*size', None: None}
 # What a command's kind is called outside, by the function that makes it.
-KINDS = {'lock': 'LOCK', 'try_lock': 'TRY', 'unlock': 'UNLOCK', 'change': 'CHANGE', 'drop_locks': 'DROP'}
+KINDS = {'lock': 'LOCK', 'try_lock': 'TRY', 'unlock': 'UNLOCK', 'change': 'CHANGE', 'drop_locks': 'DROP',
+         'withdraw': 'WITHDRAW'}
 
 
 def upper(word):

@@ -7,7 +7,7 @@ from pathlib import Path
 
 MOST_COLUMNS = 120
 # How many longer lines may stand in each folder of a crate, of all crates together.
-MOST_LONGER = {'src': 343, 'specs': 687}
+MOST_LONGER = {'src': 341, 'specs': 678}
 IMPORT = re.compile(r'(?:pub )?(?:ghost )?use ')
 TOP = Path(__file__).resolve().parent.parent
 

@@ -19,17 +19,18 @@ SOURCES = [path for part in ('src', 'specs', 'proofs') for path in sorted((TOP /
 # The first words of what may stand in backticks with other words behind it: those of formats, and of commands.
 FIRST_WORDS = '''
     version nodes set client journal lock try unlock change drop move grant wait not_held busy copy freeze token held
-    waiting owner end cut ok act take run sim check make soak lockrun: rt rustc unfolding waits cycle no ends a
+    withdraw withdrawn void withheld waiting owner end cut ok act take run sim check make soak lockrun: rt rustc unfolding waits cycle no ends a
     order ordered not needs too
     C T begin commit abort not_open children t u locknest: lockwaits: locklive:'''.split()
 # Words that are names of nothing in the repository: of languages, of the toolchain and its libraries, of what a build
-# or a check makes, and of places in an example.
+# or a check makes, of calls in clients/, and of places in an example.
 OTHERS = '''
     abbrev pub record unfoldable ensures requires ghost result self.old self.new IfOk IfErr IfSome OnFalse IsTrue Err Model
-    true false none λ (x clap awk sh args stdin stdout HANDLES lt_ lt_law_ line rand_pcg rand_core itoa rtrb arrayvec anyhow
+    true false none None λ (x clap awk sh args stdin stdout HANDLES lt_ lt_law_ line rand_pcg rand_core itoa rtrb arrayvec anyhow
     atomic_table seed_from_u64 for_each_mut join_mut rattle-kit-13f specs/declared Goals Given crates/lockrun/out/sources
     --help --version --kind --moves --waits --all-waits --diff --set --client --json --chrome --words --write --nested --commands chrome://tracing
     pg_locks readers chain
+    lock_within and_within change_within timeout= StillWaits
     File crates/lt_modes/specs/File.antt tests/bugs/CRATE.edits
     s0 s1 s2 s3 c0 c1 cI name'''.split()
 

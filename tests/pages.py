@@ -1,18 +1,18 @@
 #!/usr/bin/env python3
-"""Sees that the pages that are made from the sources, BELIEVE, LAWS, CALLS and CRATES in docs/, are as `tools/pages`
-makes them."""
+"""Sees that what is made from the sources in docs/, the pages BELIEVE, LAWS, CALLS and CRATES and the file believed.sum,
+is as `tools/pages` makes it."""
 import subprocess
 import sys
 from pathlib import Path
 
 TOP = Path(__file__).resolve().parent.parent
-NAMES = ('believe', 'laws', 'calls', 'crates')
+FILES = {'believe': 'BELIEVE.md', 'laws': 'LAWS.md', 'calls': 'CALLS.md', 'crates': 'CRATES.md', 'sums': 'believed.sum'}
 
 
 def fault(name):
     """What is wrong with a page, or None."""
     made = subprocess.run([TOP / 'tools/pages', name], stdout=subprocess.PIPE, text=True, check=False)
-    page = TOP / f'docs/{name.upper()}.md'
+    page = TOP / 'docs' / FILES[name]
     if made.returncode:
         return f'tools/pages {name} ended with status {made.returncode}'
     stored = page.read_text() if page.exists() else ''
@@ -25,10 +25,10 @@ def fault(name):
 
 def main():
     """Looks at all pages; the status is 0 if nothing is wrong."""
-    faults = [found for name in NAMES if (found := fault(name))]
+    faults = [found for name in FILES if (found := fault(name))]
     for found in faults:
         print(f'tests/pages.py: {found}')
-    print(f'tests/pages.py: {len(NAMES)} pages, {len(faults)} faults')
+    print(f'tests/pages.py: {len(FILES)} files, {len(faults)} faults')
     return 1 if faults else 0
 
 

@@ -9,7 +9,7 @@ tests=0 failed=0
 
 # A copy of the wrapper with a program that was built, and a second one with none.
 make_top() {
-  mkdir -p "$1/tools" "$1/crates/lockrun/src" && cp "$here/lockrun" "$here/lockwaits" "$here/locknest" "$here/locklive" "$1/" &&
+  mkdir -p "$1/tools" "$1/crates/lockrun/src" && cp "$here/lockrun" "$here/lockwaits" "$here/locknest" "$here/locklive" "$here/VERSION" "$1/" &&
     cp "$here/tools/wrapper" "$here/tools/sources" "$here/tools/explain" "$here"/tools/*.awk "$1/tools/" &&
     printf 'lockrun:\n' >"$1/crates.txt" && : >"$1/crates/lockrun/src/main.rt" &&
     cp "$here/build" "$1/" && cp "$here/tools/seeds" "$1/tools/"
@@ -100,7 +100,7 @@ expect '--help names the limits' 2 "$("$top/lockrun" --help | grep -c -e '64 cli
 for word in 'sim first' 'sim SEED' 'seeds FROM TO' run check 'make NODES CLIENTS COMMANDS SEED' 'soak SEED' order; do
   expect "--help names $word" 1 "$("$top/lockrun" --help | grep -c "^  ./lockrun $word  ")"
 done
-expect '--version' "lockrun $(sed -n 's/^version=//p' "$here/lockrun")
+expect '--version' "lockrun $(cat "$here/VERSION")
 status 0" "$(said "$top/lockrun" --version)"
 usage='lockrun: usage: run | sim first | sim SEED | check | make NODES CLIENTS COMMANDS SEED | soak SEED | order'
 no_command() {
@@ -425,7 +425,7 @@ status 0' "$(echo 'set s' | said "$nest/locknest")"
 expect 'locknest with a word' 'locknest: usage: locknest
 locknest: "run" is no file that can be read, and nothing else may stand there
 status 1' "$(said "$nest/locknest" run </dev/null)"
-expect 'locknest --version' "locknest $(sed -n 's/^version=//p' "$here/locknest")
+expect 'locknest --version' "locknest $(cat "$here/VERSION")
 status 0" "$(said "$nest/locknest" --version)"
 expect 'locknest --help names the limits' 1 "$("$nest/locknest" --help | grep -c '8 sets, 256 transactions and 65,535$')"
 expect 'locknest called by a link' '<x>
@@ -498,7 +498,7 @@ status 1' "$(said "$waits/lockwaits" why not </dev/null)"
 expect 'lockwaits why with four words' 'lockwaits: usage: lockwaits
 lockwaits: "three" is one word too many
 status 1' "$(said "$waits/lockwaits" why one two three </dev/null)"
-expect 'lockwaits --version' "lockwaits $(sed -n 's/^version=//p' "$here/lockwaits")
+expect 'lockwaits --version' "lockwaits $(cat "$here/VERSION")
 status 0" "$(said "$waits/lockwaits" --version)"
 expect 'lockwaits --help names the two files' 1 "$("$waits/lockwaits" --help | grep -c '^  ./lockwaits SCRIPT JOURNAL  ')"
 expect 'lockwaits called by a link' '<x>
@@ -564,7 +564,7 @@ locklive: "two" is one word too many
 status 1' "$(said "$live/locklive" one two </dev/null)"
 expect 'locklive with a file' '<# stuck>
 status 0' "$(said "$live/locklive" "$room/stuck")"
-expect 'locklive --version' "locklive $(sed -n 's/^version=//p' "$here/locklive")
+expect 'locklive --version' "locklive $(cat "$here/VERSION")
 status 0" "$(said "$live/locklive" --version)"
 expect 'locklive --help names the status of a share' 1 "$("$live/locklive" --help | grep -c ' 10  a client has more commands')"
 live_on_a_terminal() {
@@ -608,17 +608,17 @@ fault "$head"'a lock b read\n' 5 8 8 1 'b is a client, and not a set'
 fault "$head"'a drop b t\n' 5 8 10 1 'no set of this name was declared before'
 fault 'nodes 17\n' 1 9 7 2 'a script has at most 16 nodes'
 fault "$head"'a change s read ride\n' 5 10 17 4 'not a mode: intention_read, read, upgrade, intention_write or write'
-fault "$head"'a drop b s\n' 5 11 8 1 'b is on node 1, and a on node 0: a client drops the locks of a client of its own node'
+fault "$head"'a drop b s\n' 5 11 8 1 'b is on node 1, and a on node 0: a client drops and withdraws for clients of its own node'
 second='version 2\n'"$head"
-fault 'version 3\n' 1 3 9 1 'the form is: version 2'
-fault 'version\n' 1 3 9 1 'the form is: version 2'
-fault 'version 02\n' 1 3 9 2 'the form is: version 2'
-fault 'version 2 2\n' 1 3 11 1 'the form is: version 2'
+fault 'version 3\n' 1 3 9 1 'the forms are: version 2, and version 3'
+fault 'version\n' 1 3 9 1 'the forms are: version 2, and version 3'
+fault 'version 02\n' 1 3 9 2 'the forms are: version 2, and version 3'
+fault 'version 2 2\n' 1 3 11 1 'the forms are: version 2, and version 3'
 fault 'nodes 1\nversion 2\n' 2 5 1 7 'the version is given once, before all other lines'
 fault 'version 2\nset s\n' 2 5 1 3 'the first line must be `nodes NUMBER`, after the version'
 fault 'version 2\nnodes 0\n' 2 4 7 1 'a script of version 2 has 1 to 64 nodes'
 fault 'version 2\nnodes 65\n' 2 9 7 2 'a script of version 2 has at most 64 nodes'
-fault "$head"'a lock s read_intention_write\n' 5 10 10 20 'a mode of version 2 alone: the first line would be `version 2`'
+fault "$head"'a lock s read_intention_write\n' 5 10 10 20 'not a mode of version 1: the first line would be `version 2`'
 fault "$second"'a change s read_intention_write ride\n' 6 10 33 4 'not a mode: intention_read, read, upgrade, intention_write, read_intention_write or write'
 expect 'a script without a line' '  the script has no line `nodes NUMBER`' "$(printf '# nothing\n' | "$here/tools/explain" 2 5)"
 

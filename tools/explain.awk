@@ -9,6 +9,7 @@ BEGIN {
   form["unlock"] = "CLIENT unlock SET MODE"
   form["change"] = "CLIENT change SET MODE MODE"
   form["drop"] = "CLIENT drop CLIENT SET"
+  form["withdraw"] = "CLIENT withdraw CLIENT SET"
 }
 
 { sub(/\r$/, ""); count = split_words($0) }
@@ -18,7 +19,7 @@ END { if (!is_shown) print "  the script has no line `nodes NUMBER`" }
 
 # Keeps what a line without fault declares.
 function declare() {
-  if (word[1] == "version") { version = 2; return }
+  if (word[1] == "version") { version = word[2] + 0; return }
   if (word[1] == "nodes") { nodes = word[2] + 0; return }
   if (word[1] != "set" && word[1] != "client") return
   kind[word[2]] = word[1]
@@ -39,18 +40,18 @@ function explain() {
   else if (fault == 9) explain_limit()
   else if (fault == 10) explain_mode(word[2] == "change" && is_mode(word[4]) ? 5 : 4)
   else if (fault == 11) point(3, word[3] " is on node " node_of[word[3]] ", and " word[1] " on node " \
-                                 node_of[word[1]] ": a client drops the locks of a client of its own node")
+                                 node_of[word[1]] ": a client drops and withdraws for clients of its own node")
 }
 
 # Whether a word is a mode word of the script's version.
 function is_mode(text) {
-  if (text == "read_intention_write") return version == 2
+  if (text == "read_intention_write") return version > 1
   return text ~ /^(intention_read|read|upgrade|intention_write|write)$/
 }
 
 function explain_mode(k) {
-  if (word[k] == "read_intention_write") point(k, "a mode of version 2 alone: the first line would be `version 2`")
-  else if (version == 2) point(k, "not a mode: " modes ", read_intention_write or write")
+  if (word[k] == "read_intention_write") point(k, "not a mode of version 1: the first line would be `version 2`")
+  else if (version > 1) point(k, "not a mode: " modes ", read_intention_write or write")
   else point(k, "not a mode: " modes " or write")
 }
 
@@ -58,17 +59,18 @@ function explain_mode(k) {
 function explain_order() {
   if (word[1] == "version") point(1, "the version is given once, before all other lines")
   else if (word[1] == "nodes") point(1, "the number of nodes is given once, before all sets and clients")
-  else point(1, "the first line must be `nodes NUMBER`" (version == 2 ? ", after the version" : ""))
+  else point(1, "the first line must be `nodes NUMBER`" (version > 1 ? ", after the version" : ""))
 }
 
 # No form at all: the first word that none of the forms has.
 function explain_form() {
-  if (word[1] == "version") point(count < 3 || word[2] != "2" ? 2 : 3, "the form is: version 2")
+  if (word[1] == "version") point(count < 3 || word[2] !~ /^[23]$/ ? 2 : 3, "the forms are: version 2, and version 3")
   else if (word[1] == "nodes") point(count < 2 ? 2 : 3, "the form is: nodes NUMBER")
   else if (word[1] == "set") point(odd_word("with", 4), "the forms are: set NAME, and set NAME with SET")
   else if (word[1] == "client") point(odd_word("at", 4), "the form is: client NAME at NODE")
   else if (count == 1) point(1, "no line of a script: version, nodes, set, client, or a client with its command")
-  else if (!(word[2] in form)) point(2, "not a command: lock, try, unlock, change or drop")
+  else if (word[2] == "withdraw" && version != 3) point(2, "a command of version 3 alone: the first line would be `version 3`")
+  else if (!(word[2] in form)) point(2, "not a command: lock, try, unlock, change" (version == 3 ? ", drop or withdraw" : " or drop"))
   else point(count < 4 + (word[2] == "change") ? count + 1 : 5 + (word[2] == "change"), "the form is: " form[word[2]])
 }
 
@@ -88,14 +90,14 @@ function explain_number(    k) {
 function explain_unknown() {
   if (word[1] == "set") unknown(4, "set")
   else if (kind[word[1]] != "client") unknown(1, "client")
-  else if (word[2] != "drop") unknown(3, "set")
+  else if (word[2] != "drop" && word[2] != "withdraw") unknown(3, "set")
   else if (kind[word[3]] != "client") unknown(3, "client")
   else unknown(4, "set")
 }
 
-function most_nodes() { return version == 2 ? 64 : 16 }
-function most_clients() { return version == 2 ? 256 : 64 }
-function of_version() { return version == 2 ? " of version 2" : "" }
+function most_nodes() { return version > 1 ? 64 : 16 }
+function most_clients() { return version > 1 ? 256 : 64 }
+function of_version() { return version > 1 ? " of version " version : "" }
 
 function explain_limit() {
   if (word[1] == "nodes") point(2, "a script" of_version() " has at most " most_nodes() " nodes")

@@ -6,10 +6,10 @@ from dataclasses import dataclass, field
 from pathlib import Path
 from typing import NamedTuple, Optional
 
-MOST_NODES = {1: 16, 2: 64}       # by version
-MOST_CLIENTS = {1: 64, 2: 256}    # by version
+MOST_NODES = {1: 16, 2: 64, 3: 64}         # by version
+MOST_CLIENTS = {1: 64, 2: 256, 3: 256}     # by version
 MOST_OF_NODE, MOST_SETS, MOST_COMMANDS, MOST_IN_LINE = 16, 8, 4096, 200
-SECOND = 'version 2'
+LATER = {'2': 2, '3': 3}   # the versions that have a line, by its second word
 SIXTH = 'read_intention_write'
 MODES = ['intention_read', 'read', 'upgrade', 'intention_write', SIXTH, 'write']
 CONFLICTS = {
@@ -27,12 +27,14 @@ KINDS = ('ask', 'tell') + SHOWN
 EVENTS = {
     'grant': 'csm', 'wait': 'csm', 'try': 'csmf', 'unlock': 'csm', 'not_held': 'csm',
     'change': 'csmm', 'drop': 'ccsn', 'busy': 'ccs',
+    'withdrawn': 'csm', 'withdraw': 'ccsf', 'void': 'csm', 'withheld': 'csm',
     'copy': 'spcm', 'freeze': 'spnM', 'token': 'spn',
 }
+LATER_EVENTS = ('withdrawn', 'withdraw', 'void', 'withheld')   # those of version 3 alone
 CLOSING = {'held': 'csmn', 'waiting': 'csm', 'owner': 'spn', 'end': 'n', 'cut': 'p'}
 
 # The words of a command, after the client and the word that says which command it is.
-COMMANDS = {'lock': 'sm', 'try': 'sm', 'unlock': 'sm', 'change': 'smm', 'drop': 'cs'}
+COMMANDS = {'lock': 'sm', 'try': 'sm', 'unlock': 'sm', 'change': 'smm', 'drop': 'cs', 'withdraw': 'cs'}
 NO_NAMES = ('nodes', 'set', 'client', 'journal', 'version')
 
 
@@ -51,7 +53,7 @@ class Script:
 
     def has_mode(self, word):
         """Whether a word is a mode word of the script's version."""
-        return word in MODES and (self.version == 2 or word != SIXTH)
+        return word in MODES and (self.version > 1 or word != SIXTH)
 
     def count(self):
         """How many commands there are."""
@@ -158,8 +160,8 @@ def read_script(data):
         words = words_of(line)
         if not words or words[0].startswith('#'):
             continue
-        if is_first and words == SECOND.split() and len(line) <= MOST_IN_LINE:
-            script.version = 2
+        if is_first and is_version(words) and len(line) <= MOST_IN_LINE:
+            script.version = LATER[words[1]]
         elif fault := line_fault(script, line, words):
             raise Fault(f'the script has a fault in line {number}: S{fault}')
         else:
@@ -181,17 +183,22 @@ def line_fault(script, line, words):
         return 1
     if len(line) > MOST_IN_LINE:
         return 2
-    form = form_of(words)
+    form = form_of(script.version, words)
     if form is None:
         return 3
     return next((fault for fault, test in enumerate(TESTS, 4) if test(script, form, words)), 0)
 
 
-def form_of(words):
-    """Which form a line has: its first word, or of a command the second; or None."""
+def is_version(words):
+    """Whether the words are those of a `version` line."""
+    return len(words) == 2 and words[0] == 'version' and words[1] in LATER
+
+
+def form_of(version, words):
+    """Which form a line of a script of this version has: its first word, or of a command the second; or None."""
     first = words[0]
     if first == 'version':
-        return first if words[1:] == ['2'] else None
+        return first if is_version(words) and (words[1] == '2' or version == 3) else None
     if first == 'nodes':
         return first if len(words) == 2 else None
     if first == 'set':
@@ -199,7 +206,8 @@ def form_of(words):
     if first == 'client':
         return first if len(words) == 4 and words[2] == 'at' else None
     verb = words[1] if words[1:] else ''
-    return verb if verb in COMMANDS and len(words) == 2 + len(COMMANDS[verb]) else None
+    known = verb in COMMANDS and (verb != 'withdraw' or version == 3)
+    return verb if known and len(words) == 2 + len(COMMANDS[verb]) else None
 
 
 def has_bad_number(script, form, words):
@@ -255,14 +263,14 @@ def uses_no_mode(script, form, words):
     return any(not script.has_mode(word) for word, kind in named if kind == 'm')
 
 
-def drops_elsewhere(script, form, words):
-    """S11: a `drop` of a client of another node."""
-    return form == 'drop' and script.node_of[words[2]] != script.node_of[words[0]]
+def reaches_elsewhere(script, form, words):
+    """S11: a `drop` or a `withdraw` of a client of another node."""
+    return form in ('drop', 'withdraw') and script.node_of[words[2]] != script.node_of[words[0]]
 
 
 # The tests of a line that has a form, in the order of the faults' numbers.
 TESTS = (has_bad_number, is_misplaced, declares_no_name, declares_again, uses_unknown, exceeds_limit, uses_no_mode,
-         drops_elsewhere)
+         reaches_elsewhere)
 
 
 def is_short_number(word):
@@ -319,10 +327,10 @@ def is_number(word):
 def read_journal(name, script, data):
     """The moves and the closing lines of a text, up to the first line that has no form that can stand there."""
     journal = Journal(name, script, [], [])
-    first = [SECOND] if script.version == 2 else []
+    first = [f'version {script.version}'] if script.version > 1 else []
     lines = lines_of(data)
     if lines[:len(first)] != first:
-        raise unfit(1, f'the first line is `{SECOND}`, as in the script')
+        raise unfit(1, f'the first line is `{first[0]}`, as in the script')
     numbered = list(enumerate(lines, 1))[len(first):]
     journal.bad = next((number for number, line in numbered if not read_line(journal, number, line.split(' '))), None)
     journal.lines = len(lines)
@@ -336,6 +344,8 @@ def read_line(journal, number, words):
     is_event = words[0] in EVENTS and bool(journal.moves) and not journal.closing
     form = EVENTS.get(words[0]) if is_event else CLOSING.get(words[0])
     if form is None or not has_form(journal.script, words[1:], form):
+        return False
+    if words[0] in LATER_EVENTS and journal.script.version < 3:
         return False
     (journal.moves[-1].events if is_event else journal.closing).append(Event(number, words[0], words[1:]))
     return True

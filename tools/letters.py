@@ -107,6 +107,7 @@ class Core:
     firm: tuple = (0, 0)
     hoped: Optional[tuple] = None
     pending: dict = field(default_factory=dict)      # the ask of a client
+    gone: set = field(default_factory=set)           # the clients whose ask was given up
     items: list = field(default_factory=list)        # asks and tells that wait here for the token or an older ask
 
     @property
@@ -142,11 +143,18 @@ class Core:
             del self.held[client, mode]
 
     def answer(self, ask):
-        """The client gets what it asked for."""
+        """The client gets what it asked for, unless that was given up."""
+        del self.pending[ask.client]
+        if ask.client in self.gone:
+            self.gone.remove(ask.client)
+            return
         if ask.gives_up:
             self.give_up(ask.client, ask.gives_up)
         self.add(ask.client, ask.mode)
-        del self.pending[ask.client]
+
+    def waits(self, client):
+        """Whether a client waits here."""
+        return client in self.pending and client not in self.gone
 
 
 class Follower:
@@ -180,20 +188,19 @@ class Follower:
 
     def act(self, move):
         """Makes the client's next command; the sets that it touched, in order."""
-        client, made = move.client, self.made[move.client]
-        commands = self.script.commands[client]
+        client = move.client
         if self.script.node_of[client] != move.node:
             raise self.no_move(move, f'{client} is not on node {move.node}')
-        if made >= len(commands) or self.waits_in[client]:
+        if not self.can_act(client):
             raise self.no_move(move, f'{client} waits or has no command left')
         self.tick(move, self.clocks[move.node])
+        kind, *words = self.next_command(client)
         self.made[client] += 1
-        kind, *words = commands[made]
         if kind == 'drop':
             return self.drop(client, *words)
-        core = self.cores[move.node, words[0]]
-        getattr(self, f'do_{kind}')(move, core, client, *words)
-        return [words[0]]
+        name = words[1] if kind == 'withdraw' else words[0]
+        getattr(self, f'do_{kind}')(move, self.cores[move.node, name], client, *words)
+        return [name]
 
     def tick(self, move, clock):
         """The clock after a move, which is to be one more than this."""
@@ -234,6 +241,15 @@ class Follower:
         else:
             self.wait(move, core, client, name, mode, gives_up)
 
+    def do_withdraw(self, _, core, client, other, name):
+        """What the other client waits for here is given up; its ask stays where it is."""
+        waited = core.waits(other)
+        if waited:
+            core.gone.add(other)
+            self.waits_in[other] -= 1
+            self.said.append(f'withdrawn {other} {name} {core.pending[other].mode}')
+        self.said.append(f'withdraw {client} {other} {name} {"true" if waited else "false"}')
+
     def drop(self, client, other, name):
         """Drops all locks of a client in a family, unless it waits."""
         names = self.script.family_of(name)
@@ -249,7 +265,16 @@ class Follower:
         return names
 
     def wait(self, move, core, client, name, mode, gives_up=None):
-        """The client waits, and its ask goes to the desk."""
+        """The client waits, and its ask goes to the desk, unless one that it gave up is still here."""
+        if client in core.gone:
+            old = core.pending[client]
+            if (old.mode, old.gives_up) != (mode, gives_up):
+                self.said.append(f'withheld {client} {name} {mode}')
+                return
+            core.gone.remove(client)
+            self.waits_in[client] += 1
+            self.said.append(f'wait {client} {name} {mode}')
+            return
         ask = Ask(client, move.node, mode, (move.clock, move.node), core.own(client) != 0, gives_up)
         core.pending[client] = ask
         self.waits_in[client] += 1
@@ -289,7 +314,11 @@ class Follower:
 
     def grant(self, name, core, ask):
         """An ask is answered."""
+        is_void = ask.client in core.gone
         core.answer(ask)
+        if is_void:
+            self.said.append(f'void {ask.client} {name} {ask.mode}')
+            return
         self.waits_in[ask.client] -= 1
         if ask.gives_up:
             self.said.append(f'change {ask.client} {name} {ask.gives_up} {ask.mode}')
@@ -355,7 +384,7 @@ class Follower:
     def words(self, modes, with_sixth=False):
         """The words of these modes; a freeze of version 1 leaves the sixth mode out."""
         return in_order([mode for mode in MODES if BIT[mode] & modes
-                         and (with_sixth or self.script.version == 2 or mode != SIXTH)])
+                         and (with_sixth or self.script.version > 1 or mode != SIXTH)])
 
     # The end of a move
 
@@ -376,7 +405,7 @@ class Follower:
             self.route(move, name, core, Tell(move.node, core.charge, stamps, (move.clock, move.node)))
 
     def first_of(self, node, core, desk, test):
-        """The first ask in the queue that is free and meets the test."""
+        """The first ask in the queue that is free and meets the test; or that is to be served, as a void one of the node."""
         if not desk.queue:
             return None
         counts = [entry.record for entry in desk.entries]
@@ -384,6 +413,8 @@ class Follower:
         others = without_each(counts)
         before = 0
         for place, ask in enumerate(desk.queue):
+            if test == self.is_served and ask.node == node and ask.client in core.gone:
+                return ask
             is_free = not BIT[ask.mode] & bars(others[ask.node] | before)
             if is_free and test(node, core, desk, ask, place, counts[ask.node], others[ask.node]):
                 return ask
@@ -469,7 +500,19 @@ class Follower:
 
     def can_act(self, client):
         """Whether a client can make a command."""
-        return not self.waits_in[client] and self.made[client] < len(self.script.commands[client])
+        command = self.next_command(client)
+        return command is not None and (not self.waits_in[client] or self.withdraws_itself(client, command))
+
+    def next_command(self, client):
+        """The client's next command, if it has one."""
+        commands, made = self.script.commands[client], self.made[client]
+        return commands[made] if made < len(commands) else None
+
+    def withdraws_itself(self, client, command):
+        """Whether the command gives up what its own client waits for."""
+        kind, *words = command
+        return (kind == 'withdraw' and words[0] == client
+                and self.cores[self.script.node_of[client], words[1]].waits(client))
 
     def movers(self):
         """The nodes that can make a move."""
@@ -484,7 +527,7 @@ class Follower:
                 core = self.cores[node, name]
                 rows = ((mode, core.held.get((client, mode), 0)) for mode in MODES)
                 held += [f'held {client} {name} {mode} {count}' for mode, count in rows if count]
-                if client in core.pending:
+                if core.waits(client):
                     waiting.append(f'waiting {client} {name} {core.pending[client].mode}')
         return held + waiting + [f'owner {name} {owner}' for name, owner in self.owner.items()] + [f'end {count}']
 

@@ -21,6 +21,7 @@ class Wait(NamedTuple):
     place: str
     behind: list
     locks: list
+    void: list    # the clients whose asks stand in the way too, and were given up
 
 
 def locks_of(follower, name):
@@ -33,20 +34,24 @@ def locks_of(follower, name):
 
 
 def waits_of(follower, name):
-    """The unanswered asks for a set, by client."""
+    """The unanswered asks for a set that weren't given up, by client."""
     locks = locks_of(follower, name)
     queue = clients_of(follower.desks[name].queue)
     places = places_of(follower, name, queue)
     order = {client: place for place, client in enumerate(follower.script.node_of)}
     rows = []
     for client, node in follower.script.node_of.items():
-        ask = follower.cores[node, name].pending.get(client)
-        if ask:
+        core = follower.cores[node, name]
+        if core.waits(client):
+            ask = core.pending[client]
             against = [lock for lock in locks if lock.mode in CONFLICTS[ask.mode] and lock.client != client]
             earlier = queue[:queue.index(client)] if client in queue else []
             older = older_at_parked(follower, name, ask, places[client])
-            found = {*earlier, *(lock.client for lock in against), *older}
-            rows.append(Wait(client, name, ask.mode, places[client], sorted(found - {client}, key=order.get), against))
+            asking = {*earlier, *older} - {client}
+            void = {other for other in asking if other in follower.cores[follower.script.node_of[other], name].gone}
+            found = {*(lock.client for lock in against), *asking - void}
+            rows.append(Wait(client, name, ask.mode, places[client], sorted(found, key=order.get), against,
+                             sorted(void, key=order.get)))
     return rows
 
 
