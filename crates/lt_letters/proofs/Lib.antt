@@ -1,0 +1,14 @@
+pub mod Forms
+pub mod ListForms
+pub mod NumberForms
+pub mod CodeForms
+pub mod ModesForm
+pub mod RecordForms
+pub mod KindForms
+pub mod BodyForm
+pub mod Letters
+pub mod Loop
+pub mod Passes
+pub mod Puts
+pub mod MaskLemmas
+pub mod Found

@@ -1,0 +1,5 @@
+pub mod Spelling
+pub mod Reading
+pub mod Causes
+pub mod Seen
+pub mod Laws
