@@ -7,25 +7,17 @@ use Rattle.lt_modes.specs.declared.moves.Step.TheVariants.{Take}
 use Rattle.lt_modes.specs.Modes.{no_modes, all_modes, modes_in}
 use Rattle.lt_modes.specs.State.{AskBody, TokenBody, first_desk}
 use Rattle.lt_spec.specs.Holdings.{holding}
-use Rattle.lt_law_examples.specs.Worked.{Worked, declared_set, declared_client, act, taken_at, holds, owner}
+use Rattle.lt_law_examples.specs.Worked.{Worked, declared_client, act, taken_at, holds, owner, one_set}
 use Rattle.lt_law_examples.specs.Snapshot.{Snapshot, blank, untouched_set, stamp, hoped, entry, new_ask, turn, untouched_node, letter_to}
 
 -- Asks follow the token to its new node, and by a hoped link.
 abbrev pub asks_behind_token : Worked
 asks_behind_token = record {
-  script = record {
-    version = 1;
-    nodes = 4;
-    sets = declared_set (codes "s0") 0 ∷ [];
+  script = record (one_set 4 (codes "s0")) {
     clients =
-        declared_client (codes "c0") 1 ∷
-        declared_client (codes "c1") 0 ∷
-        declared_client (codes "c2") 1 ∷
-        declared_client (codes "c3") 1 ∷
-        declared_client (codes "c4") 2 ∷
-        declared_client (codes "c5") 2 ∷
-        declared_client (codes "c6") 2 ∷
-        [];
+        declared_client (codes "c0") 1 ∷ declared_client (codes "c1") 0 ∷ declared_client (codes "c2") 1 ∷
+        declared_client (codes "c3") 1 ∷ declared_client (codes "c4") 2 ∷ declared_client (codes "c5") 2 ∷
+        declared_client (codes "c6") 2 ∷ [];
     commands =
         (3, Lock 0 Write) ∷
         (5, Lock 0 Read) ∷
@@ -36,18 +28,10 @@ asks_behind_token = record {
         (5, Change 0 Read Read) ∷
         (1, Lock 0 Read) ∷
         (4, Unlock 0 Upgrade) ∷
-        (5, Unlock 0 Read) ∷
-        (5, Lock 0 Upgrade) ∷
+        (5, Unlock 0 Read) ∷ (5, Lock 0 Upgrade) ∷
         (4, Lock 0 Read) ∷
-        (3, Unlock 0 Write) ∷
-        (3, Lock 0 Upgrade) ∷
-        (3, Unlock 0 Upgrade) ∷
-        (3, Lock 0 Read) ∷
-        (3, Unlock 0 Read) ∷
-        (3, Lock 0 Write) ∷
-        (3, Unlock 0 Write) ∷
-        (3, Lock 0 Read) ∷
-        (3, Unlock 0 Read) ∷
+        (3, Unlock 0 Write) ∷ (3, Lock 0 Upgrade) ∷ (3, Unlock 0 Upgrade) ∷ (3, Lock 0 Read) ∷ (3, Unlock 0 Read) ∷
+        (3, Lock 0 Write) ∷ (3, Unlock 0 Write) ∷ (3, Lock 0 Read) ∷ (3, Unlock 0 Read) ∷
         [];
   };
   run =

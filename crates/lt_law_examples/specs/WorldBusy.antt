@@ -18,15 +18,9 @@ busy_in_another_set = record {
     nodes = 3;
     sets = declared_set (codes "s0") 0 ∷ declared_set (codes "s1") 1 ∷ declared_set (codes "s2") 2 ∷ [];
     clients =
-        declared_client (codes "c0") 2 ∷
-        declared_client (codes "c1") 2 ∷
-        declared_client (codes "c2") 1 ∷
-        declared_client (codes "c3") 1 ∷
-        declared_client (codes "c4") 0 ∷
-        declared_client (codes "c5") 0 ∷
-        declared_client (codes "c6") 2 ∷
-        declared_client (codes "c7") 1 ∷
-        [];
+        declared_client (codes "c0") 2 ∷ declared_client (codes "c1") 2 ∷ declared_client (codes "c2") 1 ∷
+        declared_client (codes "c3") 1 ∷ declared_client (codes "c4") 0 ∷ declared_client (codes "c5") 0 ∷
+        declared_client (codes "c6") 2 ∷ declared_client (codes "c7") 1 ∷ [];
     commands =
         (3, Lock 0 Upgrade) ∷
         (7, Lock 2 Write) ∷

@@ -6,23 +6,16 @@ use Rattle.lt_modes.specs.declared.event.Event.TheVariants.{Grant, Wait, Try as 
 use Rattle.lt_modes.specs.declared.moves.Step.TheVariants.{Act, Take}
 use Rattle.lt_modes.specs.Modes.{no_modes, modes_in}
 use Rattle.lt_modes.specs.State.{AskBody, CopyBody, FreezeBody, first_desk}
-use Rattle.lt_law_examples.specs.Worked.{Worked, declared_set, declared_client, act, taken_at, holds, owner}
+use Rattle.lt_law_examples.specs.Worked.{Worked, declared_client, act, taken_at, holds, owner, one_set}
 use Rattle.lt_law_examples.specs.Snapshot.{Snapshot, blank, untouched_set, stamp, owed, entry, new_ask, turn, letter_to}
 
 -- A copy is out, and the token comes another way: a grant at the desk does not forget the copy.
 abbrev pub copy_before_token : Worked
 copy_before_token = record {
-  script = record {
-    version = 1;
-    nodes = 3;
-    sets = declared_set (codes "s") 0 ∷ [];
+  script = record (one_set 3 (codes "s")) {
     clients =
-        declared_client (codes "a") 0 ∷
-        declared_client (codes "b") 1 ∷
-        declared_client (codes "c") 2 ∷
-        declared_client (codes "d") 2 ∷
-        declared_client (codes "e") 2 ∷
-        [];
+        declared_client (codes "a") 0 ∷ declared_client (codes "b") 1 ∷ declared_client (codes "c") 2 ∷
+        declared_client (codes "d") 2 ∷ declared_client (codes "e") 2 ∷ [];
     commands =
         (0, Lock 0 Read) ∷
         (0, Unlock 0 Read) ∷

@@ -17,15 +17,9 @@ drop_counts_locks = record {
     nodes = 2;
     sets = declared_set (codes "s0") 0 ∷ declared_set (codes "s1") 0 ∷ declared_set (codes "s2") 0 ∷ [];
     clients =
-        declared_client (codes "c0") 1 ∷
-        declared_client (codes "c1") 0 ∷
-        declared_client (codes "c2") 1 ∷
-        declared_client (codes "c3") 0 ∷
-        declared_client (codes "c4") 0 ∷
-        declared_client (codes "c5") 0 ∷
-        declared_client (codes "c6") 1 ∷
-        declared_client (codes "c7") 0 ∷
-        [];
+        declared_client (codes "c0") 1 ∷ declared_client (codes "c1") 0 ∷ declared_client (codes "c2") 1 ∷
+        declared_client (codes "c3") 0 ∷ declared_client (codes "c4") 0 ∷ declared_client (codes "c5") 0 ∷
+        declared_client (codes "c6") 1 ∷ declared_client (codes "c7") 0 ∷ [];
     commands =
         (4, Lock 2 Read) ∷
         (3, Lock 0 Upgrade) ∷

@@ -18,13 +18,8 @@ asks_by_hoped_links = record {
     nodes = 3;
     sets = declared_set (codes "s0") 0 ∷ declared_set (codes "s1") 0 ∷ [];
     clients =
-        declared_client (codes "c0") 0 ∷
-        declared_client (codes "c1") 1 ∷
-        declared_client (codes "c2") 2 ∷
-        declared_client (codes "c3") 2 ∷
-        declared_client (codes "c4") 0 ∷
-        declared_client (codes "c5") 1 ∷
-        [];
+        declared_client (codes "c0") 0 ∷ declared_client (codes "c1") 1 ∷ declared_client (codes "c2") 2 ∷
+        declared_client (codes "c3") 2 ∷ declared_client (codes "c4") 0 ∷ declared_client (codes "c5") 1 ∷ [];
     commands =
         (3, Lock 0 Upgrade) ∷
         (1, Lock 0 Write) ∷

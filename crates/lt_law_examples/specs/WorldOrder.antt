@@ -18,11 +18,8 @@ drop_in_order = record {
     nodes = 3;
     sets = declared_set (codes "s0") 0 ∷ declared_set (codes "s1") 0 ∷ [];
     clients =
-        declared_client (codes "c0") 2 ∷
-        declared_client (codes "c1") 2 ∷
-        declared_client (codes "c2") 0 ∷
-        declared_client (codes "c3") 1 ∷
-        [];
+        declared_client (codes "c0") 2 ∷ declared_client (codes "c1") 2 ∷ declared_client (codes "c2") 0 ∷
+        declared_client (codes "c3") 1 ∷ [];
     commands =
         (2, Lock 0 Upgrade) ∷
         (3, Try 0 Upgrade) ∷
@@ -31,31 +28,19 @@ drop_in_order = record {
         (2, Unlock 0 Write) ∷
         (3, Lock 0 Upgrade) ∷
         (1, Lock 0 Write) ∷
-        (2, Change 0 Upgrade Upgrade) ∷
-        (2, Lock 1 Upgrade) ∷
-        (2, Lock 1 Write) ∷
+        (2, Change 0 Upgrade Upgrade) ∷ (2, Lock 1 Upgrade) ∷ (2, Lock 1 Write) ∷
         (0, Lock 1 Read) ∷
-        (2, Lock 0 Upgrade) ∷
-        (2, Unlock 1 Write) ∷
-        (2, DropAll 2 1) ∷
+        (2, Lock 0 Upgrade) ∷ (2, Unlock 1 Write) ∷ (2, DropAll 2 1) ∷
         (3, Lock 1 IntentionRead) ∷
         (2, DropAll 2 1) ∷
-        (0, DropAll 1 1) ∷
-        (0, Unlock 1 Read) ∷
+        (0, DropAll 1 1) ∷ (0, Unlock 1 Read) ∷
         (3, Try 0 Upgrade) ∷
         (0, DropAll 0 0) ∷
         (3, Change 1 IntentionRead Read) ∷
         (2, Lock 0 Upgrade) ∷
         (0, Lock 1 Write) ∷
-        (3, Lock 1 Upgrade) ∷
-        (3, Unlock 0 Upgrade) ∷
-        (3, Lock 0 Write) ∷
-        (3, Try 1 Upgrade) ∷
-        (3, Unlock 0 Write) ∷
-        (3, Unlock 1 Upgrade) ∷
-        (3, Unlock 1 Upgrade) ∷
-        (3, DropAll 3 1) ∷
-        (3, DropAll 3 1) ∷
+        (3, Lock 1 Upgrade) ∷ (3, Unlock 0 Upgrade) ∷ (3, Lock 0 Write) ∷ (3, Try 1 Upgrade) ∷ (3, Unlock 0 Write) ∷
+        (3, Unlock 1 Upgrade) ∷ (3, Unlock 1 Upgrade) ∷ (3, DropAll 3 1) ∷ (3, DropAll 3 1) ∷
         [];
   };
   run =

@@ -18,12 +18,8 @@ tokens_on_way = record {
     nodes = 4;
     sets = declared_set (codes "s0") 0 ∷ declared_set (codes "s1") 1 ∷ declared_set (codes "s2") 1 ∷ [];
     clients =
-        declared_client (codes "c0") 1 ∷
-        declared_client (codes "c1") 2 ∷
-        declared_client (codes "c2") 0 ∷
-        declared_client (codes "c3") 2 ∷
-        declared_client (codes "c4") 1 ∷
-        [];
+        declared_client (codes "c0") 1 ∷ declared_client (codes "c1") 2 ∷ declared_client (codes "c2") 0 ∷
+        declared_client (codes "c3") 2 ∷ declared_client (codes "c4") 1 ∷ [];
     commands =
         (0, Try 0 Upgrade) ∷
         (4, Lock 1 Upgrade) ∷
