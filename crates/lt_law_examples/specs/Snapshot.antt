@@ -10,8 +10,8 @@ use Rattle.lt_modes.specs.declared.parts.Link.{Link}
 use Rattle.lt_modes.specs.declared.parts.Row.{Row}
 use Rattle.lt_modes.specs.declared.parts.Hoped.{Hoped}
 use Rattle.lt_modes.specs.declared.parts.Owed.{Owed}
-use Rattle.lt_modes.specs.Modes.{Modes}
-use Rattle.lt_modes.specs.State.{SetState, Letter, Body, TellBody, Post, Entry, first_entry, first_state}
+use Rattle.lt_modes.specs.Modes.{Modes, no_modes}
+use Rattle.lt_modes.specs.State.{SetState, Desk, Letter, Body, TellBody, Post, Entry}
 use Rattle.lt_modes.specs.Script.{ScriptData}
 use Rattle.lt_spec.specs.NodeMove.{NodeState}
 use Rattle.lt_spec.specs.World.{World, world_after, is_enabled, is_waiting, is_at_rest, anyone_waits}
@@ -42,11 +42,30 @@ stamp clock node = record { clock = clock; node = node }
 
 -- what the desk knows of a node of which it was told nothing
 abbrev pub blank : Entry
-blank = first_entry
+blank = record { reported = no_modes; owed = []; told_at = stamp 0 0; pending = []; frozen_told = no_modes }
 
 -- what a node without the desk keeps for a set that nothing has touched there
 abbrev pub untouched_set : SetState
-untouched_set = first_state 2 1
+untouched_set = record {
+  held = [];
+  charge = no_modes;
+  frozen = no_modes;
+  number = 0;
+  firm = record { node = 0; epoch = 0 };
+  hoped = None;
+  pending = [];
+  parked = [];
+  desk = None;
+  gone = [];
+}
+
+-- the desk of a set that nothing has touched, with an entry for each of so many nodes
+abbrev pub untouched_desk : ℕ → Desk
+untouched_desk nodes = record { epoch = 0; number = 0; queue = []; entries = replicate nodes blank }
+
+-- what the node with the desk keeps for such a set
+abbrev pub untouched_at_desk : ℕ → SetState
+untouched_at_desk nodes = record untouched_set { desk = Some (untouched_desk nodes) }
 
 -- a node at which nothing was done, of a script with so many clients and sets
 abbrev pub untouched_node : ℕ → ℕ → NodeSnapshot

@@ -5,10 +5,10 @@ use Rattle.lt_modes.specs.declared.command.Command.TheVariants.{Lock, Unlock, Ch
 use Rattle.lt_modes.specs.declared.event.Event.TheVariants.{Grant, Wait, Unlock as Unlocked, Change as Changed, Copy, Freeze, Token}
 use Rattle.lt_modes.specs.declared.moves.Step.TheVariants.{Take}
 use Rattle.lt_modes.specs.Modes.{no_modes, all_modes, modes_in}
-use Rattle.lt_modes.specs.State.{AskBody, TokenBody, first_desk}
+use Rattle.lt_modes.specs.State.{AskBody, TokenBody}
 use Rattle.lt_spec.specs.Holdings.{holding}
 use Rattle.lt_law_examples.specs.Worked.{Worked, declared_client, act, taken_at, holds, owner, one_set}
-use Rattle.lt_law_examples.specs.Snapshot.{Snapshot, blank, untouched_set, stamp, hoped, entry, new_ask, turn, untouched_node, letter_to}
+use Rattle.lt_law_examples.specs.Snapshot.{Snapshot, blank, untouched_set, stamp, hoped, entry, new_ask, turn, untouched_node, letter_to, untouched_desk}
 
 -- Asks follow the token to its new node, and by a hoped link.
 abbrev pub asks_behind_token : Worked
@@ -126,7 +126,7 @@ asks_behind_token_after_17 = record {
       letter_to 1 (stamp 5 0) 0 (owner 2 1) (AskBody (new_ask 1 Read (stamp 5 0)) true) ∷
       letter_to 0 (stamp 3 1) 0 (owner 0 0) (AskBody (new_ask 2 Write (stamp 3 1)) false) ∷
       letter_to 0 (stamp 2 2) 0 (owner 0 0) (AskBody (new_ask 6 Read (stamp 2 2)) false) ∷
-      letter_to 1 (stamp 8 2) 0 (owner 1 2) (TokenBody (record (first_desk 4) {
+      letter_to 1 (stamp 8 2) 0 (owner 1 2) (TokenBody (record (untouched_desk 4) {
         epoch = 2;
         queue = new_ask 3 Write (stamp 1 1) ∷ [];
         entries =

@@ -5,10 +5,10 @@ use Rattle.lt_modes.specs.declared.command.Command.TheVariants.{Lock, Unlock, Dr
 use Rattle.lt_modes.specs.declared.event.Event.TheVariants.{Grant, Wait, Unlock as Unlocked, DropAll as Dropped, Busy, Copy, Freeze, Token}
 use Rattle.lt_modes.specs.declared.moves.Step.TheVariants.{Act, Take}
 use Rattle.lt_modes.specs.Modes.{no_modes, all_modes, modes_in}
-use Rattle.lt_modes.specs.State.{AskBody, CopyBody, FreezeBody, first_desk}
+use Rattle.lt_modes.specs.State.{AskBody, CopyBody, FreezeBody}
 use Rattle.lt_spec.specs.Holdings.{holding}
 use Rattle.lt_law_examples.specs.Worked.{Worked, declared_set, declared_client, act, taken_at, holds, owner}
-use Rattle.lt_law_examples.specs.Snapshot.{Snapshot, blank, untouched_set, stamp, held_row, hoped, owed, entry, new_ask, turn, letter_to, tell}
+use Rattle.lt_law_examples.specs.Snapshot.{Snapshot, blank, untouched_set, stamp, held_row, hoped, owed, entry, new_ask, turn, letter_to, tell, untouched_desk}
 
 -- A client that waits in another family is busy.
 abbrev pub busy_in_another_set : Worked
@@ -133,7 +133,7 @@ busy_in_another_set_after_38 = record {
               number = 3;
               firm = owner 0 2;
               pending = new_ask 4 IntentionWrite (stamp 16 0) ∷ [];
-              desk = Some (record (first_desk 3) {
+              desk = Some (record (untouched_desk 3) {
                 epoch = 2;
                 number = 3;
                 queue = new_ask 4 IntentionWrite (stamp 16 0) ∷ [];
@@ -167,7 +167,7 @@ busy_in_another_set_after_38 = record {
               frozen = modes_in (Upgrade ∷ IntentionWrite ∷ ReadIntentionWrite ∷ Write ∷ []);
               firm = owner 1 1;
               pending = new_ask 3 Upgrade (stamp 19 1) ∷ [];
-              desk = Some (record (first_desk 3) {
+              desk = Some (record (untouched_desk 3) {
                 epoch = 1;
                 queue = new_ask 3 Upgrade (stamp 19 1) ∷ [];
                 entries =
@@ -181,7 +181,7 @@ busy_in_another_set_after_38 = record {
               held = held_row 2 Write 1 ∷ [];
               frozen = all_modes;
               firm = owner 1 1;
-              desk = Some (record (first_desk 3) {
+              desk = Some (record (untouched_desk 3) {
                 epoch = 1;
                 queue = new_ask 5 Write (stamp 6 0) ∷ [];
                 entries =

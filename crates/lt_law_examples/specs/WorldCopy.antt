@@ -5,9 +5,9 @@ use Rattle.lt_modes.specs.declared.command.Command.TheVariants.{Lock, Try, Unloc
 use Rattle.lt_modes.specs.declared.event.Event.TheVariants.{Grant, Wait, Try as Tried, Unlock as Unlocked, Copy, Freeze, Token}
 use Rattle.lt_modes.specs.declared.moves.Step.TheVariants.{Act, Take}
 use Rattle.lt_modes.specs.Modes.{no_modes, modes_in}
-use Rattle.lt_modes.specs.State.{AskBody, CopyBody, FreezeBody, first_desk}
+use Rattle.lt_modes.specs.State.{AskBody, CopyBody, FreezeBody}
 use Rattle.lt_law_examples.specs.Worked.{Worked, declared_client, act, taken_at, holds, owner, one_set}
-use Rattle.lt_law_examples.specs.Snapshot.{Snapshot, blank, untouched_set, stamp, owed, entry, new_ask, turn, letter_to}
+use Rattle.lt_law_examples.specs.Snapshot.{Snapshot, blank, untouched_set, stamp, owed, entry, new_ask, turn, letter_to, untouched_desk}
 
 -- A copy is out, and the token comes another way: a grant at the desk does not forget the copy.
 abbrev pub copy_before_token : Worked
@@ -75,7 +75,7 @@ copy_before_token_after_10 = record {
         sets = record untouched_set {
           number = 2;
           firm = owner 1 1;
-          desk = Some (record (first_desk 3) {
+          desk = Some (record (untouched_desk 3) {
             epoch = 1;
             number = 2;
             entries =

@@ -5,9 +5,8 @@ use Rattle.lt_modes.specs.declared.command.Command.TheVariants.{Lock, Unlock, Dr
 use Rattle.lt_modes.specs.declared.event.Event.TheVariants.{Grant, Wait, Unlock as Unlocked, NotHeld, DropAll as Dropped, Busy, Copy, Token}
 use Rattle.lt_modes.specs.declared.moves.Step.TheVariants.{Act}
 use Rattle.lt_modes.specs.Modes.{no_modes, modes_in}
-use Rattle.lt_modes.specs.State.{first_desk, first_state}
 use Rattle.lt_law_examples.specs.Worked.{Worked, declared_set, declared_client, act, taken_at, holds, owner}
-use Rattle.lt_law_examples.specs.Snapshot.{Snapshot, untouched_set, stamp, held_row, entry, new_ask, turn}
+use Rattle.lt_law_examples.specs.Snapshot.{Snapshot, untouched_set, stamp, held_row, entry, new_ask, turn, untouched_desk, untouched_at_desk}
 
 -- A drop counts locks, and not rows.
 abbrev pub drop_counts_locks : Worked
@@ -135,8 +134,8 @@ drop_counts_locks_after_24 = record {
                   new_ask 3 Read (stamp 17 0) ∷
                   [];
             } ∷
-            record (first_state 2 0) { held = held_row 1 Read 1 ∷ held_row 5 Upgrade 1 ∷ [] } ∷
-            first_state 2 0 ∷
+            record (untouched_at_desk 2) { held = held_row 1 Read 1 ∷ held_row 5 Upgrade 1 ∷ [] } ∷
+            untouched_at_desk 2 ∷
             [];
       } ∷
       record {
@@ -148,7 +147,7 @@ drop_counts_locks_after_24 = record {
               frozen = modes_in (Upgrade ∷ IntentionWrite ∷ ReadIntentionWrite ∷ Write ∷ []);
               firm = owner 1 1;
               pending = new_ask 6 Upgrade (stamp 19 1) ∷ [];
-              desk = Some (record (first_desk 2) {
+              desk = Some (record (untouched_desk 2) {
                 epoch = 1;
                 queue =
                     new_ask 7 Upgrade (stamp 11 0) ∷

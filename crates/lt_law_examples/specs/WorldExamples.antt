@@ -3,11 +3,11 @@ use Rattle.std.specs.Prelude.{false, [], ◌∷◌, Some}
 use Rattle.lt_modes.specs.declared.mode.Mode.TheVariants.{IntentionRead, Read, Upgrade, IntentionWrite, ReadIntentionWrite, Write}
 use Rattle.lt_modes.specs.declared.moves.Step.TheVariants.{Act, Take}
 use Rattle.lt_modes.specs.Modes.{no_modes, all_modes, modes_in}
-use Rattle.lt_modes.specs.State.{TokenBody, FreezeBody, first_desk}
+use Rattle.lt_modes.specs.State.{TokenBody, FreezeBody}
 use Rattle.lt_law_examples.specs.Worked.{owner}
 use Rattle.lt_law_examples.specs.WorkedLong.{copies_and_freezes, token_comes_back}
 use Rattle.lt_law_examples.specs.WorkedOrders.{old_freeze}
-use Rattle.lt_law_examples.specs.Snapshot.{Snapshot, blank, untouched_set, stamp, held_row, owed, entry, new_ask, turn, untouched_node, letter_to, tell}
+use Rattle.lt_law_examples.specs.Snapshot.{Snapshot, blank, untouched_set, stamp, held_row, owed, entry, new_ask, turn, untouched_node, letter_to, tell, untouched_desk}
 
 -- The world after 19 of its moves.
 abbrev pub copies_and_freezes_after_19 : Snapshot
@@ -34,7 +34,7 @@ copies_and_freezes_after_19 = record {
           held = held_row 2 Upgrade 1 ∷ [];
           number = 3;
           firm = owner 2 2;
-          desk = Some (record (first_desk 4) {
+          desk = Some (record (untouched_desk 4) {
             epoch = 2;
             number = 3;
             entries =
@@ -94,7 +94,7 @@ token_comes_back_after_13 = record {
       [];
   mail =
       letter_to 1 (stamp 7 0) 0 (owner 1 1) (tell no_modes (stamp 2 1 ∷ []) (stamp 6 1)) ∷
-      letter_to 0 (stamp 8 1) 0 (owner 0 2) (TokenBody (record (first_desk 2) {
+      letter_to 0 (stamp 8 1) 0 (owner 0 2) (TokenBody (record (untouched_desk 2) {
         epoch = 2;
         number = 1;
         queue = new_ask 0 IntentionWrite (stamp 5 0) ∷ [];
@@ -135,7 +135,7 @@ old_freeze_after_16 = record {
           number = 3;
           firm = owner 2 2;
           pending = new_ask 0 Write (stamp 6 2) ∷ [];
-          desk = Some (record (first_desk 3) {
+          desk = Some (record (untouched_desk 3) {
             epoch = 2;
             number = 3;
             queue = new_ask 0 Write (stamp 6 2) ∷ [];

@@ -5,10 +5,10 @@ use Rattle.lt_modes.specs.declared.command.Command.TheVariants.{Lock, Unlock, Ch
 use Rattle.lt_modes.specs.declared.event.Event.TheVariants.{Grant, Wait, Unlock as Unlocked, Change as Changed, DropAll as Dropped, Token}
 use Rattle.lt_modes.specs.declared.moves.Step.TheVariants.{Take}
 use Rattle.lt_modes.specs.Modes.{no_modes, all_modes, modes_in}
-use Rattle.lt_modes.specs.State.{AskBody, TokenBody, first_desk, first_state}
+use Rattle.lt_modes.specs.State.{AskBody, TokenBody}
 use Rattle.lt_spec.specs.Holdings.{holding}
 use Rattle.lt_law_examples.specs.Worked.{Worked, declared_set, declared_client, act, taken_at, holds, owner}
-use Rattle.lt_law_examples.specs.Snapshot.{Snapshot, untouched_set, stamp, hoped, entry, new_ask, turn, letter_to}
+use Rattle.lt_law_examples.specs.Snapshot.{Snapshot, untouched_set, stamp, hoped, entry, new_ask, turn, letter_to, untouched_desk, untouched_at_desk}
 
 -- Asks go by hoped links while the token of their set is on its way.
 abbrev pub asks_by_hoped_links : Worked
@@ -92,7 +92,7 @@ asks_by_hoped_links_after_21 = record {
               hoped = hoped 1 (stamp 1 1);
               pending = new_ask 0 Upgrade (stamp 8 0) ∷ [];
             } ∷
-            first_state 3 0 ∷
+            untouched_at_desk 3 ∷
             [];
       } ∷
       record {
@@ -125,7 +125,7 @@ asks_by_hoped_links_after_21 = record {
       letter_to 1 (stamp 8 0) 0 (owner 2 1) (AskBody (new_ask 0 Upgrade (stamp 8 0)) true) ∷
       letter_to 0 (stamp 2 1) 0 (owner 0 0) (AskBody (new_ask 5 IntentionRead (stamp 2 1)) false) ∷
       letter_to 0 (stamp 8 1) 1 (owner 0 0) (AskBody (new_ask 1 Read (stamp 8 1)) false) ∷
-      letter_to 2 (stamp 9 1) 0 (owner 2 3) (TokenBody (record (first_desk 3) {
+      letter_to 2 (stamp 9 1) 0 (owner 2 3) (TokenBody (record (untouched_desk 3) {
         epoch = 3;
         queue = new_ask 3 Read (stamp 7 2) ∷ [];
         entries =

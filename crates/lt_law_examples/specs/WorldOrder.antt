@@ -5,10 +5,10 @@ use Rattle.lt_modes.specs.declared.command.Command.TheVariants.{Lock, Try, Unloc
 use Rattle.lt_modes.specs.declared.event.Event.TheVariants.{Grant, Wait, Try as Tried, Unlock as Unlocked, Change as Changed, DropAll as Dropped, Busy, Copy, Freeze, Token}
 use Rattle.lt_modes.specs.declared.moves.Step.TheVariants.{Act, Take}
 use Rattle.lt_modes.specs.Modes.{no_modes, all_modes, modes_in}
-use Rattle.lt_modes.specs.State.{CopyBody, first_desk, first_state}
+use Rattle.lt_modes.specs.State.{CopyBody}
 use Rattle.lt_spec.specs.Holdings.{holding}
 use Rattle.lt_law_examples.specs.Worked.{Worked, declared_set, declared_client, act, taken_at, holds, owner}
-use Rattle.lt_law_examples.specs.Snapshot.{Snapshot, blank, untouched_set, stamp, held_row, owed, entry, new_ask, turn, letter_to, tell}
+use Rattle.lt_law_examples.specs.Snapshot.{Snapshot, blank, untouched_set, stamp, held_row, owed, entry, new_ask, turn, letter_to, tell, untouched_desk, untouched_at_desk}
 
 -- A drop goes through its sets in order.
 abbrev pub drop_in_order : Worked
@@ -109,8 +109,8 @@ drop_in_order_after_24 = record {
         made = 0 ∷ 0 ∷ 10 ∷ 0 ∷ [];
         sets =
             record untouched_set { frozen = all_modes; firm = owner 1 1 } ∷
-            record (first_state 3 0) {
-              desk = Some (record (first_desk 3) {
+            record (untouched_at_desk 3) {
+              desk = Some (record (untouched_desk 3) {
                 entries =
                     blank ∷
                     entry no_modes (owed (stamp 14 1) IntentionRead ∷ []) (stamp 0 0) [] no_modes ∷
@@ -128,7 +128,7 @@ drop_in_order_after_24 = record {
               held = held_row 3 Upgrade 1 ∷ [];
               frozen = all_modes;
               firm = owner 1 1;
-              desk = Some (record (first_desk 3) {
+              desk = Some (record (untouched_desk 3) {
                 epoch = 1;
                 queue = new_ask 1 Write (stamp 1 2) ∷ [];
                 entries =

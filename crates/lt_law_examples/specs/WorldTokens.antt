@@ -5,10 +5,10 @@ use Rattle.lt_modes.specs.declared.command.Command.TheVariants.{Lock, Try, Unloc
 use Rattle.lt_modes.specs.declared.event.Event.TheVariants.{Grant, Wait, Try as Tried, Unlock as Unlocked, NotHeld, Change as Changed, DropAll as Dropped, Freeze, Token}
 use Rattle.lt_modes.specs.declared.moves.Step.TheVariants.{Act, Take}
 use Rattle.lt_modes.specs.Modes.{no_modes, modes_in}
-use Rattle.lt_modes.specs.State.{AskBody, TokenBody, first_desk, first_state}
+use Rattle.lt_modes.specs.State.{AskBody, TokenBody}
 use Rattle.lt_spec.specs.Holdings.{holding}
 use Rattle.lt_law_examples.specs.Worked.{Worked, declared_set, declared_client, act, taken_at, holds, owner}
-use Rattle.lt_law_examples.specs.Snapshot.{Snapshot, blank, untouched_set, stamp, entry, new_ask, turn, untouched_node, letter_to, tell}
+use Rattle.lt_law_examples.specs.Snapshot.{Snapshot, blank, untouched_set, stamp, entry, new_ask, turn, untouched_node, letter_to, tell, untouched_desk, untouched_at_desk}
 
 -- Two tokens and a tell go from one node to another, and asks are behind them.
 abbrev pub tokens_on_way : Worked
@@ -87,7 +87,7 @@ tokens_on_way_after_11 = record {
         clock = 6;
         made = 0 ∷ 0 ∷ 3 ∷ 0 ∷ 0 ∷ [];
         sets =
-            first_state 4 0 ∷
+            untouched_at_desk 4 ∷
             record untouched_set {
               frozen = modes_in (Upgrade ∷ IntentionWrite ∷ ReadIntentionWrite ∷ Write ∷ []);
               firm = owner 1 1;
@@ -119,7 +119,7 @@ tokens_on_way_after_11 = record {
       untouched_node 5 3 ∷
       [];
   mail =
-      letter_to 1 (stamp 3 0) 1 (owner 1 1) (TokenBody (record (first_desk 4) {
+      letter_to 1 (stamp 3 0) 1 (owner 1 1) (TokenBody (record (untouched_desk 4) {
         epoch = 1;
         queue = new_ask 4 Upgrade (stamp 2 1) ∷ [];
         entries =
@@ -129,7 +129,7 @@ tokens_on_way_after_11 = record {
             blank ∷
             [];
       })) ∷
-      letter_to 1 (stamp 4 0) 2 (owner 1 1) (TokenBody (record (first_desk 4) {
+      letter_to 1 (stamp 4 0) 2 (owner 1 1) (TokenBody (record (untouched_desk 4) {
         epoch = 1;
         queue = new_ask 0 Upgrade (stamp 3 1) ∷ [];
         entries =
