@@ -11,7 +11,7 @@ use Rattle.lt_modes.specs.FiveModes.{is_of_version}
 use Rattle.lt_spec.specs.Holdings.{lines_of, Holding, after_line}
 use Rattle.lt_spec.specs.World.{Logged, world_after, made_by, replies_of}
 use Rattle.lt_spec.specs.NodeMove.{commands_of}
-use Rattle.lt_spec.specs.declared.limits.TheConstants.{MAX_NAME, MAX_NODES, MAX_NODES_OF_FIRST, MAX_SETS, MAX_SETS_OF_SERVICE, MAX_CLIENTS, MAX_CLIENTS_OF_FIRST, MAX_CLIENTS_OF_NODE, MAX_COMMANDS, MAX_COMMANDS_OF_SERVICE}
+use Rattle.lt_spec.specs.declared.limits.TheConstants.{MAX_NAME, MAX_NODES, MAX_NODES_OF_FIRST, MAX_SETS, MAX_SETS_OF_SERVICE, MAX_CLIENTS, MAX_CLIENTS_OF_FIRST, MAX_CLIENTS_OF_SECOND, MAX_CLIENTS_OF_NODE, MAX_COMMANDS, MAX_COMMANDS_OF_SERVICE}
 
 -- the line is one with which this command of the client is answered
 abbrev pub AnswersCommand : ℕ → Command → Event → Type 0
@@ -126,7 +126,7 @@ most_nodes version = if version == 1 then MAX_NODES_OF_FIRST else MAX_NODES
 
 -- the most clients of a script of this version
 abbrev pub most_clients : ℕ → ℕ
-most_clients version = if version == 1 then MAX_CLIENTS_OF_FIRST else MAX_CLIENTS
+most_clients version = if version == 1 then MAX_CLIENTS_OF_FIRST else if version == 2 then MAX_CLIENTS_OF_SECOND else MAX_CLIENTS
 
 -- how many of the clients are on the node
 abbrev pub load_of : List ClientData → ℕ → ℕ
