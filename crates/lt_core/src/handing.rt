@@ -1,6 +1,7 @@
 ghost use Rattle.std.specs.Prelude.{◌≡◌, ◌+◌, ◌≤◌, ◌<◌, length, Some, None, IfSome, slice_index_or};
 ghost use Rattle.lt_modes.specs.State.{no_ask};
-ghost use Rattle.lt_modes.specs.Serving.{queue_of, next_draw, hand_over, hand_over_to};
+ghost use Rattle.lt_modes.specs.Serving.{queue_of};
+ghost use Rattle.lt_modes.specs.HandingOver.{next_draw, hand_over, hand_over_to};
 ghost use Rattle.lt_modes.specs.Freezing.{freeze};
 ghost use Rattle.lt_desk.specs.DeskData.{bits_from, FitsOut, out_after};
 ghost use Rattle.lt_core.specs.CoreData.{Does, HasRoom, epoch_of};

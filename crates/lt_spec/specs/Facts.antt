@@ -4,7 +4,8 @@ use Rattle.lt_modes.specs.State.{times_in, same_ask, SetState, Body, AskBody, Te
 use Rattle.lt_modes.specs.declared.ask.Ask.{Ask}
 use Rattle.lt_modes.specs.Modes.{excludes_itself}
 use Rattle.lt_modes.specs.Script.{ScriptData}
-use Rattle.lt_modes.specs.Serving.{queue_of, is_newer}
+use Rattle.lt_modes.specs.Serving.{queue_of}
+use Rattle.lt_modes.specs.Telling.{is_newer}
 use Rattle.lt_lists.specs.Below.{one_if, sum_below}
 use Rattle.lt_spec.specs.World.{World}
 

@@ -11,9 +11,11 @@ use Rattle.lt_modes.specs.declared.moves.Step.TheVariants.{Act, Take}
 use Rattle.lt_modes.specs.State.{SetState, Body, Letter, Desk}
 use Rattle.lt_modes.specs.declared.stamp.Stamp.{Stamp}
 use Rattle.lt_modes.specs.Serving.{queue_of, ask_at, next_service, serve_one, serve, is_gone}
-use Rattle.lt_modes.specs.SetMove.{locked, tried, unlocked, changed, dropped, withdrawn, arrive, finish}
+use Rattle.lt_modes.specs.SetMove.{locked, tried, unlocked, changed, dropped, withdrawn, finish}
+use Rattle.lt_modes.specs.Taking.{arrive}
 use Rattle.lt_modes.specs.declared.event.Event.TheVariants.{Try as TryLine}
-use Rattle.lt_modes.specs.Freezing.{can_grant, frozen_by}
+use Rattle.lt_modes.specs.Freezing.{frozen_by}
+use Rattle.lt_modes.specs.Granting.{can_grant}
 use Rattle.lt_modes.specs.declared.ask.Ask.{Ask}
 use Rattle.lt_modes.specs.declared.parts.Row.{Row}
 use Rattle.lt_spec.specs.NodeMove.{home, has_command, related, next_command, NodeState, node_waits, act_stamp, take_stamp}
