@@ -3,6 +3,7 @@
 
 mod act;
 mod fits;
+mod freezing;
 mod granting;
 mod handing;
 mod keeping;

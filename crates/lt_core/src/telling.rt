@@ -1,3 +1,4 @@
+// The end of a move: the desk's turn where the desk is here, else a tell where one is due.
 ghost use Rattle.std.specs.Prelude.{◌≡◌};
 ghost use Rattle.lt_modes.specs.Modes.{bars, held_modes, same_modes};
 ghost use Rattle.lt_modes.specs.SetMove.{make_tell, tell, attend, finish};

@@ -10,7 +10,8 @@ use Rattle.lt_modes.specs.Modes.{locks_in}
 use Rattle.lt_modes.specs.Serving.{queue_of}
 use Rattle.lt_modes.specs.Fits.{parked_asks, asks_here}
 use Rattle.lt_lists.specs.Below.{put}
-use Rattle.lt_spec.specs.NodeMove.{NodeState, touched, desk_within, set_within}
+use Rattle.lt_spec.specs.NodeMove.{NodeState, touched}
+use Rattle.lt_spec.specs.Limits.{desk_within, set_within}
 use Rattle.lt_spec.specs.declared.limits.TheConstants.{MAX_COMMANDS_OF_SERVICE}
 use Rattle.lt_desk.specs.DeskData.{OutData}
 use Rattle.lt_core.specs.CoreData.{CoreData, Does, HasRoom, HasMemory, waiting_here, epoch_of, freeze_number_of}

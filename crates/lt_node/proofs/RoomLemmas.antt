@@ -14,7 +14,8 @@ use Rattle.lt_modes.specs.Script.{ScriptData, SetData, ClientData, family_at}
 use Rattle.lt_modes.specs.Fits.{fits, numbers_of}
 use Rattle.lt_modes.specs.State.{SetState, Letter, Post, Body as RulesBody, AskBody, TellBody, CopyBody, TokenBody, FreezeBody}
 use Rattle.lt_lists.proofs.AllLemmas.{all_weaker}
-use Rattle.lt_spec.specs.NodeMove.{NodeState, next_command, family, related, set_within}
+use Rattle.lt_spec.specs.NodeMove.{NodeState, next_command, family, related}
+use Rattle.lt_spec.specs.Limits.{set_within}
 use Rattle.lt_desk.specs.DeskData.{OutData}
 use Rattle.lt_desk.specs.declared.letter.Letter.{Letter as AnyLetter}
 use Rattle.lt_desk.specs.declared.letter.Body.{Body}

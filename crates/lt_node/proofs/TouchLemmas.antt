@@ -10,10 +10,12 @@ use Rattle.lt_modes.specs.declared.stamp.Stamp.{Stamp}
 use Rattle.lt_lists.proofs.Searches.{any_below_none}
 use Rattle.lt_modes.specs.Fits.{has_client}
 use Rattle.lt_modes.specs.Script.{ScriptData}
-use Rattle.lt_modes.specs.Serving.{is_gone, waits}
+use Rattle.lt_modes.specs.Serving.{is_gone}
+use Rattle.lt_modes.specs.Waiting.{waits}
 use Rattle.lt_modes.specs.State.{SetState}
 use Rattle.lt_spec.specs.Script.{HasTargets}
-use Rattle.lt_spec.specs.NodeMove.{NodeState, at_clock, is_free_at, leaves_ask, locks_in_sets, next_command, node_waits, one_made, related, set_within, withdraws_itself}
+use Rattle.lt_spec.specs.NodeMove.{NodeState, at_clock, is_free_at, locks_in_sets, next_command, node_waits, one_made, related, withdraws_itself}
+use Rattle.lt_spec.specs.Limits.{leaves_ask, set_within}
 use Rattle.lt_spec.specs.declared.limits.TheConstants.{MAX_COMMANDS_OF_SERVICE}
 use Rattle.lt_desk.specs.DeskData.{OutData, FitsOut}
 use Rattle.lt_core.specs.declared.set_command.SetCommand.{SetCommand}

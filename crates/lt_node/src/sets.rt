@@ -1,7 +1,7 @@
 // All sets of a node. One that was never touched takes four bytes.
 ghost use Rattle.std.specs.Prelude.{◌≡◌, ◌≢◌, ◌≤◌, ◌<◌, ◌+◌, ℕ, IfOk, IsOk, OnOk, length, slice_index_or};
-ghost use Rattle.lt_modes.specs.Serving.{waits};
-ghost use Rattle.lt_modes.specs.SetMove.{take};
+ghost use Rattle.lt_modes.specs.Waiting.{waits};
+ghost use Rattle.lt_modes.specs.Taking.{take};
 ghost use Rattle.lt_lists.specs.Below.{any_below};
 ghost use Rattle.lt_desk.specs.LetterSeen.{letter_seen, asks_in, RoomIn};
 ghost use Rattle.lt_desk.specs.DeskData.{FitsOut};
