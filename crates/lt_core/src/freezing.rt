@@ -1,5 +1,5 @@
 // Freezing: the nodes that have a lock learn which modes the waiting asks keep from being granted there.
-ghost use Rattle.std.specs.Prelude.{◌≡◌, ◌≤◌, ◌<◌, IfSome};
+ghost use Rattle.std.specs.Prelude.{◌≡◌, ◌≤◌, ◌<◌};
 ghost use Rattle.lt_modes.specs.HandingOver.{next_draw};
 ghost use Rattle.lt_modes.specs.Freezing.{freeze};
 ghost use Rattle.lt_desk.specs.DeskData.{bits_from, FitsOut, out_after};

@@ -2,6 +2,7 @@
 #![tactic(auto)]
 
 mod act;
+mod finish;
 mod fits;
 mod freezing;
 mod granting;
