@@ -1,3 +1,4 @@
+// What each command of a client does in the set; the end of the move, in finish.rt, follows it.
 ghost use Rattle.std.specs.Prelude.{◌≡◌, ◌+◌, ◌≤◌, ◌<◌, ◌==◌, ℕ, if◌then◌else◌, length, None, Some};
 ghost use Rattle.lt_modes.specs.Modes.{locks_in, locks_of, count_of};
 ghost use Rattle.lt_modes.specs.Granting.{can_grant};

@@ -1,3 +1,4 @@
+// Granting at once: whether a client can have a lock of a mode without an ask.
 ghost use Rattle.std.specs.Prelude.{◌≡◌, ◌&&◌, not};
 ghost use Rattle.lt_modes.specs.Modes.{has, covers};
 ghost use Rattle.lt_modes.specs.Granting.{can_grant};

@@ -1,3 +1,4 @@
+// The core: what a node keeps for one set, made at the start, with memory taken before a move.
 ghost use Rattle.std.specs.Prelude.{◌≡◌, ◌+◌, ◌≤◌, ◌<◌, ◌^◌, length, map, filter_map, IfOk, IsOk, OnOk, is_some};
 ghost use Rattle.lt_modes.specs.State.{first_state, post_of};
 ghost use Rattle.lt_modes.specs.Modes.{locks_of};

@@ -1,3 +1,4 @@
+// Routing: the way of asks and tells to the desk, and the links that they leave.
 ghost use Rattle.std.specs.Prelude.{◌≡◌, ◌+◌, ◌≤◌, ◌<◌, ℕ, length, None};
 ghost use Rattle.lt_modes.specs.Routing.{route, sent_on, Goes, reversed, way, learn, dealt};
 ghost use Rattle.lt_desk.specs.LetterSeen.{parked_seen};

@@ -1,3 +1,4 @@
+// Serving: how the desk's node serves the asks in its queue, one after the other.
 ghost use Rattle.std.specs.Prelude.{◌≡◌, ◌+◌, ◌≤◌, ◌<◌, length, remove};
 ghost use Rattle.lt_modes.specs.Modes.{add_lock, locks_in};
 ghost use Rattle.lt_modes.specs.Serving.{queue_of, put_queue, ask_at, answer_event, serve_one, serve_copy, serve, give_up};

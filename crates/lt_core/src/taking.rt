@@ -1,3 +1,4 @@
+// Taking: what a letter does at the node that takes it.
 ghost use Rattle.std.specs.Prelude.{◌≡◌, ◌+◌, ◌≤◌, [], length, map, filter_map, fold};
 ghost use Rattle.std.specs.VecDeque.{deque_capacity};
 ghost use Rattle.lt_modes.specs.Fits.{ask_if};

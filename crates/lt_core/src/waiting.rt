@@ -1,3 +1,4 @@
+// Who waits here, and which asks stand before a client's ask.
 ghost use Rattle.std.specs.Prelude.{◌≡◌, ◌<◌, ◌==◌, ◌&&◌, is_some, length, slice_index_or};
 ghost use Rattle.lt_modes.specs.Modes.{count_of, excludes_itself};
 ghost use Rattle.lt_modes.specs.State.{no_ask, ParkedAsk};

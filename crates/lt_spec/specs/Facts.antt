@@ -1,4 +1,4 @@
--- What the laws say of a world: tokens, places of asks, and who waits for whom at rest.
+-- What the laws say of a world: tokens, places of asks, the reasons of waits at rest, and where the desk is.
 use Rattle.std.specs.Prelude.{◌≡◌, ◌==◌, ◌<◌, ℕ, ◌+◌, List, [], ◌∷◌, if◌then◌else◌, IsTrue, is_some, sum_by, Contains, Option, Some, None}
 use Rattle.lt_modes.specs.State.{times_in, same_ask, SetState, Body, AskBody, TellBody, CopyBody, TokenBody, FreezeBody, Letter, Parked, ParkedAsk, ParkedTell, Desk}
 use Rattle.lt_modes.specs.declared.ask.Ask.{Ask}
