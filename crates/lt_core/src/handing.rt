@@ -1,12 +1,9 @@
 // Handing over: the desk goes to the node of the ask that draws it, in a letter.
 ghost use Rattle.std.specs.Prelude.{◌≡◌, ◌<◌, length, Some, None, slice_index_or};
 ghost use Rattle.lt_modes.specs.State.{no_ask};
-ghost use Rattle.lt_modes.specs.Serving.{queue_of};
 ghost use Rattle.lt_modes.specs.HandingOver.{next_draw, hand_over, hand_over_to};
-ghost use Rattle.lt_modes.specs.Freezing.{freeze};
-ghost use Rattle.lt_desk.specs.DeskData.{bits_from, FitsOut, out_after};
-ghost use Rattle.lt_core.specs.CoreData.{Does, HasRoom, epoch_of};
-ghost use Rattle.lt_core.specs.Bound.{notices, node_if};
+ghost use Rattle.lt_desk.specs.DeskData.{FitsOut};
+ghost use Rattle.lt_core.specs.CoreData.{Does, epoch_of};
 
 use crate::one_set::Core;
 use lt_desk::{Body, Desk, Out};
