@@ -56,7 +56,16 @@ impl Sight<'_> {
     }
 
     // Whether the client's unanswered ask was given up.
+    #[inline(always)]
     fn is_gone(&self, client: u16) -> bool
+        ensures { result ≡ is_gone (sight_state self.now) client }
+    {
+        !self.gone.is_empty() && self.finds(client)
+    }
+
+    // The same where some ask was given up.
+    #[inline(never)]
+    fn finds(&self, client: u16) -> bool
         ensures { result ≡ is_gone (sight_state self.now) client }
     {
         self.gone.iter().any(|other| *other == client)
