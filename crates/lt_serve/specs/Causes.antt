@@ -3,7 +3,7 @@ use Rattle.std.specs.Prelude.{◌≡◌, ◌↔◌, Bool, true, false, ℕ, Opti
 use Rattle.lt_io.specs.Streams.{Rose, SourceState}
 use Rattle.lt_script.specs.declared.fault.ScriptFault.{ScriptFault}
 use Rattle.lt_script.specs.Reading.{read_of}
-use Rattle.lt_spec.specs.Script.{IsOrdered}
+use Rattle.lt_spec.specs.Ordered.{IsOrdered}
 use Rattle.lt_call.specs.Scripts.{HasFault, DenotesOrdered}
 use Rattle.lt_words.specs.declared.command.Command.{Command}
 use Rattle.lt_words.specs.declared.command.Command.TheVariants.{Run, SimFirst, Sim, Check, Make, Soak}

@@ -12,7 +12,8 @@ use Rattle.lt_law_journals.specs.Checking.{IsFinished}
 use Rattle.lt_spec.specs.Promised.{Promised}
 use Rattle.lt_checker.specs.Input.{DenotesBefore, IsJournalOf}
 use Rattle.lt_gen.specs.Generator.{script_of, seeded}
-use Rattle.lt_spec.specs.Script.{first_bad, IsScript, IsShort}
+use Rattle.lt_spec.specs.Script.{IsScript, IsShort}
+use Rattle.lt_spec.specs.Ordered.{first_bad}
 use Rattle.lt_tally.specs.Summary.{summary_of, summary_text}
 use Rattle.lt_script.specs.Printing.{print_of}
 use Rattle.lt_words.specs.declared.command.Command.{Command}

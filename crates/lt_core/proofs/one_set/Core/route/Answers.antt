@@ -1,7 +1,7 @@
 use Rattle.std.proofs.Common.{◌≡◌, ◌∙◌, ◌+◌, ◌≤◌, [], ◌∷◌, ◌++◌, map, ap, arith, refl, subst, sym, Some}
 use Rattle.std.proofs.lemmas.List.{map-append}
 use Rattle.lt_modes.specs.State.{SetState, Made}
-use Rattle.lt_modes.specs.SetMove.{dealt, route, route_by}
+use Rattle.lt_modes.specs.Routing.{dealt, route, route_by}
 use Rattle.lt_desk.specs.DeskData.{out_after}
 use Rattle.lt_desk.specs.LetterSeen.{parked_seen}
 use Rattle.lt_core.specs.CoreData.{CoreData, HasRoom, desk_seen, waiting_here}

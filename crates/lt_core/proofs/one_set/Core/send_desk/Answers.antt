@@ -1,7 +1,7 @@
 use Rattle.std.proofs.Common.{◌≡◌, ◌∙◌, ◌+◌, ◌<◌, [], ◌∷◌, ◌++◌, Some, None, length, slice_index_or, ap, refl, subst, sym}
 use Rattle.lt_modes.specs.declared.event.Event.TheVariants.{Token}
 use Rattle.lt_modes.specs.State.{SetState, Desk, TokenBody, post_of, no_ask}
-use Rattle.lt_modes.specs.Serving.{leaving, without_desk}
+use Rattle.lt_modes.specs.HandingOver.{leaving, without_desk}
 use Rattle.lt_link.specs.LinksData.{LinksData}
 use Rattle.lt_desk.specs.DeskData.{OutData}
 use Rattle.lt_core.specs.CoreData.{CoreData}

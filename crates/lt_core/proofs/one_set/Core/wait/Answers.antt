@@ -1,6 +1,7 @@
 use Rattle.std.proofs.Common.{◌≡◌, ◌<◌, ◌++◌, [], ◌∷◌, List, false, length, subst, sym}
 use Rattle.lt_modes.specs.State.{SetState, ParkedAsk}
-use Rattle.lt_modes.specs.SetMove.{ask_of, asked, route}
+use Rattle.lt_modes.specs.SetMove.{ask_of, asked}
+use Rattle.lt_modes.specs.Routing.{route}
 use Rattle.lt_modes.specs.declared.ask.Ask.{Ask}
 use Rattle.lt_desk.specs.DeskData.{FitsOut}
 use Rattle.lt_core.specs.CoreData.{CoreData, Does, HasRoom}
