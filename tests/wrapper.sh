@@ -202,7 +202,8 @@ expect 'seeds of a folder' 'lockrun: read fault
 status 4' "$(said "$top/lockrun" seeds 1 2 </)"
 expect 'seeds on a full disk' 'lockrun: write fault
 status 5' "$(echo x | said sh -c "'$top/lockrun' seeds 1 2 >/dev/full")"
-expect 'seeds, unproved' 'lockrun: not proved: no program is built from these sources (./build makes it), so this takes a minute or more
+expect 'seeds, unproved' 'lockrun: not proved: no program is built from these sources; ./build lockrun proves them and makes it
+lockrun: not proved: the sources are compiled for this run, in a minute or more
 lockrun: so the further seeds take as long together as the first
 0, done           0
 3, stuck          8   first: 1
@@ -230,7 +231,8 @@ status 0' "$(PATH=$top:$PATH && said lockrun run </dev/null)"
 
 # A folder as standard input is a read fault, whichever way the program runs.
 expect 'a folder as input' 'status 4' "$(said "$top/lockrun" run 2>/dev/null </ | tail -n 1)"
-expect 'a folder as input, unproved' 'lockrun: not proved: no program is built from these sources (./build makes it), so this takes a minute or more
+expect 'a folder as input, unproved' 'lockrun: not proved: no program is built from these sources; ./build lockrun proves them and makes it
+lockrun: not proved: the sources are compiled for this run, in a minute or more
 lockrun: read fault
 status 4' "$(PATH=$with_rt && said "$room/bare/lockrun" run </ | grep -v '^<')"
 expect 'a folder as input that nothing reads, unproved' '<make><1><1><1><1>
@@ -242,7 +244,7 @@ status 4' "$(PATH=$with_rt && said "$room/bare/lockrun" run <&- | grep -v -e '^<
 unproved() { PATH=$with_rt && export PATH && said "$room/bare/lockrun" "$@" | grep -v '^lockrun: not'; }
 expect 'the status, unproved' '<sim><first>
 status 3' "$(echo '# stuck' | unproved sim first)"
-expect 'no answer, unproved' 'lockrun: the trial runner gave no answer; ./build makes the program
+expect 'no answer, unproved' 'lockrun: the trial runner gave no answer; ./build lockrun makes the program
 status 125' "$(echo '# no answer' | unproved sim first)"
 expect 'a full disk, unproved' 'lockrun: write fault
 status 5' "$(echo x | (PATH=$with_rt && said sh -c "'$room/bare/lockrun' run >/dev/full") | grep -v '^lockrun: not')"
@@ -252,13 +254,29 @@ expect 'no folder can be made' 'lockrun: no folder can be made for what is kept 
 status 125' "$(echo x | (TMPDIR=$room/none && export TMPDIR && unproved run))"
 
 # Without a program that was built from the sources as they are, the toolchain runs them.
-expect 'unproved' 'lockrun: not proved: no program is built from these sources (./build makes it), so this takes a minute or more
+expect 'unproved' 'lockrun: not proved: no program is built from these sources; ./build lockrun proves them and makes it
+lockrun: not proved: the sources are compiled for this run, in a minute or more
 <sim><first>
 status 0' "$(echo x | (PATH=$with_rt && said "$room/bare/lockrun" sim first))"
+# The answer of an unproved run is kept, for the same sources, words and input. `rt` isn't asked again.
+asked_again() {
+  PATH=$with_rt && export PATH
+  printf '%s\n' "$2" | said "$room/bare/lockrun" $1 | sed -e '/^lockrun: .*no program is built/d' -e '/^lockrun: the trial/d' \
+    -e 's/^lockrun: .*are compiled.*/compiled/' -e 's/^lockrun: .*of an earlier run.*/kept/' | tr '\n' ' '
+}
+expect 'unproved, once more' 'kept <sim><first> status 0 ' "$(asked_again 'sim first' x)"
+expect 'unproved, other words' 'compiled <sim><7> status 0 ' "$(asked_again 'sim 7' x)"
+expect 'unproved, another input' 'compiled <sim><first> status 0 ' "$(asked_again 'sim first' y)"
+expect 'unproved, the status once more' 'kept <sim><first> status 3 ' "$(asked_again 'sim first' '# stuck')"
+expect 'unproved, no answer is kept of none' 'compiled status 125 ' "$(asked_again 'sim first' '# no answer')"
+expect 'unproved, an input without a line end' 'compiled <sim><first> status 0 ' "$(printf '' | asked_again 'sim first' "x ")"
+echo '// another source' >>"$room/bare/crates/lockrun/src/main.rt"
+expect 'unproved, other sources' 'compiled <sim><first> status 0 ' "$(asked_again 'sim first' x)"
+expect 'unproved, answers of other sources are removed' 1 "$(find "$room/bare/crates/lockrun/out/tried" -name status | wc -l)"
 expect 'no toolchain' "lockrun: no program is built, and the toolchain's program rt isn't on the PATH: README.md says what it is, under \"What it needs\"
 status 127" "$(PATH=$room/no-rt && said "$room/bare/lockrun" sim first </dev/null)"
 is_stale() {
-  expect "$1" 'lockrun: not proved: no program is built from these sources (./build makes it), so this takes a minute or more' \
+  expect "$1" 'lockrun: not proved: no program is built from these sources; ./build lockrun proves them and makes it' \
     "$(PATH=$with_rt && said "$top/lockrun" run <"$room/bytes" 2>&1 | head -n 1)"
   build "$top"
 }
@@ -404,7 +422,7 @@ status 1' "$(on_terminal "'$top/lockrun'; echo status \$?" | tail -n 2)"
   expect 'an endless input, on a terminal' 1048577 "$(wc -c <"$top/crates/lockrun/out/lockrun.input")"
   expect 'no folder can be made, on a terminal' '<run>
 status 0' "$(on_terminal "TMPDIR='$room/none' '$top/lockrun' run; echo status \$?")"
-  expect 'no answer, on a terminal, unproved' 'lockrun: the trial runner gave no answer; ./build makes the program
+  expect 'no answer, on a terminal, unproved' 'lockrun: the trial runner gave no answer; ./build lockrun makes the program
 status 125' "$(on_terminal "echo '# no answer' | PATH='$with_rt' '$room/bare/lockrun' run; echo status \$?" | tail -n 2)"
 }
 if [ "$(on_terminal 'test -t 2 && echo yes')" = yes ]; then on_a_terminal; else echo "tests/wrapper.sh: no terminal can be made here"; fi
@@ -412,7 +430,8 @@ if [ "$(on_terminal 'test -t 2 && echo yes')" = yes ]; then on_a_terminal; else 
 # locknest takes no words, and reads whatever it is given.
 nest=$room/nest
 make_top "$nest" && mkdir -p "$nest/crates/locknest/out" "$nest/crates/locknest/src" && : >"$nest/crates/locknest/src/main.rt"
-expect 'locknest, unproved' 'locknest: not proved: no program is built from these sources (./build makes it), so this takes a minute or more
+expect 'locknest, unproved' 'locknest: not proved: no program is built from these sources; ./build locknest proves them and makes it
+locknest: not proved: the sources are compiled for this run, in a minute or more
 locknest: read fault
 status 4' "$(PATH=$with_rt && said "$nest/locknest" </)"
 printf '%s\n' '#!/bin/sh
@@ -448,7 +467,8 @@ if [ "$(on_terminal 'test -t 2 && echo yes')" = yes ]; then nest_on_a_terminal; 
 waits=$room/waits
 make_top "$waits" && mkdir -p "$waits/crates/lockwaits/out" "$waits/crates/lockwaits/src" &&
   : >"$waits/crates/lockwaits/src/main.rt"
-expect 'lockwaits, unproved' 'lockwaits: not proved: no program is built from these sources (./build makes it), so this takes a minute or more
+expect 'lockwaits, unproved' 'lockwaits: not proved: no program is built from these sources; ./build lockwaits proves them and makes it
+lockwaits: not proved: the sources are compiled for this run, in a minute or more
 lockwaits: read fault
 status 4' "$(PATH=$with_rt && said "$waits/lockwaits" </)"
 printf '%s\n' '#!/bin/sh
@@ -537,7 +557,8 @@ if [ "$(on_terminal 'test -t 2 && echo yes')" = yes ]; then waits_on_a_terminal;
 # locklive takes no words, and explains a script that is refused.
 live=$room/live
 make_top "$live" && mkdir -p "$live/crates/locklive/out" "$live/crates/locklive/src" && : >"$live/crates/locklive/src/main.rt"
-expect 'locklive, unproved' 'locklive: not proved: no program is built from these sources (./build makes it), so this takes a minute or more
+expect 'locklive, unproved' 'locklive: not proved: no program is built from these sources; ./build locklive proves them and makes it
+locklive: not proved: the sources are compiled for this run, in a minute or more
 locklive: read fault
 status 4' "$(PATH=$with_rt && said "$live/locklive" </)"
 printf '%s\n' '#!/bin/sh
@@ -606,7 +627,10 @@ fault "$head"'client s at 0\n' 5 7 8 1 'declared before, in line 2'
 fault 'nodes 1\nset s\na lock s read\n' 3 8 1 1 'no client of this name was declared before'
 fault "$head"'a lock b read\n' 5 8 8 1 'b is a client, and not a set'
 fault "$head"'a drop b t\n' 5 8 10 1 'no set of this name was declared before'
-fault 'nodes 17\n' 1 9 7 2 'a script has at most 16 nodes'
+fault 'nodes 17\n' 1 9 7 2 'a script has at most 16 nodes; with the first line `version 2` at most 64'
+fault 'nodes 65\n' 1 9 7 2 'a script has at most 16 nodes'
+fault "$(printf 'nodes 16\\n'; seq -f 'client c%.0f at 0\n' 65 | tr -d '\n')" 66 9 8 3 \
+  'a script has at most 64 clients; with the first line `version 2` at most 256'
 fault "$head"'a change s read ride\n' 5 10 17 4 'not a mode: intention_read, read, upgrade, intention_write or write'
 fault "$head"'a drop b s\n' 5 11 8 1 'b is on node 1, and a on node 0: a client drops and withdraws for clients of its own node'
 second='version 2\n'"$head"
