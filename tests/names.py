@@ -23,7 +23,7 @@ SOURCES = [path for part in ('src', 'specs', 'proofs') for path in sorted((TOP /
 FIRST_WORDS = '''
     version nodes set client journal lock try unlock change drop move grant wait not_held busy copy freeze token held
     withdraw withdrawn void withheld waiting owner end cut ok act take run sim check make soak lockrun: rt rustc unfolding waits cycle no ends a
-    order ordered not needs too axioms logic=proved
+    order ordered not needs too axioms logic=proved pip man
     C T begin commit abort not_open children t u locknest: lockwaits: locklive:'''.split()
 # Words that are names of nothing in the repository: of languages, of the toolchain and its libraries, of what a build
 # or a check makes, of calls in clients/, and of places in an example.
@@ -33,7 +33,7 @@ OTHERS = '''
     atomic_table seed_from_u64 for_each_mut join_mut rattle-kit-13f specs/declared Goals Given crates/lockrun/out/sources
     --help --version --kind --moves --waits --all-waits --diff --set --client --json --chrome --words --write --nested --commands chrome://tracing
     pg_locks readers chain
-    lock_within and_within change_within timeout= StillWaits
+    lock_within and_within change_within timeout= sets= StillWaits -std=c11
     logic=proved functions=N axioms= axioms=N target=.. cpu=.. sum=dac8208d650f15bf native=nat,char,string logic-built=trusted
     libraries-built=trusted statements=trusted incremental=trusted batches=trusted cache=trusted threads= may-wait= may-abort=
     partial= rattle_alloc rattle_realloc rattle_dealloc Appends
