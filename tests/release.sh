@@ -119,7 +119,7 @@ try_pages() {
   done)"
   if has bash; then
     # shellcheck disable=SC2016 # bash opens these
-    expect "$label: words for bash" 'sim seeds soak, first' "$(bash -c '. "$1"; COMP_WORDS=(/x/lockrun s) COMP_CWORD=1
+    expect "$label: words for bash" 'sim seeds soak show, first' "$(bash -c '. "$1"; COMP_WORDS=(/x/lockrun s) COMP_CWORD=1
       _lockrun; printf "%s, " "${COMPREPLY[*]}"; COMP_WORDS=(lockrun sim "") COMP_CWORD=2; _lockrun; echo "${COMPREPLY[*]}"' \
       bash "$1/bash-completion/completions/lockrun")"
   else

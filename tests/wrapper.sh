@@ -112,9 +112,9 @@ status 1" "$(PATH=$room/no-rt && said "$room/bare/lockrun" "$@" </dev/null)"
 }
 long=$(printf '%070d' 7)
 no_command ''
-no_command '"" is none of run, sim, check, make, soak, order and seeds' ''
-no_command '"simulate" is none of run, sim, check, make, soak, order and seeds' simulate first
-no_command '"r?n" is none of run, sim, check, make, soak, order and seeds' "$(printf 'r\377n')"
+no_command '"" is none of run, sim, check, make, soak, order, seeds and show' ''
+no_command '"simulate" is none of run, sim, check, make, soak, order, seeds and show' simulate first
+no_command '"r?n" is none of run, sim, check, make, soak, order, seeds and show' "$(printf 'r\377n')"
 no_command 'sim has a seed behind it: first, or 1 to 20 digits' sim
 no_command '"two words" is no seed: first, or 1 to 20 digits, and less than 2^64' sim 'two words'
 no_command '"--help" is no file that can be read, and nothing else may stand there' sim first --help
@@ -214,6 +214,28 @@ yes | "$top/lockrun" seeds 1 1 >/dev/null
 expect 'seeds of an endless input' 1048577 "$(wc -c <"$top/crates/lockrun/out/lockrun.input")"
 expect 'seeds, no folder can be made' 'lockrun: no folder can be made for what is kept while it runs
 status 125' "$(echo x | (TMPDIR=$room/none && export TMPDIR && said "$top/lockrun" seeds 1 2))"
+
+# A run is shown by the tool of the view, with its script before it, above it in one file, or beside it by its name.
+if command -v python3 >/dev/null; then
+  for view in state counts picture trace; do
+    case $view in counts) tool=journal-summary ;; *) tool=journal-$view ;; esac
+    "$here/tools/$tool" "$here/examples/deadlock.script" "$here/examples/deadlock.journal" >"$room/wanted"
+    "$here/lockrun" show $view "$here/examples/deadlock.journal" >"$room/seen" 2>&1
+    expect "show $view" '' "$(cmp "$room/wanted" "$room/seen" 2>&1)"
+  done
+  expect 'show a state' "$("$here/tools/journal-state" "$here/examples/deadlock.script" "$here/examples/deadlock.journal" 3)" \
+    "$("$here/lockrun" show "$here/examples/deadlock.script" "$here/examples/deadlock.journal" 3 2>&1)"
+  { cat "$here/examples/deadlock.script"; printf ' journal\r\n'; cat "$here/examples/deadlock.journal"; } >"$room/both"
+  expect 'show one file' "$("$here/lockrun" show "$here/examples/deadlock.journal")" "$("$here/lockrun" show state "$room/both" 2>&1)"
+fi
+expect 'show nothing' 'lockrun: usage: show [state | counts | picture | trace | waits] [SCRIPT] JOURNAL
+status 1' "$(said "$here/lockrun" show)"
+expect 'show no file' 'lockrun: usage: show [state | counts | picture | trace | waits] [SCRIPT] JOURNAL
+lockrun: "pictures" is no view, and no file that can be read
+status 1' "$(said "$here/lockrun" show pictures "$here/examples/deadlock.journal")"
+echo 'end 0' >"$room/lone.journal"
+expect 'show a journal alone' "lockrun: $room/lone.journal has no line \`journal\` behind its script, and $room/lone.script is no file: name the script before it
+status 1" "$(said "$here/lockrun" show "$room/lone.journal")"
 
 # The wrapper may be called by links, from anywhere, and with CDPATH.
 ln -s "$top/lockrun" "$room/link" && ln -s link "$room/second" && ln -s "$top" "$room/folder"
