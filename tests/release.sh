@@ -114,7 +114,7 @@ try_pages() {
   else
     leave_out "manual pages of $label: mandoc is not there"
   fi
-  expect "$label: a page for each call" '' "$(for call in $("$top/tools/manual" --calls); do
+  expect "$label: a page for each call" '' "$(for call in $("$top/tools/manual" --calls) $("$top/tools/manual" --easy-calls); do
     ls "$1/man/man3/$call.3"* >/dev/null 2>&1 || echo "$call"
   done)"
   if has bash; then

@@ -341,7 +341,8 @@ class Session:
         return Guard(self, name, mode)
 
     def try_lock(self, name: str, mode: str) -> Optional[Guard]:
-        """Has the lock at once, or None."""
+        """Has the lock at once, or None: None may come though nobody holds the set, on another node than the one that has its
+        token. `lock` with a short timeout is granted then."""
         code, _ = self._call(TRY, name, MODES.index(mode))
         return Guard(self, name, mode) if code == TRUE else None
 
