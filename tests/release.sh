@@ -69,6 +69,7 @@ try_tools() {
     said alone "$1/$tool" "$2/upgrade.script" "$2/upgrade.journal" >"$room/printed"
     expect "$label: $tool" '' "$(grep '^status ' "$room/printed")"
   done
+  expect "$label: show" "$("$top/lockrun" show "$2/deadlock.journal")" "$(said alone "$1/../lockrun" show "$2/deadlock.journal")"
   expect "$label: nest-waits" "$(cat "$2/nested-ring.waits")" \
     "$(said alone "$1/nest-waits" "$2/nested-ring.lines" "$2/nested-ring.answers")"
 }

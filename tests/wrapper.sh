@@ -111,7 +111,7 @@ lockrun: $why}
 status 1" "$(PATH=$room/no-rt && said "$room/bare/lockrun" "$@" </dev/null)"
 }
 long=$(printf '%070d' 7)
-no_command ''
+no_command 'further words are seeds FROM TO and show JOURNAL'
 no_command '"" is none of run, sim, check, make, soak, order, seeds and show' ''
 no_command '"simulate" is none of run, sim, check, make, soak, order, seeds and show' simulate first
 no_command '"r?n" is none of run, sim, check, make, soak, order, seeds and show' "$(printf 'r\377n')"

@@ -148,6 +148,13 @@ def version(script: str) -> int:
     return 1 if first[:1] != ['version'] else 3 if first[1:] == ['3'] else 2
 
 
+def number_of(mode: str) -> int:
+    """The number of a mode."""
+    if mode not in MODES:
+        raise ValueError(f'{mode!r} is no mode: {", ".join(MODES)}')
+    return MODES.index(mode)
+
+
 def fault_of(code: int) -> Exception:
     """The error that a reply stands for."""
     return Withdrawn() if code == WITHDRAWN else LockError(code)
@@ -311,7 +318,7 @@ class Session:
     def lock(self, name: str, mode: str, timeout: Optional[float] = None) -> Guard:
         """Waits until the lock is granted, or for so many seconds; then it gives up, and Withdrawn is raised. No exception leaves
         the lock asked for."""
-        code = self._within(timeout, LOCK, name, MODES.index(mode))
+        code = self._within(timeout, LOCK, name, number_of(mode))
         if code != GRANTED:
             raise fault_of(code)
         return Guard(self, name, mode)
@@ -319,7 +326,7 @@ class Session:
     def ask(self, name: str, mode: str, patience: Optional[float] = None) -> Guard:
         """Waits for so many seconds, for callers that go on waiting: after StillWaits the lock is still asked for. `wait` goes on
         waiting for it, `give_up` gives it up, and until then no other call does anything."""
-        self._submit(LOCK, name, MODES.index(mode))
+        self._submit(LOCK, name, number_of(mode))
         return self.wait(patience)
 
     def wait(self, patience: Optional[float] = None) -> Guard:
@@ -343,7 +350,7 @@ class Session:
     def try_lock(self, name: str, mode: str) -> Optional[Guard]:
         """Has the lock at once, or None: None may come though nobody holds the set, on another node than the one that has its
         token. `lock` with a short timeout is granted then."""
-        code, _ = self._call(TRY, name, MODES.index(mode))
+        code, _ = self._call(TRY, name, number_of(mode))
         return Guard(self, name, mode) if code == TRUE else None
 
     def drop(self, name: str, whose: str) -> int:
@@ -538,14 +545,14 @@ class Guard:
     def change(self, mode: str, timeout: Optional[float] = None) -> None:
         """Changes the mode. It waits until the new one goes with what others hold, or for so many seconds; then it gives up, and
         Withdrawn is raised. After an exception it has the mode that it had."""
-        code = self.session._within(timeout, CHANGE, self.name, MODES.index(self.mode), MODES.index(mode))
+        code = self.session._within(timeout, CHANGE, self.name, number_of(self.mode), number_of(mode))
         if code != CHANGED:
             raise fault_of(code)
         self.mode = mode
 
     def unlock(self) -> None:
         """Gives the lock up."""
-        code, _ = self.session._call(UNLOCK, self.name, MODES.index(self.mode))
+        code, _ = self.session._call(UNLOCK, self.name, number_of(self.mode))
         if code != UNLOCKED:
             raise LockError(code)
 
