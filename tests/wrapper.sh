@@ -184,8 +184,8 @@ expect 'seeds, some stuck' 'status         runs
 
 To see the first that gets stuck:
   ./lockrun sim 3 < SCRIPT > stuck.journal
-  tools/journal-state SCRIPT stuck.journal
-  tools/journal-picture --waits SCRIPT stuck.journal > stuck.svg
+  ./lockrun show SCRIPT stuck.journal
+  ./lockrun show picture SCRIPT stuck.journal --waits > stuck.svg
 status 3' "$(echo '# by seed' | said "$top/lockrun" seeds 1 23)"
 expect 'seeds, one cut' 'status 7' "$(echo '# by seed' | said "$top/lockrun" seeds 4 6 | tail -n 1)"
 expect 'seeds, another end' 'lockrun: seed 42
