@@ -167,6 +167,12 @@ try_wheel() {
   expect "$label: its version" "$version" \
     "$(said alone "$room/venv/bin/python" -c 'from importlib.metadata import version; print(version("lockrun"))')"
   expect "$label: a program in Python" "$wanted" "$(said alone "$room/venv/bin/python" "$top/examples/first.py")"
+  if has mypy; then
+    expect "$label: its types" '' "$(said alone mypy --strict --no-error-summary --cache-dir "$room/types" \
+      --python-executable "$room/venv/bin/python" -p lockrun)"
+  else
+    leave_out "types of $label: mypy is not there"
+  fi
 }
 
 try_crate() {
@@ -183,6 +189,12 @@ try_crate() {
   done
   expect "$label: its documentation's examples run" 1 "$(said alone env "LOCKRUN_LIBRARIES=$tree/lib" cargo test --doc \
     --manifest-path "$room/lockrun-$version/Cargo.toml" --target-dir "$room/target" | grep -c '^test result: ok')"
+  if has cargo-clippy; then
+    expect "$label: clippy finds nothing" '' "$(said alone env "LOCKRUN_LIBRARIES=$tree/lib" cargo clippy --quiet --all-targets \
+      --manifest-path "$room/lockrun-$version/Cargo.toml" --target-dir "$room/target" -- -D warnings)"
+  else
+    leave_out "clippy on $label: it is not there"
+  fi
   expect "$label: its documentation is made" '' "$(said alone env "LOCKRUN_LIBRARIES=$tree/lib" cargo doc --quiet --no-deps \
     --manifest-path "$room/lockrun-$version/Cargo.toml" --target-dir "$room/target")"
 }
