@@ -98,11 +98,13 @@ function explain_unknown() {
 function most_nodes() { return version > 1 ? 64 : 16 }
 function most_clients() { return version > 1 ? 256 : 64 }
 function of_version() { return version > 1 ? " of version " version : "" }
+# What a script of version 1 would need for as many as version 2 may have.
+function more_in_2(number, most) { return version < 2 && number <= most ? "; with the first line `version 2` at most " most : "" }
 
 function explain_limit() {
-  if (word[1] == "nodes") point(2, "a script" of_version() " has at most " most_nodes() " nodes")
+  if (word[1] == "nodes") point(2, "a script" of_version() " has at most " most_nodes() " nodes" more_in_2(word[2], 64))
   else if (word[1] == "set") point(2, "a script has at most 8 sets")
   else if (word[1] != "client") point(2, "a script has at most 4,096 commands")
-  else if (clients >= most_clients()) point(2, "a script" of_version() " has at most " most_clients() " clients")
+  else if (clients >= most_clients()) point(2, "a script" of_version() " has at most " most_clients() " clients" more_in_2(clients + 1, 256))
   else point(4, "a node has at most 16 clients")
 }
