@@ -30,11 +30,11 @@ modes_of version = if version == 1 then filter is_of_five modes_in_order else mo
 
 -- the mode at this place
 abbrev pub nth_mode : List Mode → ℕ → Mode
-nth_mode modes k = slice_index_or modes k modes.Write
+nth_mode among k = slice_index_or among k modes.Write
 
 -- one of these modes
 abbrev pub mode_among : List Mode → Lcg → Mode × Lcg
-mode_among modes g = (nth_mode modes (draw_of (length modes) g).0, (draw_of (length modes) g).1)
+mode_among among g = (nth_mode among (draw_of (length among) g).0, (draw_of (length among) g).1)
 
 -- one of the modes of this version
 abbrev pub drawn_mode : ℕ → Lcg → Mode × Lcg

@@ -85,6 +85,10 @@ impl Group {
         ensures { (result, draws.new) ≡ third_by sizes client left set (draw_of 8 draws.old).0 (draw_of 8 draws.old).1 }
     {
         match draws.draw(8) {
+            0 | 1 | 2 | 3 => Group::Lock {
+                set,
+                mode: drawn_mode(draws, 3),
+            },
             4 if left >= 3 => Group::Release { client, set },
             4 => Group::Upgrade { set },
             5 => Group::Try {
@@ -96,13 +100,13 @@ impl Group {
                 set,
                 mode: drawn_mode(draws, 3),
             },
-            7 => Group::Withdraw {
-                client: drawn_beside(draws, sizes, client),
-                set,
-            },
-            _ => Group::Lock {
+            6 => Group::Lock {
                 set,
                 mode: drawn_mode(draws, 3),
+            },
+            _ => Group::Withdraw {
+                client: drawn_beside(draws, sizes, client),
+                set,
             },
         }
     }
@@ -179,13 +183,13 @@ fn drawn_mode(draws: &mut Draws, version: u8) -> Mode
     ensures value { (result, draws.new) ≡ drawn_mode version draws.old }
     ensures of_version { IsTrue (is_of_version version result) }
 {
-    match version {
-        1 => drawn_of_five(draws),
-        _ => MODES[draws.draw(6) as usize],
+    if version == 1 {
+        drawn_of_five(draws)
+    } else {
+        MODES[draws.draw(6) as usize]
     }
 }
 
-#[tactic(auto, using(crate::proofs::GroupLemmas::drawn_is_nth))]
 fn drawn_of_five(draws: &mut Draws) -> Mode
     ensures value { (result, draws.new) ≡ drawn_mode 1 draws.old }
     ensures five { IsTrue (is_of_five result) }

@@ -14,6 +14,8 @@ pub fn law_generated()
         → IsScript (script_of version nodes clients commands seed) }
     ensures short { (version nodes clients commands seed : ℕ) → IsTrue (can_make version nodes clients commands)
         → IsShort (script_of version nodes clients commands seed) }
+    ensures version { (version nodes clients commands seed : ℕ)
+        → (script_of version nodes clients commands seed).version ≡ version }
     ensures sizes { (version nodes clients commands seed : ℕ)
         → HasSizes nodes 4 clients commands (script_of version nodes clients commands seed) }
     ensures read_back { (version nodes clients commands seed : ℕ) → IsTrue (can_make version nodes clients commands)
