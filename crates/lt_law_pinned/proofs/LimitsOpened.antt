@@ -60,6 +60,7 @@ words_are = record {
   sim = refl;
   soak = refl;
   make = refl;
+  make_of_version = refl;
   nothing = refl;
   sim_alone = refl;
   soak_alone = refl;
