@@ -18,8 +18,8 @@ make_top() {
 # The stand-in for the program: prints its words and its input. The first line of the input may ask for an answer.
 program='#!/bin/sh
 printf "<%s>" "$@"; echo
-case "$1:$2:$3:$4:$5" in
-  make:20:* | make:2:0:* | make:2:33:* | *:4097:* | *:99999999999999999999:* | *:18446744073709551616)
+case "$1:$2:$3:$4:$5:$6:$7" in
+  make:20:* | make:65:* | make:*:65:* | make:*:version:[04] | make:2:0:* | make:2:33:* | *:4097:* | *:99999999999999999999:* | *:18446744073709551616:*)
     echo "lockrun: usage: run | sim first | sim SEED | check | make NODES CLIENTS COMMANDS SEED | soak SEED | order" >&2
     exit 1 ;;
   make:*) exit 0 ;;
@@ -97,12 +97,14 @@ for word in --help -h help; do
   expect "$word has status 0" 'status 0' "$(said "$top/lockrun" $word | tail -n 1)"
 done
 expect '--help names the limits' 2 "$("$top/lockrun" --help | grep -c -e '64 clients on up to 16 nodes' -e '256 clients on up to 64')"
-for word in 'sim first' 'sim SEED' 'seeds FROM TO' run check 'make NODES CLIENTS COMMANDS SEED' 'soak SEED' order; do
+for word in 'sim first' 'sim SEED' 'seeds FROM TO' run check 'make NODES CLIENTS COMMANDS SEED' \
+  'make NODES CLIENTS COMMANDS SEED version VERSION' 'soak SEED' order; do
   expect "--help names $word" 1 "$("$top/lockrun" --help | grep -c "^  ./lockrun $word  ")"
 done
 expect '--version' "lockrun $(cat "$here/VERSION")
 status 0" "$(said "$top/lockrun" --version)"
-usage='lockrun: usage: run | sim first | sim SEED | check | make NODES CLIENTS COMMANDS SEED | soak SEED | order'
+usage='lockrun: usage: run | sim first | sim SEED | check | make NODES CLIENTS COMMANDS SEED | soak SEED | order
+lockrun: and also: make NODES CLIENTS COMMANDS SEED version VERSION | seeds FROM TO | --help | --version'
 no_command() {
   why=$1
   shift
@@ -125,7 +127,12 @@ no_command '"-7" is no seed: 1 to 20 digits, and less than 2^64' soak -7
 no_command '"now" is one word too many' soak 7 now
 no_command 'make has four numbers behind it: NODES CLIENTS COMMANDS SEED' make 2 3 8
 no_command '"eight" is no number of commands: 0 to 4096' make 2 3 eight 7
-no_command '"8" is one word too many' make 2 3 4 7 8
+no_command '"8" is one word too many: behind the seed there may be version VERSION' make 2 3 4 7 8
+no_command 'version has a number behind it: 1, 2 or 3' make 2 3 4 7 version
+no_command '"versions" is one word too many: behind the seed there may be version VERSION' make 2 3 4 7 versions 3
+no_command '"three" is no version: 1, 2 or 3' make 2 3 4 7 version three
+no_command '"more" is one word too many' make 2 3 4 7 version 3 more
+no_command '"eight" is no number of commands: 0 to 4096' make 2 3 eight 7 version 3
 no_command '"now" is no file that can be read, and nothing else may stand there' run now
 no_command "\"$room\" is no file that can be read, and nothing else may stand there" order "$room"
 no_command '"/dev/null" is one word too many' order /etc/passwd /dev/null
@@ -145,14 +152,19 @@ refused_words() {
 lockrun: $why
 status 1" "$(said "$top/lockrun" "$@" </dev/null | sed '/^</d')"
 }
-refused_words '"20" is no number of nodes: 1 to 16' make 20 3 12 5
+refused_words '"20" is no number of nodes: 1 to 16, and to 64 with version 2 behind the seed' make 20 3 12 5
+refused_words '"65" is no number of nodes: 1 to 16' make 65 3 12 5
+refused_words '"65" is no number of nodes: 1 to 64' make 65 3 12 5 version 2
+refused_words '"65" is no number of clients: 1 to 64, and to 256 with version 2 behind the seed' make 16 65 12 5 version 1
+refused_words '"4" is no version: 1, 2 or 3' make 2 3 12 5 version 4
+refused_words '"0" is no version: 1, 2 or 3' make 2 3 12 5 version 0
 refused_words '"0" is no number of clients: 1 to 64' make 2 0 12 5
 refused_words '"33" clients are more than 16 on a node' make 2 33 12 5
 refused_words '"4097" is no number of commands: 0 to 4096' make 2 32 4097 5
 refused_words '"18446744073709551616" is no seed: 1 to 20 digits, and less than 2^64' make 2 32 4096 18446744073709551616
 refused_words '"99999999999999999999" is no seed: 1 to 20 digits, and less than 2^64' soak 99999999999999999999
 refused_words '"99999999999999999999" is no seed: first, or 1 to 20 digits, and less than 2^64' sim 99999999999999999999
-for words in 'sim 18446744073709551615' 'make 17 1 1 1' 'soak 007' 'check' 'order'; do
+for words in 'sim 18446744073709551615' 'make 17 1 1 1' 'make 17 1 1 1 version 03' 'soak 007' 'check' 'order'; do
   # shellcheck disable=SC2086 # a call may be more words
   expect "a command, or the program says why not: $words" "$(printf '<%s>' $words)
 status 0" "$(said "$top/lockrun" $words </dev/null)"
@@ -661,10 +673,10 @@ fault "$head"'client s at 0\n' 5 7 8 1 'declared before, in line 2'
 fault 'nodes 1\nset s\na lock s read\n' 3 8 1 1 'no client of this name was declared before'
 fault "$head"'a lock b read\n' 5 8 8 1 'b is a client, and not a set'
 fault "$head"'a drop b t\n' 5 8 10 1 'no set of this name was declared before'
-fault 'nodes 17\n' 1 9 7 2 'a script has at most 16 nodes; with the first line `version 2` at most 64'
+fault 'nodes 17\n' 1 9 7 2 'a script has at most 16 nodes, and 64 if its first line is `version 2`'
 fault 'nodes 65\n' 1 9 7 2 'a script has at most 16 nodes'
-fault "$(printf 'nodes 16\\n'; seq -f 'client c%.0f at 0\n' 65 | tr -d '\n')" 66 9 8 3 \
-  'a script has at most 64 clients; with the first line `version 2` at most 256'
+fault "$(awk 'BEGIN { printf "nodes 16\\n"; for (k = 0; k < 65; k++) printf "client c%d at %d\\n", k, k % 16 }')" 66 9 8 3 \
+  'a script has at most 64 clients, and 256 if its first line is `version 2`'
 fault "$head"'a change s read ride\n' 5 10 17 4 'not a mode: intention_read, read, upgrade, intention_write or write'
 fault "$head"'a drop b s\n' 5 11 8 1 'b is on node 1, and a on node 0: a client drops and withdraws for clients of its own node'
 second='version 2\n'"$head"

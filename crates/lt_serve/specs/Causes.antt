@@ -21,7 +21,7 @@ use Rattle.lt_serve.specs.declared.status.Status.TheVariants.{Stuck, Usage, Refu
 -- the command reads the source
 abbrev pub reads : Option Command → Bool
 reads None = false
-reads (Some (Make nodes clients commands seed)) = false
+reads (Some (Make version nodes clients commands seed)) = false
 reads (Some (Soak seed)) = false
 reads other = true
 
@@ -84,7 +84,7 @@ IsRefusal command left other = ⊥
 
 -- of a script that is to be made, the numbers are such that it can be
 abbrev pub CanBeMade : Command → Type 0
-CanBeMade (Make nodes clients commands seed) = can_make nodes clients commands ≡ true
+CanBeMade (Make version nodes clients commands seed) = can_make version nodes clients commands ≡ true
 CanBeMade other = Unit {0}
 
 -- why an input is no script and journal, as a status

@@ -46,9 +46,9 @@ pub record JournalsThreads (moves : ℕ) (ending : Status) (left : Option (List 
   pub rising : AreRising run
   pub far : GoesFar moves journals.script run
 
--- the greatest script, made from the seed: 16 nodes, 64 clients and 4,096 commands
+-- the greatest script of version 1, made from the seed: 16 nodes, 64 clients and 4,096 commands
 abbrev pub greatest_script : ℕ → ScriptData
-greatest_script seed = script_of 16 64 4096 seed
+greatest_script seed = script_of 1 16 64 4096 seed
 
 -- the line `cut NODE` where the run was cut, or else the six lines of what it came to
 abbrev pub soak_text : ScriptData → List Logged → Option ℕ → List ℕ
@@ -98,7 +98,7 @@ pub record TellsOrder (ending : Status) (left : Option (List ℕ)) (run : List L
 abbrev pub JournalsBy : ℕ → Command → Status → Option (List ℕ) → List Logged → List ℕ → Type 0
 JournalsBy moves SimFirst ending left run text = JournalsInOrder First moves ending left run text
 JournalsBy moves (Sim seed) ending left run text = JournalsInOrder (Drawn (seeded seed)) moves ending left run text
-JournalsBy moves (Make nodes clients commands seed) ending left run text = Prints (script_of nodes clients commands seed) ending run text
+JournalsBy moves (Make version nodes clients commands seed) ending left run text = Prints (script_of version nodes clients commands seed) ending run text
 JournalsBy moves Check ending left run text = Checks ending left run text
 JournalsBy moves Run ending left run text = JournalsThreads moves ending left run text
 JournalsBy moves (Soak seed) ending left run text = Soaks seed moves ending run text

@@ -32,3 +32,22 @@ module _ {A : Type 0} (F : List (List ℕ) → A) where
   of_five (x0 ∷ x1 ∷ x2 ∷ x3 ∷ []) a b c d e t0 t1 t2 t3 t4 e0 f0 e1 f1 e2 f2 e3 f3 e4 f4 least most = absurd (omega (arith, least))
   of_five (x0 ∷ x1 ∷ x2 ∷ x3 ∷ x4 ∷ []) a b c d e t0 t1 t2 t3 t4 e0 f0 e1 f1 e2 f2 e3 f3 e4 f4 least most = cc
   of_five (x0 ∷ x1 ∷ x2 ∷ x3 ∷ x4 ∷ y ∷ rest) a b c d e t0 t1 t2 t3 t4 e0 f0 e1 f1 e2 f2 e3 f3 e4 f4 least most = absurd (omega (arith, most))
+
+  pub of_seven : (xs : List (String Global)) (a b c d e f g : String Global) (t0 t1 t2 t3 t4 t5 t6 : List ℕ)
+      → a ≡ get_or xs 0 a → t0 ≡ string_bytes a
+      → b ≡ get_or xs 1 b → t1 ≡ string_bytes b
+      → c ≡ get_or xs 2 c → t2 ≡ string_bytes c
+      → d ≡ get_or xs 3 d → t3 ≡ string_bytes d
+      → e ≡ get_or xs 4 e → t4 ≡ string_bytes e
+      → f ≡ get_or xs 5 f → t5 ≡ string_bytes f
+      → g ≡ get_or xs 6 g → t6 ≡ string_bytes g
+      → 7 ≤ length xs → length xs < 8 → F (t0 ∷ t1 ∷ t2 ∷ t3 ∷ t4 ∷ t5 ∷ t6 ∷ []) ≡ F (map string_bytes xs)
+  of_seven [] a b c d e f g t0 t1 t2 t3 t4 t5 t6 e0 f0 e1 f1 e2 f2 e3 f3 e4 f4 e5 f5 e6 f6 least most = absurd (omega (arith, least))
+  of_seven (x0 ∷ []) a b c d e f g t0 t1 t2 t3 t4 t5 t6 e0 f0 e1 f1 e2 f2 e3 f3 e4 f4 e5 f5 e6 f6 least most = absurd (omega (arith, least))
+  of_seven (x0 ∷ x1 ∷ []) a b c d e f g t0 t1 t2 t3 t4 t5 t6 e0 f0 e1 f1 e2 f2 e3 f3 e4 f4 e5 f5 e6 f6 least most = absurd (omega (arith, least))
+  of_seven (x0 ∷ x1 ∷ x2 ∷ []) a b c d e f g t0 t1 t2 t3 t4 t5 t6 e0 f0 e1 f1 e2 f2 e3 f3 e4 f4 e5 f5 e6 f6 least most = absurd (omega (arith, least))
+  of_seven (x0 ∷ x1 ∷ x2 ∷ x3 ∷ []) a b c d e f g t0 t1 t2 t3 t4 t5 t6 e0 f0 e1 f1 e2 f2 e3 f3 e4 f4 e5 f5 e6 f6 least most = absurd (omega (arith, least))
+  of_seven (x0 ∷ x1 ∷ x2 ∷ x3 ∷ x4 ∷ []) a b c d e f g t0 t1 t2 t3 t4 t5 t6 e0 f0 e1 f1 e2 f2 e3 f3 e4 f4 e5 f5 e6 f6 least most = absurd (omega (arith, least))
+  of_seven (x0 ∷ x1 ∷ x2 ∷ x3 ∷ x4 ∷ x5 ∷ []) a b c d e f g t0 t1 t2 t3 t4 t5 t6 e0 f0 e1 f1 e2 f2 e3 f3 e4 f4 e5 f5 e6 f6 least most = absurd (omega (arith, least))
+  of_seven (x0 ∷ x1 ∷ x2 ∷ x3 ∷ x4 ∷ x5 ∷ x6 ∷ []) a b c d e f g t0 t1 t2 t3 t4 t5 t6 e0 f0 e1 f1 e2 f2 e3 f3 e4 f4 e5 f5 e6 f6 least most = cc
+  of_seven (x0 ∷ x1 ∷ x2 ∷ x3 ∷ x4 ∷ x5 ∷ x6 ∷ y ∷ rest) a b c d e f g t0 t1 t2 t3 t4 t5 t6 e0 f0 e1 f1 e2 f2 e3 f3 e4 f4 e5 f5 e6 f6 least most = absurd (omega (arith, most))
