@@ -112,13 +112,13 @@ holder_ask client mode gives_up stamp = record {
 }
 
 -- a letter to this node: its stamp, its set, the firm link of its sender, and what it says
-abbrev pub letter_to : ℕ → Stamp → ℕ → Link → Body → Post
-letter_to to stamp set link body =
+abbrev pub mailed : ℕ → Stamp → ℕ → Link → Body → Post
+mailed to stamp set link body =
     record { to = to; letter = record { stamp = stamp; set = set; link = link; body = body } }
 
 -- what a node tells at this stamp: its held modes and its unanswered asks
-abbrev pub tell : Modes → List Stamp → Stamp → Body
-tell modes pending stamp = TellBody (record { node = stamp.node; modes = modes; pending = pending; stamp = stamp })
+abbrev pub tell_body : Modes → List Stamp → Stamp → Body
+tell_body modes pending stamp = TellBody (record { node = stamp.node; modes = modes; pending = pending; stamp = stamp })
 
 abbrev pub turn : ℕ → Step → Turn
 turn node step = record { node = node; step = step }

@@ -8,7 +8,7 @@ use Rattle.lt_modes.specs.Modes.{no_modes, all_modes, modes_in}
 use Rattle.lt_modes.specs.State.{AskBody, TokenBody}
 use Rattle.lt_spec.specs.Holdings.{holding}
 use Rattle.lt_law_examples.specs.Worked.{Worked, declared_client, act, taken_at, holds, owner, one_set}
-use Rattle.lt_law_examples.specs.Snapshot.{Snapshot, blank, untouched_set, stamp, hoped, entry, new_ask, turn, untouched_node, letter_to, untouched_desk}
+use Rattle.lt_law_examples.specs.Snapshot.{Snapshot, blank, untouched_set, stamp, hoped, entry, new_ask, turn, untouched_node, mailed, untouched_desk}
 
 -- Asks follow the token to its new node, and by a hoped link.
 abbrev pub asks_behind_token : Worked
@@ -122,11 +122,11 @@ asks_behind_token_after_17 = record {
       untouched_node 7 1 ∷
       [];
   mail =
-      letter_to 1 (stamp 4 0) 0 (owner 2 1) (AskBody (new_ask 0 IntentionRead (stamp 2 1)) true) ∷
-      letter_to 1 (stamp 5 0) 0 (owner 2 1) (AskBody (new_ask 1 Read (stamp 5 0)) true) ∷
-      letter_to 0 (stamp 3 1) 0 (owner 0 0) (AskBody (new_ask 2 Write (stamp 3 1)) false) ∷
-      letter_to 0 (stamp 2 2) 0 (owner 0 0) (AskBody (new_ask 6 Read (stamp 2 2)) false) ∷
-      letter_to 1 (stamp 8 2) 0 (owner 1 2) (TokenBody (record (untouched_desk 4) {
+      mailed 1 (stamp 4 0) 0 (owner 2 1) (AskBody (new_ask 0 IntentionRead (stamp 2 1)) true) ∷
+      mailed 1 (stamp 5 0) 0 (owner 2 1) (AskBody (new_ask 1 Read (stamp 5 0)) true) ∷
+      mailed 0 (stamp 3 1) 0 (owner 0 0) (AskBody (new_ask 2 Write (stamp 3 1)) false) ∷
+      mailed 0 (stamp 2 2) 0 (owner 0 0) (AskBody (new_ask 6 Read (stamp 2 2)) false) ∷
+      mailed 1 (stamp 8 2) 0 (owner 1 2) (TokenBody (record (untouched_desk 4) {
         epoch = 2;
         queue = new_ask 3 Write (stamp 1 1) ∷ [];
         entries =
@@ -136,8 +136,8 @@ asks_behind_token_after_17 = record {
             blank ∷
             [];
       })) ∷
-      letter_to 1 (stamp 9 2) 0 (owner 1 2) (AskBody (new_ask 5 Upgrade (stamp 9 2)) false) ∷
-      letter_to 1 (stamp 10 2) 0 (owner 1 2) (AskBody (new_ask 4 Read (stamp 10 2)) false) ∷
+      mailed 1 (stamp 9 2) 0 (owner 1 2) (AskBody (new_ask 5 Upgrade (stamp 9 2)) false) ∷
+      mailed 1 (stamp 10 2) 0 (owner 1 2) (AskBody (new_ask 4 Read (stamp 10 2)) false) ∷
       [];
   went = (0 ∷ 2 ∷ 1 ∷ []) ∷ [];
   turns = turn 0 (Take 1) ∷ turn 0 (Take 2) ∷ turn 1 (Take 0) ∷ turn 1 (Take 2) ∷ [];

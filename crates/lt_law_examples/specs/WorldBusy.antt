@@ -8,7 +8,7 @@ use Rattle.lt_modes.specs.Modes.{no_modes, all_modes, modes_in}
 use Rattle.lt_modes.specs.State.{AskBody, CopyBody, FreezeBody}
 use Rattle.lt_spec.specs.Holdings.{holding}
 use Rattle.lt_law_examples.specs.Worked.{Worked, declared_set, declared_client, act, taken_at, holds, owner}
-use Rattle.lt_law_examples.specs.Snapshot.{Snapshot, blank, untouched_set, stamp, held_row, hoped, owed, entry, new_ask, turn, letter_to, tell, untouched_desk}
+use Rattle.lt_law_examples.specs.Snapshot.{Snapshot, blank, untouched_set, stamp, held_row, hoped, owed, entry, new_ask, turn, mailed, tell_body, untouched_desk}
 
 -- A client that waits in another family is busy.
 abbrev pub busy_in_another_set : Worked
@@ -206,14 +206,16 @@ busy_in_another_set_after_38 = record {
       } ∷
       [];
   mail =
-      letter_to 1 (stamp 14 0) 0 (owner 0 2) (FreezeBody 1 no_modes) ∷
-      letter_to 1 (stamp 16 0) 0 (owner 0 2) (FreezeBody 2 (modes_in (Read ∷ Upgrade ∷ ReadIntentionWrite ∷ Write ∷ []))) ∷
-      letter_to 1 (stamp 18 0) 2 (owner 1 1) (AskBody (new_ask 6 Upgrade (stamp 2 2)) false) ∷
-      letter_to 2 (stamp 17 0) 0 (owner 0 2) (CopyBody (new_ask 1 IntentionRead (stamp 1 2))) ∷
-      letter_to 2 (stamp 17 0) 0 (owner 0 2) (FreezeBody 3 (modes_in (Read ∷ Upgrade ∷ ReadIntentionWrite ∷ Write ∷ []))) ∷
-      letter_to 0 (stamp 17 1) 0 (owner 0 2) (tell no_modes [] (stamp 17 1)) ∷
-      letter_to 0 (stamp 21 1) 0 (owner 0 2) (AskBody (new_ask 7 Upgrade (stamp 21 1)) false) ∷
-      letter_to 0 (stamp 3 2) 0 (owner 0 0) (AskBody (new_ask 0 Upgrade (stamp 3 2)) false) ∷
+      mailed 1 (stamp 14 0) 0 (owner 0 2) (FreezeBody 1 no_modes) ∷
+      mailed 1 (stamp 16 0) 0 (owner 0 2)
+      (FreezeBody 2 (modes_in (Read ∷ Upgrade ∷ ReadIntentionWrite ∷ Write ∷ []))) ∷
+      mailed 1 (stamp 18 0) 2 (owner 1 1) (AskBody (new_ask 6 Upgrade (stamp 2 2)) false) ∷
+      mailed 2 (stamp 17 0) 0 (owner 0 2) (CopyBody (new_ask 1 IntentionRead (stamp 1 2))) ∷
+      mailed 2 (stamp 17 0) 0 (owner 0 2)
+      (FreezeBody 3 (modes_in (Read ∷ Upgrade ∷ ReadIntentionWrite ∷ Write ∷ []))) ∷
+      mailed 0 (stamp 17 1) 0 (owner 0 2) (tell_body no_modes [] (stamp 17 1)) ∷
+      mailed 0 (stamp 21 1) 0 (owner 0 2) (AskBody (new_ask 7 Upgrade (stamp 21 1)) false) ∷
+      mailed 0 (stamp 3 2) 0 (owner 0 0) (AskBody (new_ask 0 Upgrade (stamp 3 2)) false) ∷
       [];
   went = (0 ∷ 1 ∷ 0 ∷ []) ∷ (0 ∷ 1 ∷ []) ∷ (0 ∷ 1 ∷ []) ∷ [];
   turns = turn 0 (Take 1) ∷ turn 0 (Take 2) ∷ turn 1 (Take 0) ∷ turn 2 (Take 0) ∷ turn 1 (Act 2) ∷ [];

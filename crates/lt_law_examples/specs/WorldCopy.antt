@@ -7,7 +7,7 @@ use Rattle.lt_modes.specs.declared.moves.Step.TheVariants.{Act, Take}
 use Rattle.lt_modes.specs.Modes.{no_modes, modes_in}
 use Rattle.lt_modes.specs.State.{AskBody, CopyBody, FreezeBody}
 use Rattle.lt_law_examples.specs.Worked.{Worked, declared_client, act, taken_at, holds, owner, one_set}
-use Rattle.lt_law_examples.specs.Snapshot.{Snapshot, blank, untouched_set, stamp, owed, entry, new_ask, turn, letter_to, untouched_desk}
+use Rattle.lt_law_examples.specs.Snapshot.{Snapshot, blank, untouched_set, stamp, owed, entry, new_ask, turn, mailed, untouched_desk}
 
 -- A copy is out, and the token comes another way: a grant at the desk does not forget the copy.
 abbrev pub copy_before_token : Worked
@@ -95,11 +95,12 @@ copy_before_token_after_10 = record {
       } ∷
       [];
   mail =
-      letter_to 2 (stamp 2 0) 0 (owner 0 0) (CopyBody (new_ask 2 Read (stamp 1 2))) ∷
-      letter_to 2 (stamp 3 0) 0 (owner 0 0) (FreezeBody 1 (modes_in (Upgrade ∷ IntentionWrite ∷ ReadIntentionWrite ∷ Write ∷ []))) ∷
-      letter_to 0 (stamp 4 1) 0 (owner 1 1) (FreezeBody 2 no_modes) ∷
-      letter_to 2 (stamp 4 1) 0 (owner 1 1) (FreezeBody 2 no_modes) ∷
-      letter_to 0 (stamp 2 2) 0 (owner 0 0) (AskBody (new_ask 3 IntentionRead (stamp 2 2)) false) ∷
+      mailed 2 (stamp 2 0) 0 (owner 0 0) (CopyBody (new_ask 2 Read (stamp 1 2))) ∷
+      mailed 2 (stamp 3 0) 0 (owner 0 0)
+      (FreezeBody 1 (modes_in (Upgrade ∷ IntentionWrite ∷ ReadIntentionWrite ∷ Write ∷ []))) ∷
+      mailed 0 (stamp 4 1) 0 (owner 1 1) (FreezeBody 2 no_modes) ∷
+      mailed 2 (stamp 4 1) 0 (owner 1 1) (FreezeBody 2 no_modes) ∷
+      mailed 0 (stamp 2 2) 0 (owner 0 0) (AskBody (new_ask 3 IntentionRead (stamp 2 2)) false) ∷
       [];
   went = (0 ∷ 1 ∷ []) ∷ [];
   turns = turn 0 (Take 1) ∷ turn 0 (Take 2) ∷ turn 2 (Take 0) ∷ turn 2 (Take 1) ∷ turn 2 (Act 4) ∷ [];

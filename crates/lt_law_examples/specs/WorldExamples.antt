@@ -7,7 +7,7 @@ use Rattle.lt_modes.specs.State.{TokenBody, FreezeBody}
 use Rattle.lt_law_examples.specs.Worked.{owner}
 use Rattle.lt_law_examples.specs.WorkedLong.{copies_and_freezes, token_comes_back}
 use Rattle.lt_law_examples.specs.WorkedOrders.{old_freeze}
-use Rattle.lt_law_examples.specs.Snapshot.{Snapshot, blank, untouched_set, stamp, held_row, owed, entry, new_ask, turn, untouched_node, letter_to, tell, untouched_desk}
+use Rattle.lt_law_examples.specs.Snapshot.{Snapshot, blank, untouched_set, stamp, held_row, owed, entry, new_ask, turn, untouched_node, mailed, tell_body, untouched_desk}
 
 -- The world after 19 of its moves.
 abbrev pub copies_and_freezes_after_19 : Snapshot
@@ -57,7 +57,7 @@ copies_and_freezes_after_19 = record {
         } ∷ [];
       } ∷
       [];
-  mail = letter_to 0 (stamp 11 2) 0 (owner 2 2) (FreezeBody 3 no_modes) ∷ [];
+  mail = mailed 0 (stamp 11 2) 0 (owner 2 2) (FreezeBody 3 no_modes) ∷ [];
   went = (0 ∷ 3 ∷ 2 ∷ []) ∷ [];
   turns = turn 0 (Take 2) ∷ turn 2 (Act 2) ∷ [];
   waiting = [];
@@ -93,8 +93,8 @@ token_comes_back_after_13 = record {
       } ∷
       [];
   mail =
-      letter_to 1 (stamp 7 0) 0 (owner 1 1) (tell no_modes (stamp 2 1 ∷ []) (stamp 6 1)) ∷
-      letter_to 0 (stamp 8 1) 0 (owner 0 2) (TokenBody (record (untouched_desk 2) {
+      mailed 1 (stamp 7 0) 0 (owner 1 1) (tell_body no_modes (stamp 2 1 ∷ []) (stamp 6 1)) ∷
+      mailed 0 (stamp 8 1) 0 (owner 0 2) (TokenBody (record (untouched_desk 2) {
         epoch = 2;
         number = 1;
         queue = new_ask 0 IntentionWrite (stamp 5 0) ∷ [];
@@ -148,7 +148,7 @@ old_freeze_after_16 = record {
         } ∷ [];
       } ∷
       [];
-  mail = letter_to 2 (stamp 3 0) 0 (owner 0 0) (FreezeBody 1 (modes_in (Upgrade ∷ IntentionWrite ∷ ReadIntentionWrite ∷ Write ∷ []))) ∷ [];
+  mail = mailed 2 (stamp 3 0) 0 (owner 0 0) (FreezeBody 1 (modes_in (Upgrade ∷ IntentionWrite ∷ ReadIntentionWrite ∷ Write ∷ []))) ∷ [];
   went = (0 ∷ 1 ∷ 2 ∷ []) ∷ [];
   turns = turn 2 (Take 0) ∷ [];
   waiting = 0 ∷ [];

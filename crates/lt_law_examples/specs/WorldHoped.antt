@@ -8,7 +8,7 @@ use Rattle.lt_modes.specs.Modes.{no_modes, all_modes, modes_in}
 use Rattle.lt_modes.specs.State.{AskBody, TokenBody}
 use Rattle.lt_spec.specs.Holdings.{holding}
 use Rattle.lt_law_examples.specs.Worked.{Worked, declared_set, declared_client, act, taken_at, holds, owner}
-use Rattle.lt_law_examples.specs.Snapshot.{Snapshot, untouched_set, stamp, hoped, entry, new_ask, turn, letter_to, untouched_desk, untouched_at_desk}
+use Rattle.lt_law_examples.specs.Snapshot.{Snapshot, untouched_set, stamp, hoped, entry, new_ask, turn, mailed, untouched_desk, untouched_at_desk}
 
 -- Asks go by hoped links while the token of their set is on its way.
 abbrev pub asks_by_hoped_links : Worked
@@ -122,10 +122,10 @@ asks_by_hoped_links_after_21 = record {
       } ∷
       [];
   mail =
-      letter_to 1 (stamp 8 0) 0 (owner 2 1) (AskBody (new_ask 0 Upgrade (stamp 8 0)) true) ∷
-      letter_to 0 (stamp 2 1) 0 (owner 0 0) (AskBody (new_ask 5 IntentionRead (stamp 2 1)) false) ∷
-      letter_to 0 (stamp 8 1) 1 (owner 0 0) (AskBody (new_ask 1 Read (stamp 8 1)) false) ∷
-      letter_to 2 (stamp 9 1) 0 (owner 2 3) (TokenBody (record (untouched_desk 3) {
+      mailed 1 (stamp 8 0) 0 (owner 2 1) (AskBody (new_ask 0 Upgrade (stamp 8 0)) true) ∷
+      mailed 0 (stamp 2 1) 0 (owner 0 0) (AskBody (new_ask 5 IntentionRead (stamp 2 1)) false) ∷
+      mailed 0 (stamp 8 1) 1 (owner 0 0) (AskBody (new_ask 1 Read (stamp 8 1)) false) ∷
+      mailed 2 (stamp 9 1) 0 (owner 2 3) (TokenBody (record (untouched_desk 3) {
         epoch = 3;
         queue = new_ask 3 Read (stamp 7 2) ∷ [];
         entries =
@@ -134,7 +134,7 @@ asks_by_hoped_links_after_21 = record {
             entry no_modes [] (stamp 5 2) [] all_modes ∷
             [];
       })) ∷
-      letter_to 2 (stamp 10 1) 0 (owner 2 3) (AskBody (new_ask 2 Write (stamp 8 2)) false) ∷
+      mailed 2 (stamp 10 1) 0 (owner 2 3) (AskBody (new_ask 2 Write (stamp 8 2)) false) ∷
       [];
   went = (0 ∷ 2 ∷ 1 ∷ 2 ∷ []) ∷ (0 ∷ []) ∷ [];
   turns = turn 0 (Take 1) ∷ turn 1 (Take 0) ∷ turn 2 (Take 1) ∷ [];

@@ -8,7 +8,7 @@ use Rattle.lt_modes.specs.Modes.{no_modes, all_modes, modes_in}
 use Rattle.lt_modes.specs.State.{CopyBody}
 use Rattle.lt_spec.specs.Holdings.{holding}
 use Rattle.lt_law_examples.specs.Worked.{Worked, declared_set, declared_client, act, taken_at, holds, owner}
-use Rattle.lt_law_examples.specs.Snapshot.{Snapshot, blank, untouched_set, stamp, held_row, owed, entry, new_ask, turn, letter_to, tell, untouched_desk, untouched_at_desk}
+use Rattle.lt_law_examples.specs.Snapshot.{Snapshot, blank, untouched_set, stamp, held_row, owed, entry, new_ask, turn, mailed, tell_body, untouched_desk, untouched_at_desk}
 
 -- A drop goes through its sets in order.
 abbrev pub drop_in_order : Worked
@@ -151,8 +151,8 @@ drop_in_order_after_24 = record {
       } ∷
       [];
   mail =
-      letter_to 1 (stamp 15 0) 1 (owner 0 0) (CopyBody (new_ask 3 IntentionRead (stamp 14 1))) ∷
-      letter_to 0 (stamp 14 2) 1 (owner 0 0) (tell no_modes [] (stamp 14 2)) ∷
+      mailed 1 (stamp 15 0) 1 (owner 0 0) (CopyBody (new_ask 3 IntentionRead (stamp 14 1))) ∷
+      mailed 0 (stamp 14 2) 1 (owner 0 0) (tell_body no_modes [] (stamp 14 2)) ∷
       [];
   went = (0 ∷ 1 ∷ []) ∷ (0 ∷ []) ∷ [];
   turns = turn 0 (Take 2) ∷ turn 1 (Take 0) ∷ turn 2 (Act 0) ∷ turn 0 (Act 2) ∷ [];

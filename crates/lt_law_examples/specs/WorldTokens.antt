@@ -8,7 +8,7 @@ use Rattle.lt_modes.specs.Modes.{no_modes, modes_in}
 use Rattle.lt_modes.specs.State.{AskBody, TokenBody}
 use Rattle.lt_spec.specs.Holdings.{holding}
 use Rattle.lt_law_examples.specs.Worked.{Worked, declared_set, declared_client, act, taken_at, holds, owner}
-use Rattle.lt_law_examples.specs.Snapshot.{Snapshot, blank, untouched_set, stamp, entry, new_ask, turn, untouched_node, letter_to, tell, untouched_desk, untouched_at_desk}
+use Rattle.lt_law_examples.specs.Snapshot.{Snapshot, blank, untouched_set, stamp, entry, new_ask, turn, untouched_node, mailed, tell_body, untouched_desk, untouched_at_desk}
 
 -- Two tokens and a tell go from one node to another, and asks are behind them.
 abbrev pub tokens_on_way : Worked
@@ -119,7 +119,7 @@ tokens_on_way_after_11 = record {
       untouched_node 5 3 ∷
       [];
   mail =
-      letter_to 1 (stamp 3 0) 1 (owner 1 1) (TokenBody (record (untouched_desk 4) {
+      mailed 1 (stamp 3 0) 1 (owner 1 1) (TokenBody (record (untouched_desk 4) {
         epoch = 1;
         queue = new_ask 4 Upgrade (stamp 2 1) ∷ [];
         entries =
@@ -129,7 +129,7 @@ tokens_on_way_after_11 = record {
             blank ∷
             [];
       })) ∷
-      letter_to 1 (stamp 4 0) 2 (owner 1 1) (TokenBody (record (untouched_desk 4) {
+      mailed 1 (stamp 4 0) 2 (owner 1 1) (TokenBody (record (untouched_desk 4) {
         epoch = 1;
         queue = new_ask 0 Upgrade (stamp 3 1) ∷ [];
         entries =
@@ -139,9 +139,9 @@ tokens_on_way_after_11 = record {
             blank ∷
             [];
       })) ∷
-      letter_to 1 (stamp 6 0) 2 (owner 1 1) (tell no_modes [] (stamp 6 0)) ∷
-      letter_to 0 (stamp 2 2) 1 (owner 0 0) (AskBody (new_ask 1 Upgrade (stamp 2 2)) false) ∷
-      letter_to 0 (stamp 3 2) 2 (owner 0 0) (AskBody (new_ask 3 IntentionWrite (stamp 3 2)) false) ∷
+      mailed 1 (stamp 6 0) 2 (owner 1 1) (tell_body no_modes [] (stamp 6 0)) ∷
+      mailed 0 (stamp 2 2) 1 (owner 0 0) (AskBody (new_ask 1 Upgrade (stamp 2 2)) false) ∷
+      mailed 0 (stamp 3 2) 2 (owner 0 0) (AskBody (new_ask 3 IntentionWrite (stamp 3 2)) false) ∷
       [];
   went = (0 ∷ []) ∷ (0 ∷ 1 ∷ []) ∷ (0 ∷ 1 ∷ []) ∷ [];
   turns = turn 0 (Take 2) ∷ turn 1 (Take 0) ∷ turn 0 (Act 2) ∷ [];
