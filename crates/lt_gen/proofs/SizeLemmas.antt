@@ -1,8 +1,8 @@
 -- What it means of the sizes of a script that it can be made.
-use Rattle.std.proofs.Common.{IsTrue, ℕ, ◌≡◌, ◌⊎◌, ◌*◌, ◌<◌, ◌≤◌, ◌&&◌, nat_le, leb-true, inl, inr, arith, eq-eqb, ne_eqb}
+use Rattle.std.proofs.Common.{IsTrue, ℕ, Bool, true, false, if◌then◌else◌, ◌==◌, ◌≡◌, ◌⊎◌, ◌*◌, ◌<◌, ◌≤◌, ◌&&◌, nat_le, leb-true, inl, inr, arith, eq-eqb, ne_eqb}
 use Rattle.std.proofs.lemmas.Bool.{and_parts, cases_eq}
 use Rattle.lt_spec.specs.Script.{most_nodes, most_clients}
-use Rattle.lt_spec.specs.declared.limits.TheConstants.{MAX_NODES, MAX_CLIENTS_OF_NODE, MAX_COMMANDS}
+use Rattle.lt_spec.specs.declared.limits.TheConstants.{MAX_NODES, MAX_CLIENTS, MAX_CLIENTS_OF_FIRST, MAX_CLIENTS_OF_SECOND, MAX_CLIENTS_OF_NODE, MAX_COMMANDS}
 use Rattle.lt_gen.specs.Sizes.{can_make}
 
 -- the version is one, and each size is within its limits
@@ -29,9 +29,12 @@ nodes_within version = elim (cases_eq version 1) [
 ]
 
 pub clients_within : (version : ℕ) → most_clients version < 10000
-clients_within version = elim (cases_eq version 1) [
-  | inl first ↦ rw (eq-eqb version 1 first) (omega arith)
-  | inr later ↦ rw (ne_eqb version 1 later) (omega arith)
+clients_within version = elim (version == 1) as (λ t. (if t then MAX_CLIENTS_OF_FIRST else if version == 2 then MAX_CLIENTS_OF_SECOND else MAX_CLIENTS) < 10000) [
+  | true ↦ omega arith
+  | false ↦ elim (version == 2) as (λ t. (if t then MAX_CLIENTS_OF_SECOND else MAX_CLIENTS) < 10000) [
+    | true ↦ omega arith
+    | false ↦ omega arith
+  ]
 ]
 
 pub sizes_of : (version nodes clients commands : ℕ) → IsTrue (can_make version nodes clients commands) → AreSizes version nodes clients commands

@@ -3,8 +3,8 @@ ghost use Rattle.lt_spec.specs.Script.{most_nodes, most_clients};
 ghost use Rattle.lt_gen.specs.Sizes.{can_make};
 
 use lt_script::{
-    MAX_CLIENTS, MAX_CLIENTS_OF_FIRST, MAX_CLIENTS_OF_NODE, MAX_COMMANDS, MAX_NODES,
-    MAX_NODES_OF_FIRST,
+    MAX_CLIENTS, MAX_CLIENTS_OF_FIRST, MAX_CLIENTS_OF_NODE, MAX_CLIENTS_OF_SECOND, MAX_COMMANDS,
+    MAX_NODES, MAX_NODES_OF_FIRST,
 };
 
 /// Whether a script of this version can be made with so many nodes, clients and commands.
@@ -37,6 +37,7 @@ fn most_clients(version: u32) -> u32
 {
     match version {
         1 => u32::from(MAX_CLIENTS_OF_FIRST),
+        2 => u32::from(MAX_CLIENTS_OF_SECOND),
         _ => u32::from(MAX_CLIENTS),
     }
 }
