@@ -18,8 +18,9 @@ import ctypes
 import os
 import threading
 import time
+from contextlib import contextmanager
 from ctypes import POINTER, c_size_t, c_uint8, c_uint32, c_uint64
-from typing import Any, Callable, Dict, List, Optional, Sequence, Tuple
+from typing import Any, Callable, Dict, Iterator, List, Optional, Sequence, Tuple
 
 
 OK, NOTHING, WRONG_HANDLE, NO_MEMORY, BAD_ARGUMENT, BAD_SCRIPT, SPENT, FULL, LOG_FULL, FORGOTTEN, TOO_MANY, BAD_SET = \
@@ -39,7 +40,7 @@ FAULTS = {
     NOTHING: 'nothing is asked for',
     WRONG_HANDLE: 'the nodes have ended',
     NO_MEMORY: 'out of memory',
-    BAD_ARGUMENT: 'the script has no such set, mode or client',
+    BAD_ARGUMENT: 'a number out of range, or the script has no such set, mode or client',
     BAD_SCRIPT: 'the script has a fault',
     SPENT: "the session's share of commands is used up",
     LOG_FULL: 'a node made as many moves as it may',
@@ -288,7 +289,7 @@ class Session:
     """The session of one client. Its calls wait by turning the nodes."""
 
     def __init__(self, nodes: Nodes, handle: Handle) -> None:
-        self.nodes, self.handle, self.one = nodes, handle, threading.Lock()
+        self.nodes, self.handle, self.one = nodes, handle, threading.RLock()
         # The command whose reply is still to come, whether that to a withdraw of it is to come too, and the reply to the command
         # where only that to the withdraw is.
         self.asked: Optional[Tuple[int, str, int]] = None
@@ -301,6 +302,16 @@ class Session:
         self.sets: Dict[str, int] = {}
         self.home: int = nodes.library.lockrun_home(handle)
         self.client: int = nodes.library.lockrun_client(handle)
+
+    @contextmanager
+    def alone(self) -> Iterator[None]:
+        """While a call of this thread uses the session. In another one that is an error."""
+        if not self.one.acquire(blocking=False):
+            raise RuntimeError('a session is used by one thread at a time')
+        try:
+            yield
+        finally:
+            self.one.release()
 
     def left(self) -> int:
         """How many commands may still be submitted."""
@@ -318,69 +329,77 @@ class Session:
     def lock(self, name: str, mode: str, timeout: Optional[float] = None) -> Guard:
         """Waits until the lock is granted, or for so many seconds; then it gives up, and Withdrawn is raised. No exception leaves
         the lock asked for."""
-        code = self._within(timeout, LOCK, name, number_of(mode))
-        if code != GRANTED:
-            raise fault_of(code)
-        return Guard(self, name, mode)
+        with self.alone():
+            code = self._within(timeout, LOCK, name, number_of(mode))
+            if code != GRANTED:
+                raise fault_of(code)
+            return Guard(self, name, mode)
 
     def ask(self, name: str, mode: str, patience: Optional[float] = None) -> Guard:
         """Waits for so many seconds, for callers that go on waiting: after StillWaits the lock is still asked for. `wait` goes on
         waiting for it, `give_up` gives it up, and until then no other call does anything."""
-        self._submit(LOCK, name, number_of(mode))
-        return self.wait(patience)
+        with self.alone():
+            self._submit(LOCK, name, number_of(mode))
+            return self.wait(patience)
 
     def wait(self, patience: Optional[float] = None) -> Guard:
         """Goes on waiting for the lock that was asked for."""
-        name, mode = self._asked_lock()
-        code, _ = self._reply(patience)
-        if code != GRANTED:
-            raise fault_of(code)
-        return Guard(self, name, mode)
+        with self.alone():
+            name, mode = self._asked_lock()
+            code, _ = self._reply(patience)
+            if code != GRANTED:
+                raise fault_of(code)
+            return Guard(self, name, mode)
 
     def give_up(self) -> Optional[Guard]:
         """Gives up the lock that was asked for: None, or the guard if it was granted first. It waits for no other client."""
-        name, mode = self._asked_lock()
-        code, _ = self._give_up()
-        if code in (WITHDRAWN, WITHHELD):
-            return None
-        if code != GRANTED:
-            raise LockError(code)
-        return Guard(self, name, mode)
+        with self.alone():
+            name, mode = self._asked_lock()
+            code, _ = self._give_up()
+            if code in (WITHDRAWN, WITHHELD):
+                return None
+            if code != GRANTED:
+                raise LockError(code)
+            return Guard(self, name, mode)
 
     def try_lock(self, name: str, mode: str) -> Optional[Guard]:
         """Has the lock at once, or None: None may come though nobody holds the set, on another node than the one that has its
         token. `lock` with a short timeout is granted then."""
-        code, _ = self._call(TRY, name, number_of(mode))
-        return Guard(self, name, mode) if code == TRUE else None
+        with self.alone():
+            code, _ = self._call(TRY, name, number_of(mode))
+            return Guard(self, name, mode) if code == TRUE else None
 
     def drop(self, name: str, whose: str) -> int:
         """Drops the locks of a client of the same node in the set's family: how many they were."""
-        code, count = self._call(DROP, name, self.nodes.clients[whose])
-        if code != DROPPED:
-            raise LockError(code)
-        return count
+        with self.alone():
+            code, count = self._call(DROP, name, self.nodes.clients[whose])
+            if code != DROPPED:
+                raise LockError(code)
+            return count
 
     def withdraw(self, name: str, whose: str) -> bool:
         """Gives up what another client of the same node waits for in the set: whether it waited there. Its call raises
         Withdrawn."""
-        code, _ = self._call(WITHDRAW, name, self.nodes.clients[whose])
-        if code not in (TRUE, FALSE):
-            raise LockError(code)
-        return code == TRUE
+        with self.alone():
+            code, _ = self._call(WITHDRAW, name, self.nodes.clients[whose])
+            if code not in (TRUE, FALSE):
+                raise LockError(code)
+            return code == TRUE
 
     def abort(self) -> int:
         """Gives up what it waits for, and then drops all its locks, family by family: how many they were. Guards of before do
         nothing at their end."""
-        self._end_ask()
-        count = 0
-        while self.held:
-            count += self._call(DROP, next(reversed(self.held)), self.client)[1]
-        self.aborts += 1
-        return count
+        with self.alone():
+            self._end_ask()
+            count = 0
+            while self.held:
+                count += self._call(DROP, next(reversed(self.held)), self.client)[1]
+            self.aborts += 1
+            return count
 
     def _ask_library(self, call: str, *arguments: object) -> int:
-        """A call of the library with the session's handle, in one thread at a time. After the nodes' end it is an error."""
-        with self.one:
+        """A call of the library with the session's handle. After the nodes' end it is an error."""
+        with self.alone():
             return int(getattr(self.nodes.library, call)(live(self.handle), *arguments))
 
     def _asked(self) -> Tuple[int, str, int]:
@@ -545,21 +564,24 @@ class Guard:
     def change(self, mode: str, timeout: Optional[float] = None) -> None:
         """Changes the mode. It waits until the new one goes with what others hold, or for so many seconds; then it gives up, and
         Withdrawn is raised. After an exception it has the mode that it had."""
-        code = self.session._within(timeout, CHANGE, self.name, number_of(self.mode), number_of(mode))
-        if code != CHANGED:
-            raise fault_of(code)
-        self.mode = mode
+        with self.session.alone():
+            code = self.session._within(timeout, CHANGE, self.name, number_of(self.mode), number_of(mode))
+            if code != CHANGED:
+                raise fault_of(code)
+            self.mode = mode
 
     def unlock(self) -> None:
         """Gives the lock up."""
-        code, _ = self.session._call(UNLOCK, self.name, number_of(self.mode))
-        if code != UNLOCKED:
-            raise LockError(code)
+        with self.session.alone():
+            code, _ = self.session._call(UNLOCK, self.name, number_of(self.mode))
+            if code != UNLOCKED:
+                raise LockError(code)
 
     def __enter__(self) -> Guard:
         return self
 
     def __exit__(self, *_: object) -> None:
-        if self.aborts == self.session.aborts:
-            self.session._end_ask()
-            self.unlock()
+        with self.session.alone():
+            if self.aborts == self.session.aborts:
+                self.session._end_ask()
+                self.unlock()
