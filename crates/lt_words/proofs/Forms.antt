@@ -21,14 +21,23 @@ plain_step : (c : List Rule) (held : Held) (position b : ℕ) (rest : List ℕ) 
 unfolding clap_on_literals
 plain_step c held position b rest e = simp e
 
-top_walk : (words : List Text) → walk (built lockrun).top.rules (names_of (built lockrun)) nothing_held (codes "make" ∷ words)
-    ≡ record (at_word nothing_held 1) { stopped = Some (codes "make", words) }
+top_walk : (t u v w : List ℕ) → walk (built lockrun).top.rules (names_of (built lockrun)) nothing_held (codes "make" ∷ t ∷ u ∷ v ∷ w ∷ [])
+    ≡ record (at_word nothing_held 1) { stopped = Some (codes "make", t ∷ u ∷ v ∷ w ∷ []) }
 unfolding clap_on_literals
-top_walk words = refl
+top_walk t u v w = refl
 
-top_passes : (words : List Text) → walk_passes (built lockrun).top (names_of (built lockrun)) (walk_from nothing_held) (codes "make" ∷ words) ≡ true
+top_passes : (t u v w : List ℕ) → walk_passes (built lockrun).top (names_of (built lockrun)) (walk_from nothing_held) (codes "make" ∷ t ∷ u ∷ v ∷ w ∷ []) ≡ true
 unfolding clap_on_literals
-top_passes words = refl
+top_passes t u v w = refl
+
+top_walk_six : (t u v w x y : List ℕ) → walk (built lockrun).top.rules (names_of (built lockrun)) nothing_held (codes "make" ∷ t ∷ u ∷ v ∷ w ∷ x ∷ y ∷ [])
+    ≡ record (at_word nothing_held 1) { stopped = Some (codes "make", t ∷ u ∷ v ∷ w ∷ x ∷ y ∷ []) }
+unfolding clap_on_literals
+top_walk_six t u v w x y = refl
+
+top_passes_six : (t u v w x y : List ℕ) → walk_passes (built lockrun).top (names_of (built lockrun)) (walk_from nothing_held) (codes "make" ∷ t ∷ u ∷ v ∷ w ∷ x ∷ y ∷ []) ≡ true
+unfolding clap_on_literals
+top_passes_six t u v w x y = refl
 
 -- the arguments of `make`, once the command is built
 abbrev make_shape : Shape
@@ -83,12 +92,12 @@ module _ (a b c d : ℕ) (t u v w : List ℕ) (e : (a == 45) ≡ false) (f : (b 
 
   pub make_taken : takes lockrun (codes "make" ∷ (a ∷ t) ∷ (b ∷ u) ∷ (c ∷ v) ∷ (d ∷ w) ∷ []) ≡ true
   make_taken =
-      let words = (a ∷ t) ∷ (b ∷ u) ∷ (c ∷ v) ∷ (d ∷ w) ∷ [] in rw (top_walk words, top_passes words, make_passes, make_walk) refl
+      rw (top_walk (a ∷ t) (b ∷ u) (c ∷ v) (d ∷ w), top_passes (a ∷ t) (b ∷ u) (c ∷ v) (d ∷ w), make_passes, make_walk) refl
 
   pub make_found : command_in (subcommand_of lockrun (codes "make" ∷ (a ∷ t) ∷ (b ∷ u) ∷ (c ∷ v) ∷ (d ∷ w) ∷ []))
       ≡ command_of (codes "make" ∷ (a ∷ t) ∷ (b ∷ u) ∷ (c ∷ v) ∷ (d ∷ w) ∷ [])
   make_found = ap command_in (
-      ap (λ (x : Walk). entered (built lockrun) x.stopped) (top_walk ((a ∷ t) ∷ (b ∷ u) ∷ (c ∷ v) ∷ (d ∷ w) ∷ []))
+      ap (λ (x : Walk). entered (built lockrun) x.stopped) (top_walk (a ∷ t) (b ∷ u) (c ∷ v) (d ∷ w))
       ∙ ap (λ (x : Walk). Some (codes "make", finished make_shape.rules x.held)) make_walk
       )
 
@@ -124,11 +133,11 @@ module _ (a b c d : ℕ) (t u v w : List ℕ) (e : (a == 45) ≡ false) (f : (b 
         ∙ passes_end make_shape sixth
 
     pub version_taken : takes lockrun (codes "make" ∷ six_words) ≡ true
-    version_taken = rw (top_walk six_words, top_passes six_words, version_passes, version_walk) refl
+    version_taken = rw (top_walk_six (a ∷ t) (b ∷ u) (c ∷ v) (d ∷ w) (k ∷ x) (l ∷ y), top_passes_six (a ∷ t) (b ∷ u) (c ∷ v) (d ∷ w) (k ∷ x) (l ∷ y), version_passes, version_walk) refl
 
     pub version_found : command_in (subcommand_of lockrun (codes "make" ∷ six_words)) ≡ command_of (codes "make" ∷ six_words)
     version_found = ap command_in (
-        ap (λ (x : Walk). entered (built lockrun) x.stopped) (top_walk six_words)
+        ap (λ (x : Walk). entered (built lockrun) x.stopped) (top_walk_six (a ∷ t) (b ∷ u) (c ∷ v) (d ∷ w) (k ∷ x) (l ∷ y))
         ∙ ap (λ (x : Walk). Some (codes "make", finished make_shape.rules x.held)) version_walk
         )
 

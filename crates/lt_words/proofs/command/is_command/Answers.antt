@@ -1,6 +1,6 @@
-use Rattle.std.proofs.Common.{◌∙◌, ap, is_some}
+use Rattle.std.proofs.Common.{◌∙◌, ap, arith, is_some}
 use Rattle.lt_words.specs.Grammar.{command_of}
-use Rattle.lt_words.proofs.Counted.{of_one, of_two, of_five, of_seven}
+use Rattle.lt_words.proofs.Counted.{of_one, of_two, of_five, of_seven, other_counts}
 use Rattle.lt_words.proofs.command.is_command.Goals as goal
 
 pub returns-in-len1 : goal.returns-in-len1
@@ -31,3 +31,15 @@ returns-in-len7 c =
     c.verb-item-then-words-lt8.is c.deref-in-len7.ensures c.nodes-item-then-words-lt8.is c.deref-in-len7-2.ensures c.clients-item-then-words-lt8.is c.deref-in-len7-3.ensures
     c.commands-item-then-words-lt8.is c.deref-in-len7-4.ensures c.seed-item-then-words-lt8.is c.deref-in-len7-5.ensures
     c.key-item.is c.deref-in-len7-6.ensures c.version-item.is c.deref-in-len7-7.ensures c.in-len7.len_at_least c.in-len7.len_below
+
+pub returns-in_default-2 : goal.returns-in_default-2
+returns-in_default-2 c = other_counts c.args.words.now (λ e. omega (arith, e, c.in_default.len_at_least, c.in_default.len_below)) (λ e. omega (arith, e, c.in_default.len_at_least, c.in_default.len_below))
+    (λ e. omega (arith, e, c.in_default.len_at_least, c.in_default.len_below)) (λ e. omega (arith, e, c.in_default.len_at_least, c.in_default.len_below))
+
+pub returns-in_default-3 : goal.returns-in_default-3
+returns-in_default-3 c = other_counts c.args.words.now (λ e. omega (arith, e, c.in_default.len_at_least, c.in_default.len_below)) (λ e. omega (arith, e, c.in_default.len_at_least, c.in_default.len_below))
+    (λ e. omega (arith, e, c.in_default.len_at_least, c.in_default.len_below)) (λ e. omega (arith, e, c.in_default.len_at_least, c.in_default.len_below))
+
+pub returns-in_default-4 : goal.returns-in_default-4
+returns-in_default-4 c = other_counts c.args.words.now (λ e. omega (arith, e, c.in_default.len_at_least)) (λ e. omega (arith, e, c.in_default.len_at_least))
+    (λ e. omega (arith, e, c.in_default.len_at_least)) (λ e. omega (arith, e, c.in_default.len_at_least))
