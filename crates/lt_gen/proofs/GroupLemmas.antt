@@ -17,7 +17,7 @@ use Rattle.lt_spec.specs.Script.{IsRequest, IsOfVersion}
 use Rattle.lt_gen.specs.declared.group.Group.{Group}
 use Rattle.lt_gen.specs.declared.group.Group.TheVariants.{Last, Lock, Try, Upgrade, Change, GiveUp, Release, Withdraw}
 use Rattle.lt_gen.specs.declared.group.Sizes.{Sizes}
-use Rattle.lt_gen.specs.Generator.{draw_of, nth_mode, mode_among, modes_of, drawn_beside, count_beside, nth_beside, group_of, group_by, third_by, set_of, group_commands, IsGroupOf, IsBeside, NamesBeside}
+use Rattle.lt_gen.specs.Generator.{draw_of, nth_mode, mode_among, modes_drawn, drawn_beside, count_beside, nth_beside, group_of, group_by, third_by, set_of, group_commands, IsGroupOf, IsOnSameNode, NamesBeside}
 
 -- A client on the node of another one.
 
@@ -29,39 +29,39 @@ some_beside sizes client k inside small =
     omega (arith, inside, rounds, div-mul-le_self room sizes.nodes, mod-le client sizes.nodes)
 
 pub is_beside : (sizes : Sizes) (client k : ℕ) → 0 < sizes.nodes → client < sizes.clients → k < count_beside sizes client
-    → IsBeside sizes client (nth_beside sizes client k)
+    → IsOnSameNode sizes client (nth_beside sizes client k)
 is_beside sizes client k some inside small = record {
   inside = omega (arith, some_beside sizes client k inside small);
   together = add-mul-mod_self_right (client % sizes.nodes) k sizes.nodes ∙ mod-mod client sizes.nodes;
 }
 
-drawn_is_beside : (sizes : Sizes) (client : ℕ) (g : Lcg) → 0 < sizes.nodes → client < sizes.clients → IsBeside sizes client (drawn_beside sizes client g).0
+drawn_is_beside : (sizes : Sizes) (client : ℕ) (g : Lcg) → 0 < sizes.nodes → client < sizes.clients → IsOnSameNode sizes client (drawn_beside sizes client g).0
 unfolding draw_of
 drawn_is_beside sizes client g some inside = is_beside sizes client _ some inside (mod_below (pcg32 g).0 (count_beside sizes client) (omega arith))
 
 -- Drawn modes.
 
 -- one of the five is drawn as such
-mode_five : (k : ℕ) → is_of_five (nth_mode (modes_of 1) k) ≡ true
+mode_five : (k : ℕ) → is_of_five (nth_mode (modes_drawn 1) k) ≡ true
 mode_five zero = refl
 mode_five (suc zero) = refl
 mode_five (suc (suc zero)) = refl
 mode_five (suc (suc (suc zero))) = refl
 mode_five (suc (suc (suc (suc k)))) = by_rest k
   where
-    by_rest : (k : ℕ) → is_of_five (nth_mode (modes_of 1) (suc (suc (suc (suc k))))) ≡ true
+    by_rest : (k : ℕ) → is_of_five (nth_mode (modes_drawn 1) (suc (suc (suc (suc k))))) ≡ true
     by_rest zero = refl
     by_rest (suc k) = refl
 
 -- a mode at some place among those of the version is one of the version
-pub mode_of_version : (version k : ℕ) → is_of_version version (nth_mode (modes_of version) k) ≡ true
+pub mode_of_version : (version k : ℕ) → is_of_version version (nth_mode (modes_drawn version) k) ≡ true
 mode_of_version version k = elim (cases_eq version 1) [
   | inl first ↦ rw first (mode_five k)
   | inr later ↦ rw (ne_eqb version 1 later) refl
 ]
 
 -- a drawn one of all modes, and `write` in the place of the one that isn't one of the five
-pub drawn_is_nth : (k : ℕ) (other : Mode) → k < 5 → (if is_of_five (get_or MODES k other) then get_or MODES k other else modes.Write) ≡ nth_mode (modes_of 1) k
+pub drawn_is_nth : (k : ℕ) (other : Mode) → k < 5 → (if is_of_five (get_or MODES k other) then get_or MODES k other else modes.Write) ≡ nth_mode (modes_drawn 1) k
 drawn_is_nth zero other below = refl
 drawn_is_nth (suc zero) other below = refl
 drawn_is_nth (suc (suc zero)) other below = refl
@@ -69,7 +69,7 @@ drawn_is_nth (suc (suc (suc zero))) other below = refl
 drawn_is_nth (suc (suc (suc (suc k)))) other below = by_rest k below
   where
     by_rest : (k : ℕ) → suc (suc (suc (suc k))) < 5
-        → (if is_of_five (get_or MODES (suc (suc (suc (suc k)))) other) then get_or MODES (suc (suc (suc (suc k)))) other else modes.Write) ≡ nth_mode (modes_of 1) (suc (suc (suc (suc k))))
+        → (if is_of_five (get_or MODES (suc (suc (suc (suc k)))) other) then get_or MODES (suc (suc (suc (suc k)))) other else modes.Write) ≡ nth_mode (modes_drawn 1) (suc (suc (suc (suc k))))
     by_rest zero below = refl
     by_rest (suc k) below = absurd (omega (arith, below))
 
@@ -103,7 +103,7 @@ pub record HoldsOfEach (P : Group → Type 0) (sizes : Sizes) (client left : ℕ
   pub give_up : (set : ℕ) (mode : Mode) → set < 4 → 3 ≤ left → sizes.version ≡ 3 → P (GiveUp client set mode)
   pub release : (set : ℕ) → set < 4 → 3 ≤ left → sizes.version ≡ 3 → P (Release client set)
   pub withdraw : (set other : ℕ) → set < 4 → left ≢ 1 → sizes.version ≡ 3
-      → (0 < sizes.nodes → client < sizes.clients → IsBeside sizes client other) → P (Withdraw other set)
+      → (0 < sizes.nodes → client < sizes.clients → IsOnSameNode sizes client other) → P (Withdraw other set)
 
 module _ (P : Group → Type 0) (sizes : Sizes) (client left : ℕ) (each : HoldsOfEach P sizes client left) (more : left ≢ 1) (set : ℕ) (fits : set < 4) where
   of_first : (kind : ℕ) (g : Lcg) → P (group_by sizes.version left set kind g).0
@@ -185,7 +185,7 @@ beside_drawn sizes client left g some inside = of_drawn (NamesBeside sizes clien
   withdraw = λ set other fits more third beside. beside some inside;
 })
   where
-    itself : IsBeside sizes client client
+    itself : IsOnSameNode sizes client client
     itself = record { inside = inside; together = refl }
 
 -- a drawn group has no more commands than are left
@@ -207,7 +207,7 @@ few_drawn sizes client left g some = of_drawn (λ group. length (group_commands 
 -- What a group names is of the script.
 
 module _ (sets : List SetData) (clients : List ClientData) (sizes : Sizes) (client : ℕ) (inside : client < length clients) (four : 4 ≤ length sets)
-    (beside : (other : ℕ) → IsBeside sizes client other → (other < length clients) × (home_at clients other ≡ home_at clients client)) where
+    (beside : (other : ℕ) → IsOnSameNode sizes client other → (other < length clients) × (home_at clients other ≡ home_at clients client)) where
   found : (set : ℕ) → set < 4 → set < length sets
   found set fits = omega (arith, four, fits)
 

@@ -9,7 +9,7 @@ use Rattle.lt_modes.specs.declared.command.Command.{Command}
 use Rattle.lt_lists.proofs.AllLemmas.{all_append, all_map}
 use Rattle.lt_spec.specs.Script.{most_nodes, most_clients, IsScript, IsShort, IsRequest, IsOfVersion}
 use Rattle.lt_script.proofs.ScriptLemmas.{get_front, get_last, set_added, client_added}
-use Rattle.lt_gen.specs.Generator.{client_at, clients_of, four_sets, group_of, group_commands, requests_of, requests_in, set_of, IsBeside, NamesBeside, seeded, HasSizes, script_of}
+use Rattle.lt_gen.specs.Generator.{client_at, clients_of, four_sets, group_of, group_commands, requests_of, requests_in, set_of, IsOnSameNode, NamesBeside, seeded, HasSizes, script_of}
 use Rattle.lt_gen.specs.declared.group.Group.{Group}
 use Rattle.lt_gen.specs.declared.group.Sizes.{Sizes}
 use Rattle.lt_gen.specs.Sizes.{can_make}
@@ -85,7 +85,7 @@ home_made nodes (suc n) k inside = elim (cases_eq k n) [
 ]
 
 -- the clients beside a client are of the script, and on its node
-pub all_beside : (sizes : Sizes) (client other : ℕ) → client < sizes.clients → IsBeside sizes client other
+pub all_beside : (sizes : Sizes) (client other : ℕ) → client < sizes.clients → IsOnSameNode sizes client other
     → (other < length (clients_of sizes.nodes sizes.clients))
     × (home_at (clients_of sizes.nodes sizes.clients) other ≡ home_at (clients_of sizes.nodes sizes.clients) client)
 all_beside sizes client other inside beside = (

@@ -25,8 +25,8 @@ draw_of n g = ((pcg32 g).0 % n, (pcg32 g).1)
 -- The groups of commands of a generated script: what a client does in its turn.
 
 -- the modes of this version, in order
-abbrev pub modes_of : ℕ → List Mode
-modes_of version = if version == 1 then filter is_of_five modes_in_order else modes_in_order
+abbrev pub modes_drawn : ℕ → List Mode
+modes_drawn version = if version == 1 then filter is_of_five modes_in_order else modes_in_order
 
 -- the mode at this place
 abbrev pub nth_mode : List Mode → ℕ → Mode
@@ -38,7 +38,7 @@ mode_among among g = (nth_mode among (draw_of (length among) g).0, (draw_of (len
 
 -- one of the modes of this version
 abbrev pub drawn_mode : ℕ → Lcg → Mode × Lcg
-drawn_mode version g = mode_among (modes_of version) g
+drawn_mode version g = mode_among (modes_drawn version) g
 
 -- a group that takes a drawn mode
 abbrev pub drawn_with : (Mode → Group) → Mode × Lcg → Group × Lcg
@@ -109,15 +109,15 @@ IsGroupOf version (Withdraw client set) = version ≡ 3
 IsGroupOf version other = Unit {0}
 
 -- the other client is of the script, and on the client's node
-pub record IsBeside (sizes : Sizes) (client other : ℕ) : Type 0 where
+pub record IsOnSameNode (sizes : Sizes) (client other : ℕ) : Type 0 where
   pub inside : other < sizes.clients
   pub together : other % sizes.nodes ≡ client % sizes.nodes
 
 -- the client that the group names, if it names one, is on the node of the client that makes it
 abbrev pub NamesBeside : Sizes → ℕ → Group → Type 0
-NamesBeside sizes client (GiveUp other set mode) = IsBeside sizes client other
-NamesBeside sizes client (Release other set) = IsBeside sizes client other
-NamesBeside sizes client (Withdraw other set) = IsBeside sizes client other
+NamesBeside sizes client (GiveUp other set mode) = IsOnSameNode sizes client other
+NamesBeside sizes client (Release other set) = IsOnSameNode sizes client other
+NamesBeside sizes client (Withdraw other set) = IsOnSameNode sizes client other
 NamesBeside sizes client other = Unit {0}
 
 -- the commands of the group, in order
@@ -127,7 +127,8 @@ group_commands (Lock set mode) = commands.Lock set mode ∷ commands.Unlock set 
 group_commands (Try set mode) = commands.Try set mode ∷ commands.Unlock set mode ∷ []
 group_commands (Upgrade set) = commands.Lock set modes.Upgrade ∷ commands.Unlock set modes.Upgrade ∷ []
 group_commands (Change set) =
-    commands.Lock set modes.Upgrade ∷ commands.Change set modes.Upgrade modes.Write ∷ commands.Unlock set modes.Write ∷ []
+    commands.Lock set modes.Upgrade ∷ commands.Change set modes.Upgrade modes.Write
+    ∷ commands.Unlock set modes.Write ∷ []
 group_commands (GiveUp client set mode) =
     commands.Lock set mode ∷ commands.Withdraw client set ∷ commands.Unlock set mode ∷ []
 group_commands (Release client set) =
@@ -170,7 +171,8 @@ unfoldable pub requests_in : ℕ → Sizes → ℕ → ℕ → Lcg → List (ℕ
 requests_in zero sizes left turn g = []
 requests_in (suc n) sizes left turn g =
     if left == 0 then []
-    else turn_and (λ left g. requests_in n sizes left (turn + 1) g) (turn % sizes.clients) left (group_of sizes (turn % sizes.clients) left g)
+    else turn_and (λ left g. requests_in n sizes left (turn + 1) g) (turn % sizes.clients) left
+    (group_of sizes (turn % sizes.clients) left g)
 
 -- the script of this version with so many nodes, clients and commands that is made from the seed; each turn makes a
 -- command

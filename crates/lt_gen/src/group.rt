@@ -2,7 +2,7 @@ ghost use Rattle.std.specs.Prelude.{◌≡◌, ◌<◌, ◌≤◌, ◌∷◌, []
 ghost use Rattle.lt_modes.specs.FiveModes.{is_of_five, is_of_version};
 ghost use Rattle.lt_modes.specs.declared.mode.Mode.TheVariants.{Upgrade, Write};
 ghost use Rattle.lt_modes.specs.declared.command.Command.TheVariants.{Lock, Change};
-ghost use Rattle.lt_gen.specs.Generator.{draw_of, drawn_mode, drawn_beside, group_of, group_by, third_by, set_of, group_commands, IsGroupOf, IsBeside, NamesBeside};
+ghost use Rattle.lt_gen.specs.Generator.{draw_of, drawn_mode, drawn_beside, group_of, group_by, third_by, set_of, group_commands, IsGroupOf, IsOnSameNode, NamesBeside};
 
 use crate::draws::Draws;
 use lt_modes::{Command, MODES, Mode};
@@ -208,7 +208,7 @@ fn drawn_beside(draws: &mut Draws, sizes: Sizes, client: u16) -> u16
     requires some_node { 0 < sizes.nodes }
     requires inside { client < sizes.clients }
     ensures value { (result, draws.new) ≡ drawn_beside sizes client draws.old }
-    ensures beside { IsBeside sizes client result }
+    ensures beside { IsOnSameNode sizes client result }
 {
     let nodes = u32::from(sizes.nodes);
     let first = u32::from(client) % nodes;

@@ -19,7 +19,8 @@ pub fn law_generated()
     ensures sizes { (version nodes clients commands seed : ℕ)
         → HasSizes nodes 4 clients commands (script_of version nodes clients commands seed) }
     ensures read_back { (version nodes clients commands seed : ℕ) → IsTrue (can_make version nodes clients commands)
-        → read_of (print_of (script_of version nodes clients commands seed)) ≡ Ok (script_of version nodes clients commands seed) }
+        → read_of (print_of (script_of version nodes clients commands seed))
+        ≡ Ok (script_of version nodes clients commands seed) }
 {
     law_print();
 }

@@ -45,7 +45,8 @@ make_of version nodes clients commands seed = None
 -- `make NODES CLIENTS COMMANDS SEED`, which has version 1
 abbrev pub five_words : List ℕ → List ℕ → List ℕ → List ℕ → List ℕ → Option Command
 five_words word nodes clients commands seed =
-    if bytes_eq word (codes "make") then make_of (Some 1) (number nodes) (number clients) (number commands) (seed_of seed) else None
+    if bytes_eq word (codes "make") then make_of (Some 1) (number nodes) (number clients) (number commands) (seed_of seed)
+    else None
 
 -- `version VERSION`
 abbrev pub version_of : List ℕ → List ℕ → Option ℕ
@@ -54,14 +55,17 @@ version_of word version = if bytes_eq word (codes "version") then number version
 -- `make NODES CLIENTS COMMANDS SEED version VERSION`
 abbrev pub seven_words : List ℕ → List ℕ → List ℕ → List ℕ → List ℕ → List ℕ → List ℕ → Option Command
 seven_words word nodes clients commands seed key version =
-    if bytes_eq word (codes "make") then make_of (version_of key version) (number nodes) (number clients) (number commands) (seed_of seed) else None
+    if bytes_eq word (codes "make")
+    then make_of (version_of key version) (number nodes) (number clients) (number commands) (seed_of seed)
+    else None
 
 -- the command that the words are
 abbrev pub command_of : List (List ℕ) → Option Command
 command_of (word ∷ []) = one_word word
 command_of (word ∷ seed ∷ []) = two_words word seed
 command_of (word ∷ nodes ∷ clients ∷ commands ∷ seed ∷ []) = five_words word nodes clients commands seed
-command_of (word ∷ nodes ∷ clients ∷ commands ∷ seed ∷ key ∷ version ∷ []) = seven_words word nodes clients commands seed key version
+command_of (word ∷ nodes ∷ clients ∷ commands ∷ seed ∷ key ∷ version ∷ []) =
+    seven_words word nodes clients commands seed key version
 command_of words = None
 
 -- The commands as `clap` knows them, and what a parse finds.
