@@ -104,7 +104,7 @@ done
 expect '--version' "lockrun $(cat "$here/VERSION")
 status 0" "$(said "$top/lockrun" --version)"
 usage='lockrun: usage: run | sim first | sim SEED | check | make NODES CLIENTS COMMANDS SEED | soak SEED | order
-lockrun: and also: make NODES CLIENTS COMMANDS SEED version VERSION | seeds FROM TO | --help | --version'
+lockrun: and also: make NODES CLIENTS COMMANDS SEED version VERSION | seeds FROM TO | show [VIEW] JOURNAL | --help | --version'
 no_command() {
   why=$1
   shift
@@ -113,7 +113,7 @@ lockrun: $why}
 status 1" "$(PATH=$room/no-rt && said "$room/bare/lockrun" "$@" </dev/null)"
 }
 long=$(printf '%070d' 7)
-no_command 'further words are seeds FROM TO and show JOURNAL'
+no_command ''
 no_command '"" is none of run, sim, check, make, soak, order, seeds and show' ''
 no_command '"simulate" is none of run, sim, check, make, soak, order, seeds and show' simulate first
 no_command '"r?n" is none of run, sim, check, make, soak, order, seeds and show' "$(printf 'r\377n')"
@@ -488,6 +488,7 @@ printf 'crates.txt\ncrates/locknest/src\ncrates/locknest/src/main.rt\n' >"$nest/
 expect 'locknest' '<set s>
 status 0' "$(echo 'set s' | said "$nest/locknest")"
 expect 'locknest with a word' 'locknest: usage: locknest
+locknest: and also: --help | --version
 locknest: "run" is no file that can be read, and nothing else may stand there
 status 1' "$(said "$nest/locknest" run </dev/null)"
 expect 'locknest --version' "locknest $(cat "$here/VERSION")
@@ -553,15 +554,19 @@ journal
 end 0
 status 0' "$(said "$top/lockrun" check "$room/a script" "$room/-journal" | sed 's/^end 0status/end 0\nstatus/')"
 expect 'lockwaits with a word' 'lockwaits: usage: lockwaits
+lockwaits: and also: why | [why] SCRIPT JOURNAL | --help | --version
 lockwaits: "run" is no file that can be read, and nothing else may stand there
 status 1' "$(said "$waits/lockwaits" run </dev/null)"
 expect 'lockwaits with three words' 'lockwaits: usage: lockwaits
+lockwaits: and also: why | [why] SCRIPT JOURNAL | --help | --version
 lockwaits: "three" is one word too many
 status 1' "$(said "$waits/lockwaits" one two three </dev/null)"
 expect 'lockwaits why with a word' 'lockwaits: usage: lockwaits
+lockwaits: and also: why | [why] SCRIPT JOURNAL | --help | --version
 lockwaits: "not" is no file that can be read, and nothing else may stand there
 status 1' "$(said "$waits/lockwaits" why not </dev/null)"
 expect 'lockwaits why with four words' 'lockwaits: usage: lockwaits
+lockwaits: and also: why | [why] SCRIPT JOURNAL | --help | --version
 lockwaits: "three" is one word too many
 status 1' "$(said "$waits/lockwaits" why one two three </dev/null)"
 expect 'lockwaits --version' "lockwaits $(cat "$here/VERSION")
@@ -624,9 +629,11 @@ expect 'locklive, too many commands' 'locklive: too many commands of client 3
 locklive: " client d at 0": line 7: d has 2 commands, and each of 4 clients at most 1024
 status 10' "$(said "$live/locklive" <"$room/many")"
 expect 'locklive with a word' 'locklive: usage: locklive
+locklive: and also: --help | --version
 locklive: "a.script" is no file that can be read, and nothing else may stand there
 status 1' "$(said "$live/locklive" a.script </dev/null)"
 expect 'locklive with two words' 'locklive: usage: locklive
+locklive: and also: --help | --version
 locklive: "two" is one word too many
 status 1' "$(said "$live/locklive" one two </dev/null)"
 expect 'locklive with a file' '<# stuck>
