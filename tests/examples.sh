@@ -140,6 +140,11 @@ parts() {
   script=examples/hot-row.script journal=examples/hot-row.journal
   tools/journal-picture --moves 5-9 "$script" "$journal" | grep -q '>moves 5 to 9 of 28 moves,' ||
     fail 'no part from move 5 to 9'
+  [ "$(tools/journal-trace --moves 5-8 "$script" "$journal" | sed -n 's/^node[0-9]* //p' | tail -n 1)" = \
+    '{"node0": 1, "node1": 2, "node2": 1}' ] || fail 'no trace of a part from move 5 to 8'
+  [ "$(tools/journal-trace --chrome --client cache "$script" "$journal" | grep -c '"cat": "move"')" -gt 0 ] ||
+    fail 'no trace for Chrome of a client'
+  answers 'journal-trace: the script has no set none' tools/journal-trace --set none "$script" "$journal"
   tools/journal-picture --set stock --client cache "$script" "$journal" | grep -q 'set stock, client cache of' ||
     fail 'no part of a set and a client'
   answers 'journal-picture: the script has no set none' tools/journal-picture --set none "$script" "$journal"

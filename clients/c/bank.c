@@ -36,7 +36,7 @@ static void want(const char *what, uint32_t code, uint32_t wanted) {
 
 /* Waits for a lock; after a second it says that it still waits. */
 static void lock(lockrun_caller *caller, uint32_t set, enum lockrun_mode mode) {
-    uint32_t code = lockrun_lock(caller, set, mode, 1000);
+    uint32_t code = lockrun_ask(caller, set, mode, 1000);
     for (int second = 0; code == LOCKRUN_WAITS && second < SECONDS; second++) {
         fprintf(stderr, "bank: caller %u still waits for set %u\n", lockrun_client(&caller->session), set);
         code = lockrun_wait(caller, 1000);

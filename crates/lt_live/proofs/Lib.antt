@@ -17,3 +17,4 @@ pub mod Taking
 pub mod Moves
 pub mod OwnCommands
 pub mod WholeRuns
+pub mod OpensHere

@@ -165,7 +165,7 @@ same_sessions a b c first second = record {
   replies = search rules;
 }
 
-says_join : (a b c : Session) → SaysSame a b → SaysSame b c → SaysSame a c
+pub says_join : (a b c : Session) → SaysSame a b → SaysSame b c → SaysSame a c
 says_join a b c first second = record {
   same = same_sessions a b c first.same second.same;
   submitted = second.submitted ∙ first.submitted;

@@ -4,5 +4,6 @@ pub mod Words
 pub mod Submitting
 pub mod InHand
 pub mod Moves
+pub mod OneNode
 pub mod Live
 pub mod Served

@@ -4,12 +4,14 @@
 mod asking;
 mod both_ends;
 mod ends;
+mod far_ends;
 mod finishing;
 mod forgetting;
 mod laws;
 mod limits;
 mod looking;
 mod meeting;
+mod one_node;
 mod opening;
 mod outbox;
 mod parting;
@@ -17,6 +19,7 @@ mod reply;
 mod same;
 mod seats;
 mod serving;
+mod serving_one;
 mod session;
 mod shares;
 mod starting;
@@ -31,8 +34,10 @@ pub use laws::{
     law_served_now, law_shows_moves, law_taken, law_told,
 };
 pub use limits::LETTER_PLACES;
+pub use one_node::open_node;
 pub use reply::{Reply, reply_to};
 pub use serving::served;
+pub use serving_one::settle;
 pub use shares::{equal_share, most_share};
 pub use starting::open;
 pub use station::Station;

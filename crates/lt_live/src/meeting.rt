@@ -54,7 +54,7 @@ impl Station {
     }
 
     /// What its runner keeps.
-    pub(crate) fn runner_kept(&self)
+    pub fn runner_kept(&self)
         ensures { HasKeptRunner self.now }
     {
         self.runner.kept();

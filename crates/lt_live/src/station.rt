@@ -51,6 +51,13 @@ impl Station {
         }
     }
 
+    /// The number of its node.
+    pub fn node(&self) -> u8
+        ensures { result ≡ self.now.runner.node.me }
+    {
+        self.runner.me()
+    }
+
     /// How many sessions have their other ends here.
     pub(crate) fn seats(&self) -> usize
         ensures { result ≡ length self.now.seats }

@@ -6,18 +6,18 @@ use Rattle.lt_desk.specs.declared.letter.Letter.{Letter}
 use Rattle.lt_mail.specs.declared.lane.OutEnd.{OutEnd}
 use Rattle.lt_mail.specs.declared.lane.InLane.{InLane}
 use Rattle.lt_mail.specs.declared.mail.Mail.{Mail}
-use Rattle.lt_mail.specs.Words.{OutLane, letters_to, lane_of, ring_given, outbox_letters, taken, known, out_at, in_at, outs_count, ins_count, Both, IsOpenLink, AreLinked, SameOut, SameIn, IsMet, LaneGives, Sees, LooksAgain, KnowsPlaces, KnowsLetters}
+use Rattle.lt_mail.specs.Words.{OutLane, letters_to, lane_of, ring_given, outbox_letters, taken, known, out_at, in_at, outs_count, ins_count, Both, IsOpenLink, AreLinkedAt, SameOut, SameIn, IsMet, LaneGives, Sees, LooksAgain, KnowsPlaces, KnowsLetters}
 use Rattle.lt_mail.specs.Passing.{OutChanges, InChanges, Flushes}
 
 -- both ends of the ring are there
-pub linked_ends : (out into : Mail) → AreLinked out into → (into.me < outs_count out) × (out.me < ins_count into)
-linked_ends out into h = by_ends (slice_get out.outs.items into.me) (slice_get into.ins out.me) refl refl h
+pub linked_ends : (out into : Mail) (to from : ℕ) → AreLinkedAt to from out into → (to < outs_count out) × (from < ins_count into)
+linked_ends out into to from h = by_ends (slice_get out.outs.items to) (slice_get into.ins from) refl refl h
   where
-    by_ends : (o : Option OutEnd) (i : Option InLane) → slice_get out.outs.items into.me ≡ o → slice_get into.ins out.me ≡ i
-        → Both IsOpenLink (lane_of (letters_to into.me out.waiting.items) o) i → (into.me < outs_count out) × (out.me < ins_count into)
+    by_ends : (o : Option OutEnd) (i : Option InLane) → slice_get out.outs.items to ≡ o → slice_get into.ins from ≡ i
+        → Both IsOpenLink (lane_of (letters_to to out.waiting.items) o) i → (to < outs_count out) × (from < ins_count into)
     by_ends None i eo ei l = absurd l
     by_ends (Some o) None eo ei l = absurd l
-    by_ends (Some o) (Some i) eo ei l = (slice_get_within out.outs.items into.me o eo, slice_get_within into.ins out.me i ei)
+    by_ends (Some o) (Some i) eo ei l = (slice_get_within out.outs.items to o eo, slice_get_within into.ins from i ei)
 
 still_linked : (R : OutLane → OutLane → Type 0) (S : InLane → InLane → Type 0) → ((x y : OutLane) → R x y → SameOut x y) → ((x y : InLane) → S x y → SameIn x y)
     → (o p : Option OutLane) (i j : Option InLane) → Both R o p → Both S i j → Both IsOpenLink o i → Both IsOpenLink p j
@@ -31,21 +31,18 @@ still_linked R S r s (Some o) (Some p) (Some i) (Some j) u v e =
     ((b.0.0 ∙ e.0.0 ∙ sym a.0.0, b.0.1 ∙ e.0.1 ∙ sym a.0.1, b.0.2 ∙ e.0.2 ∙ sym a.0.2, b.0.3 ∙ e.0.3 ∙ sym a.0.3), subst (λ (n : ℕ). 0 < n) (sym a.1) e.1)
 
 -- they are linked when the one looked, and flushed then
-pub linked_still : (out mid last into seen : Mail) → AreLinked out into → OutChanges LooksAgain out mid into.me → InChanges Sees into seen out.me
-    → OutChanges Flushes mid last into.me → AreLinked last seen
-linked_still out mid last into seen link looks sees flushes =
-    subst (λ (k : ℕ). Both IsOpenLink (out_at last k) (in_at seen last.me)) (sym sees.me)
-    (subst (λ (k : ℕ). Both IsOpenLink (out_at last into.me) (in_at seen k)) (sym (flushes.me ∙ looks.me))
-    (still_linked Flushes (λ (i j : InLane). SameIn i j) (λ x y h. h.ring) (λ x y h. h) (out_at mid into.me) (out_at last into.me) (in_at seen out.me) (in_at seen out.me)
-    flushes.lane (itself (in_at seen out.me) first)
-    first))
+pub linked_still : (out mid last into seen : Mail) (to from : ℕ) → AreLinkedAt to from out into → OutChanges LooksAgain out mid to
+    → InChanges Sees into seen from → OutChanges Flushes mid last to → AreLinkedAt to from last seen
+linked_still out mid last into seen to from link looks sees flushes =
+    still_linked Flushes (λ (i j : InLane). SameIn i j) (λ x y h. h.ring) (λ x y h. h) (out_at mid to) (out_at last to) (in_at seen from) (in_at seen from)
+    flushes.lane (itself (in_at seen from) first) first
   where
-    first : Both IsOpenLink (out_at mid into.me) (in_at seen out.me)
-    first = still_linked LooksAgain Sees (λ x y h. h.ring) (λ x y h. h.ring) (out_at out into.me) (out_at mid into.me) (in_at into out.me) (in_at seen out.me)
+    first : Both IsOpenLink (out_at mid to) (in_at seen from)
+    first = still_linked LooksAgain Sees (λ x y h. h.ring) (λ x y h. h.ring) (out_at out to) (out_at mid to) (in_at into from) (in_at seen from)
         looks.lane sees.lane link
 
-    itself : (i : Option InLane) → Both IsOpenLink (out_at mid into.me) i → Both (λ (x y : InLane). SameIn x y) i i
-    itself None l = absurd (no_end (out_at mid into.me) l)
+    itself : (i : Option InLane) → Both IsOpenLink (out_at mid to) i → Both (λ (x y : InLane). SameIn x y) i i
+    itself None l = absurd (no_end (out_at mid to) l)
       where
         no_end : (o : Option OutLane) → Both IsOpenLink o None → ⊥
         no_end None l = l
@@ -145,23 +142,12 @@ both_met (Some b) (Some c) (Some d) (Some i) (Some j) p f l s k = record {
     ))
 
 -- all that was done to the two mails
-pub all_met : (out mid last end into seen knowing : Mail) → OutChanges LooksAgain out mid into.me → InChanges Sees into seen out.me
-    → Both KnowsPlaces (out_at mid into.me) (in_at seen out.me) → OutChanges Flushes mid last into.me
-    → OutChanges LooksAgain last end seen.me → InChanges Sees seen knowing last.me → Both KnowsLetters (out_at end seen.me) (in_at knowing last.me)
-    → Both IsMet (out_at end into.me) (in_at knowing out.me) × OutChanges LaneGives out end into.me × InChanges Sees into knowing out.me
-all_met out mid last end into seen knowing looks sees places flushes looks_later sees_later letters = (
-  both_met (out_at mid into.me) (out_at last into.me) (out_at end into.me) (in_at seen out.me) (in_at knowing out.me) places flushes.lane late.lane
-      more.lane (subst (λ (k : ℕ). Both KnowsLetters (out_at end into.me) (in_at knowing k)) same_out
-      (subst (λ (k : ℕ). Both KnowsLetters (out_at end k) (in_at knowing last.me)) sees.me letters)),
-  out_met out mid last end into.me looks flushes late,
-  in_met into seen knowing out.me sees more,
+pub all_met : (out mid last end into seen knowing : Mail) (to from : ℕ) → OutChanges LooksAgain out mid to → InChanges Sees into seen from
+    → Both KnowsPlaces (out_at mid to) (in_at seen from) → OutChanges Flushes mid last to
+    → OutChanges LooksAgain last end to → InChanges Sees seen knowing from → Both KnowsLetters (out_at end to) (in_at knowing from)
+    → Both IsMet (out_at end to) (in_at knowing from) × OutChanges LaneGives out end to × InChanges Sees into knowing from
+all_met out mid last end into seen knowing to from looks sees places flushes late more letters = (
+  both_met (out_at mid to) (out_at last to) (out_at end to) (in_at seen from) (in_at knowing from) places flushes.lane late.lane more.lane letters,
+  out_met out mid last end to looks flushes late,
+  in_met into seen knowing from sees more,
 )
-  where
-    same_out : last.me ≡ out.me
-    same_out = flushes.me ∙ looks.me
-
-    late : OutChanges LooksAgain last end into.me
-    late = subst (λ (k : ℕ). OutChanges LooksAgain last end k) sees.me looks_later
-
-    more : InChanges Sees seen knowing out.me
-    more = subst (λ (k : ℕ). InChanges Sees seen knowing k) same_out sees_later

@@ -6,3 +6,4 @@ pub mod OneLemmas
 pub mod BothLemmas
 pub mod OpeningLemmas
 pub mod AloneLemmas
+pub mod StarLemmas

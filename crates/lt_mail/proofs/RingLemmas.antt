@@ -1,17 +1,22 @@
 -- What is given to a ring, and when it is full.
-use Rattle.std.proofs.Common.{◌≡◌, ◌<◌, ◌≤◌, ℕ, inl, inr, List, [], ◌++◌, Option, Some, None, refl, sym, ap, subst, ◌∙◌, append-nil, ◌⊎◌, length}
+use Rattle.std.proofs.Common.{◌≡◌, ◌<◌, ◌≤◌, ℕ, inl, inr, List, [], ◌∷◌, ◌++◌, Option, Some, None, Bool, ◌||◌, ◌==◌, MatchBool, refl, sym, ap, subst, arith, ◌∙◌, append-nil, ◌⊎◌, length, eq-eqb, ne_eqb}
+use Rattle.std.specs.List.{list_any}
+use Rattle.std.proofs.lemmas.Bool.{cases_eq}
 use Rattle.std.proofs.lemmas.List.{map-append, length-map}
+use Rattle.std.proofs.lemmas.Option.{slice_get_cases}
 use mathlib.Core.List.{IsPrefix}
 use Rattle.rtrb.specs.Ring.{known_free, producer_capacity}
 use Rattle.lt_modes.specs.State as rules
 use Rattle.lt_desk.specs.declared.letter.Letter.{Letter}
 use Rattle.lt_desk.specs.LetterSeen.{letter_seen}
+use Rattle.lt_desk.specs.declared.letter.Post.{Post}
 use Rattle.lt_mail.specs.declared.lane.InLane.{InLane}
 use Rattle.lt_mail.specs.declared.lane.OutEnd.{OutEnd}
 use Rattle.lt_mail.specs.declared.mail.Mail.{Mail}
-use Rattle.lt_mail.specs.Words.{OutLane, ring_given, outbox_letters, sent_by, known, seen, letters_to, lane_of, end_at, out_at, in_at, on_out, on_in, sent_to, given_to, waiting_to, known_from, places_of, places_to, IsFullTo, Both, Alike, IsMet}
-use Rattle.lt_mail.specs.Passing.{Flushes}
+use Rattle.lt_mail.specs.Words.{OutLane, ring_given, outbox_letters, sent_by, known, seen, letters_to, lane_of, end_at, outs_count, out_at, in_at, on_out, on_in, sent_to, given_to, waiting_to, known_from, places_of, places_to, IsFullTo, Both, Alike, IsMet}
+use Rattle.lt_mail.specs.Passing.{Flushes, IsFirst}
 use Rattle.lt_mail.proofs.LookLemmas.{prefix_seen}
+use Rattle.lt_mail.proofs.PassLemmas.{first_here, first_other}
 
 -- What both ends of a ring say of the mails that have them.
 
@@ -99,3 +104,34 @@ passed_first None None h few = refl
 passed_first None (Some y) h few = absurd h
 passed_first (Some x) None h few = absurd h
 passed_first (Some x) (Some y) h few = few_given y h.first few
+
+-- a letter waits for its place where one of those that wait is for the node
+pub some_waits : (m : Mail) (to : ℕ) (answer : Bool) → to < outs_count m → answer ≡ list_any (λ (post : Post). post.to == to) m.waiting.items
+    → MatchBool answer (0 < length (waiting_to m to)) (waiting_to m to ≡ [])
+some_waits m to answer below e = elim (slice_get_cases m.outs.items to).1 [
+  | inl there ↦ subst (λ (o : Option OutEnd). MatchBool answer (0 < length (on_out outbox_letters (lane_of (letters_to to m.waiting.items) o)))
+      (on_out outbox_letters (lane_of (letters_to to m.waiting.items) o) ≡ [])) (sym there.2)
+      (subst (λ (b : Bool). MatchBool b (0 < length (seen (letters_to to m.waiting.items))) (seen (letters_to to m.waiting.items) ≡ [])) (sym e)
+      (by_posts m.waiting.items))
+  | inr past ↦ absurd (omega (arith, past.0, below))
+]
+  where
+    Waits : Bool → List Letter → Type 0
+    Waits t letters = MatchBool t (0 < length (seen letters)) (seen letters ≡ [])
+
+    by_posts : (posts : List Post) → Waits (list_any (λ (post : Post). post.to == to) posts) (letters_to to posts)
+    by_posts [] = refl
+    by_posts (post ∷ posts) = elim (cases_eq post.to to) [
+      | inl same ↦ subst (λ (letters : List Letter). Waits (list_any (λ (p : Post). p.to == to) (post ∷ posts)) letters) (sym (first_here to post posts same))
+          (subst (λ (t : Bool). Waits (t || list_any (λ (p : Post). p.to == to) posts) (post.letter ∷ letters_to to posts)) (sym (eq-eqb post.to to same)) (omega arith))
+      | inr apart ↦ subst (λ (letters : List Letter). Waits (list_any (λ (p : Post). p.to == to) (post ∷ posts)) letters) (sym (first_other to post posts apart))
+          (subst (λ (t : Bool). Waits (t || list_any (λ (p : Post). p.to == to) posts) (letters_to to posts)) (sym (ne_eqb post.to to apart)) (by_posts posts))
+    ]
+
+-- the first known letter of a node
+pub first_seen : (m : Mail) (from : ℕ) (letter : Letter) → IsFirst letter (in_at m from) → IsPrefix (letter_seen letter ∷ []) (known_from m from)
+first_seen m from letter h = here (in_at m from) h
+  where
+    here : (o : Option InLane) → IsFirst letter o → IsPrefix (letter_seen letter ∷ []) (on_in known o)
+    here None q = absurd q
+    here (Some lane) q = prefix_seen (letter ∷ []) (known lane) q

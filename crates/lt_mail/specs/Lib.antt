@@ -1,4 +1,5 @@
 pub mod Words
 pub mod Passing
 pub mod Opening
+pub mod Star
 pub mod Known

@@ -69,6 +69,11 @@ abbrev pub Saw : Bool → Option InLane → Type 0
 Saw answer None = ⊥
 Saw answer (Some lane) = MatchBool answer (0 < length (known lane)) (known lane ≡ [])
 
+-- the letter is the first one that is known to be in the ring
+abbrev pub IsFirst : Letter → Option InLane → Type 0
+IsFirst letter None = ⊥
+IsFirst letter (Some lane) = IsPrefix (letter ∷ []) (known lane)
+
 -- a letter is in the ring of this node, another one
 abbrev pub IsSender : ℕ → List InLane → ℕ → Type 0
 IsSender me lanes from = (from < length lanes) × (from ≢ me) × Saw true (slice_get lanes from)

@@ -159,9 +159,13 @@ HasRoomFor m letters = deque_len m.waiting + letters ≤ deque_capacity m.waitin
 abbrev pub IsOpenLink : OutLane → InLane → Type 0
 IsOpenLink out into = AreRingEnds out.end into × (0 < producer_capacity out.end.ring)
 
+-- they have the two ends of one ring: the one its sending end at place `to`, the other its taking end at place `from`
+abbrev pub AreLinkedAt : ℕ → ℕ → Mail → Mail → Type 0
+AreLinkedAt to from out into = Both IsOpenLink (out_at out to) (in_at into from)
+
 -- the one sends to the other
 abbrev pub AreLinked : Mail → Mail → Type 0
-AreLinked out into = Both IsOpenLink (out_at out into.me) (in_at into out.me)
+AreLinked out into = AreLinkedAt into.me out.me out into
 
 -- What two mails did that looked at a ring from both ends.
 

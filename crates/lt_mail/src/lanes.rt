@@ -44,6 +44,18 @@ impl InLane {
         self.ring.cached_slots() > 0
     }
 
+    /// The first letter that is known to be in the ring.
+    pub fn first_known(&self) -> Option<&Letter>
+        ensures some { IfSome result (λ x. IsPrefix (x.now ∷ []) (known self.now)) }
+        ensures none { IfNone result (known self.now ≡ []) }
+    {
+        if self.ring.cached_slots() == 0 {
+            None
+        } else {
+            Some(self.ring.peek_known())
+        }
+    }
+
     /// Takes the next letter that is in the ring.
     pub fn take(&mut self) -> Option<Letter>
         ensures ring { SameConsumer self.old.ring self.new.ring }

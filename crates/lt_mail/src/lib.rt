@@ -10,7 +10,10 @@ mod mail;
 mod opening;
 mod passing;
 mod room;
+mod star;
+mod waiting;
 
-pub use both_ends::beside;
+pub use both_ends::{beside, beside_at};
 pub use mail::Mail;
 pub use opening::{MAX_CAPACITY, open};
+pub use star::open_star;

@@ -29,8 +29,8 @@ fn add_in(mails: &mut Vec<Mail>, to: usize, lane: InLane) -> Result<(), AllocErr
     Ok(())
 }
 
-// The two ends of a new ring.
-fn new_link(alloc: Global, capacity: u32) -> Result<(OutEnd, InLane), AllocError>
+/// The two ends of a new ring.
+pub(crate) fn new_link(alloc: Global, capacity: u32) -> Result<(OutEnd, InLane), AllocError>
     ensures { IfOk result (λ lanes. IsNewLink capacity lanes.0 lanes.1) }
 {
     let (sender, taker) = RingBuffer::new(alloc, capacity as usize)?;
@@ -83,8 +83,8 @@ fn empty_mails(alloc: Global, nodes: u8) -> Result<Vec<Mail>, AllocError>
     Ok(mails)
 }
 
-// A mail without rings, with room for so many each way.
-fn empty_mail(alloc: Global, node: u8, count: usize) -> Result<Mail, AllocError>
+/// A mail without rings, with room for so many each way.
+pub(crate) fn empty_mail(alloc: Global, node: u8, count: usize) -> Result<Mail, AllocError>
     ensures { IfOk result (IsEmpty node) }
 {
     Ok(Mail {

@@ -31,7 +31,7 @@ other_is n client command is = elim is [
 ]
 
 pub none_left : (free left : Bool) → left ≡ false → false ≡ (free && left)
-none_left free left is = sym (ap (λ (b : Bool). free && b) is ∙ and-false free)
+none_left free left isnt = sym (ap (λ (b : Bool). free && b) isnt ∙ and-false free)
 
 pub some_left : (free left : Bool) → left ≡ true → free ≡ (free && left)
 some_left free left is = sym (ap (λ (b : Bool). free && b) is ∙ and-true free)

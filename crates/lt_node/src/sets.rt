@@ -1,8 +1,9 @@
 // All sets of a node. One that was never touched takes four bytes.
 ghost use Rattle.std.specs.Prelude.{◌≡◌, ◌≢◌, ◌≤◌, ◌<◌, ◌+◌, ℕ, IfOk, IsOk, OnOk, length, slice_index_or};
-ghost use Rattle.lt_modes.specs.Serving.{waits};
-ghost use Rattle.lt_modes.specs.SetMove.{take};
+ghost use Rattle.lt_modes.specs.Waiting.{waits};
+ghost use Rattle.lt_modes.specs.Taking.{take};
 ghost use Rattle.lt_lists.specs.Below.{any_below};
+ghost use Rattle.lt_spec.specs.declared.limits.TheConstants.{MAX_CLIENTS};
 ghost use Rattle.lt_desk.specs.LetterSeen.{letter_seen, asks_in, RoomIn};
 ghost use Rattle.lt_desk.specs.DeskData.{FitsOut};
 ghost use Rattle.lt_core.specs.Bound.{RoomToSend};
@@ -185,7 +186,7 @@ impl Sets {
     pub(crate) fn reserve_for(&mut self, set: u32, letter: &mut Letter) -> Result<(), AllocError>
         requires set { set < length self.old.cores }
         requires few { HasFewAsks (core_in self.old set) }
-        requires asks { asks_in letter.old.body ≤ 256 }
+        requires asks { asks_in letter.old.body ≤ MAX_CLIENTS }
         ensures same { SameSets self.old self.new }
         ensures others { (other : ℕ) → other ≢ set → core_in self.new other ≡ core_in self.old other }
         ensures letter { letter_seen letter.new ≡ letter_seen letter.old }

@@ -5,7 +5,7 @@ use Rattle.lt_modes.specs.State.{Letter}
 use Rattle.lt_modes.specs.Fits.{fits, numbers_of}
 use Rattle.lt_desk.specs.LetterSeen.{letter_seen}
 use Rattle.lt_spec.specs.NodeMove.{NodeState}
-use Rattle.lt_spec.specs.FixedOrder.{can_act}
+use Rattle.lt_spec.specs.Plays.{can_act}
 use Rattle.lt_node.specs.NodeData.{state_of}
 use Rattle.lt_node.specs.Touched.{leaves_room_to_act, leaves_room_to_take}
 use Rattle.lt_core.specs.declared.fits.TheConstants.{LAST_CLOCK}
@@ -56,3 +56,13 @@ choice_by script me n (Some hand) = if may_take script me n (letter_seen hand.le
 
 abbrev pub next_choice : Parts → Choice
 next_choice p = choice_by p.node.script p.node.me (state_of p.node) p.hand
+
+-- the node that the letter came from, where it doesn't fit
+abbrev pub misfit_by : ScriptData → ℕ → NodeState → Option Hand → Option ℕ
+misfit_by script me n None = None
+misfit_by script me n (Some hand) =
+    if fits (numbers_of script) me n.clock (n.set hand.letter.set) (letter_seen hand.letter) then None else Some hand.from
+
+-- the node that the letter in hand came from, where it doesn't fit
+abbrev pub misfit : Parts → Option ℕ
+misfit p = misfit_by p.node.script p.node.me (state_of p.node) p.hand

@@ -1,7 +1,7 @@
 // What runners of one script do together, while none of them is at work.
-ghost use Rattle.std.specs.Prelude.{◌≡◌, ◌≢◌, ◌<◌, None, IfSome, IfNone, length};
-ghost use Rattle.lt_mail.specs.Words.{ins_count, known_from};
-ghost use Rattle.lt_runner.specs.Choices.{next_choice};
+ghost use Rattle.std.specs.Prelude.{◌≡◌, ◌≢◌, ◌<◌, ◌++◌, ℕ, [], None, IfSome, IfNone, length};
+ghost use Rattle.lt_mail.specs.Words.{ins_count, out_at, in_at, known_from, sent_to, taken_from, given_to, waiting_to, SameEnds, AreLinkedAt};
+ghost use Rattle.lt_runner.specs.Choices.{next_choice, misfit};
 ghost use Rattle.lt_runner.specs.Kept.{RunnerInvariant, AreBeside, HasMet, FlushesTo, LooksTo, LooksFrom, HasFetched, Fetches, Knows, NoneKnown, is_move};
 ghost use Rattle.lt_spec.specs.NodeMove.{node_waits};
 ghost use Rattle.lt_node.specs.NodeData.{state_of};
@@ -10,7 +10,7 @@ use crate::choice::{Choice, choose};
 use crate::parts::{Hand, Parts};
 use crate::readying::hold_next;
 use crate::runner::Runner;
-use lt_mail::{Mail, beside};
+use lt_mail::{Mail, beside, beside_at};
 
 impl Runner {
     /// Looks at the ring to another runner from both of its ends; a call of the other one looks at the ring back.
@@ -28,6 +28,34 @@ impl Runner {
         );
     }
 
+    /// Looks from both of its ends at the ring to a node whose far end is in a mail that no runner has.
+    pub fn meet_taker(&mut self, far: &mut Mail, to: u8)
+        requires { AreLinkedAt to to self.old.mail far.old }
+        ensures looks { LooksTo to self.old self.new }
+        ensures far_ends { SameEnds far.old far.new }
+        ensures far_outs { (node : ℕ) → out_at far.new node ≡ out_at far.old node }
+        ensures far_taken { (node : ℕ) → taken_from far.new node ≡ taken_from far.old node }
+        ensures far_others { (node : ℕ) → node ≢ to → in_at far.new node ≡ in_at far.old node }
+        ensures whole { taken_from far.new to ++ known_from far.new to ≡ given_to self.new.mail to }
+        ensures moves { known_from far.new to ≡ [] → waiting_to self.new.mail to ≡ [] }
+    {
+        beside_at(&mut self.parts.as_mut().mail, far, to, to);
+    }
+
+    /// The same for the ring from a node.
+    pub fn meet_sender(&mut self, far: &mut Mail, from: u8)
+        requires { AreLinkedAt from from far.old self.old.mail }
+        ensures looks { LooksFrom from self.old self.new }
+        ensures far_ends { SameEnds far.old far.new }
+        ensures far_ins { (node : ℕ) → in_at far.new node ≡ in_at far.old node }
+        ensures far_sent { (node : ℕ) → sent_to far.new node ≡ sent_to far.old node }
+        ensures far_others { (node : ℕ) → node ≢ from → out_at far.new node ≡ out_at far.old node }
+        ensures whole { taken_from self.new.mail from ++ known_from self.new.mail from ≡ given_to far.new from }
+        ensures moves { known_from self.new.mail from ≡ [] → waiting_to far.new from ≡ [] }
+    {
+        beside_at(far, &mut self.parts.as_mut().mail, from, from);
+    }
+
     /// Takes a letter that is known to be in a ring, where none is in hand.
     pub fn fetch(&mut self)
         ensures seen { Fetches self.old self.new }
@@ -41,6 +69,17 @@ impl Runner {
         ensures { result ≡ is_move (next_choice self.now) }
     {
         !matches!(choose(&self.parts), Choice::Nothing)
+    }
+
+    /// The node that the letter in hand came from, where it doesn't fit; such a letter is never taken, and no other one
+    /// after it.
+    pub fn misfit(&self) -> Option<u8>
+        ensures { result ≡ misfit self.now }
+    {
+        match &self.parts.hand {
+            Some(hand) if !self.parts.node.fits(&hand.letter) => Some(hand.from),
+            _ => None,
+        }
     }
 
     /// Whether the client waits at this runner's node.

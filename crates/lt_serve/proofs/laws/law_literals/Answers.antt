@@ -52,6 +52,6 @@ returns-clause-texts c = record {
 
 pub returns-clause-soak : goal.returns-clause-soak
 returns-clause-soak c = record {
-  sizes = λ seed. c.law_generated.ensures.sizes 16 64 4096 seed;
+  sizes = λ seed. c.law_generated.ensures.sizes 1 16 64 4096 seed;
   text = rw (sixteen_text, four_text, sixty_four_text, most_commands_text, one_text, two_text) refl;
 }

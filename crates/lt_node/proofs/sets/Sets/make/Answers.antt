@@ -2,7 +2,7 @@ use Rattle.std.proofs.Common.{◌≡◌, ◌++◌, ◌∙◌, List, [], ◌∷�
 use Rattle.lt_core.specs.CoreData.{CoreData}
 use Rattle.lt_node.specs.Sets.{SetsData, core_by}
 use Rattle.lt_node.proofs.SetsLemmas.{core_is_of, made_kept, made_other, made_touched, stored_more}
-use Rattle.lt_node.proofs.StoredLemmas.{core_seen, in_places, same_sets}
+use Rattle.lt_node.proofs.StoredLemmas.{core_seen, in_places, none_with_room, place_read, same_sets}
 use Rattle.lt_node.proofs.sets.Sets.make.Goals as goal
 
 pub index_mut-requires : goal.index_mut-requires
