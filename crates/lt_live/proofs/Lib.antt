@@ -5,6 +5,7 @@ pub mod Finished
 pub mod TurnParts
 pub mod SeatLists
 pub mod KeptStations
+pub mod Passing
 pub mod OpenedStations
 pub mod LiveShares
 pub mod Settling

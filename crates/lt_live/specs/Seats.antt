@@ -8,6 +8,7 @@ use Rattle.lt_modes.specs.declared.command.Command.{Command}
 use Rattle.lt_spec.specs.Holdings.{lines_of}
 use Rattle.lt_spec.specs.World.{Logged}
 use Rattle.lt_log.specs.LogData.{LogData}
+use Rattle.lt_merge.specs.Merging.{events_at}
 use Rattle.lt_live.specs.declared.reply.Reply.{Reply}
 use Rattle.lt_live.specs.declared.reply.Reply.TheVariants.{Granted, True, False, Unlocked, NotHeld, Changed, Dropped, Busy, Withdrawn, Withheld}
 use Rattle.lt_live.specs.declared.ends.Session.{Session}
@@ -34,6 +35,12 @@ pub record IsCursor (log : List Logged) (moves lines : ℕ) : Type 0 where
 -- the log has the lines that the seat has read, and keeps the moves that it hasn't
 abbrev pub IsCursorOf : LogData → Seat → Type 0
 IsCursorOf log seat = IsCursor log.entries seat.moves seat.lines × (log.gone ≤ seat.moves)
+
+-- the last move of the log has this line alone
+pub record IsLastLine (log : List Logged) (line : Event) : Type 0 where
+  pub move : ℕ
+  pub last : move + 1 ≡ length log
+  pub alone : events_at log move ≡ Some (line ∷ [])
 
 -- What lines say to a client.
 

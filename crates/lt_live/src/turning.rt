@@ -1,18 +1,19 @@
 // One turn of a station.
-ghost use Rattle.std.specs.Prelude.{◌≡◌, ◌≢◌, ◌<◌, ℕ, true, false, Some, length, slice_get};
+ghost use Rattle.std.specs.Prelude.{◌≡◌, ◌≢◌, ◌<◌, ℕ, true, false, Some, IfSome, length, slice_get};
 ghost use Rattle.lt_spec.specs.NodeMove.{home};
 ghost use Rattle.lt_runner.specs.declared.choice.Choice.TheVariants as choices;
 ghost use Rattle.lt_runner.specs.declared.turning.Turned.TheVariants as turns;
 ghost use Rattle.lt_runner.specs.Choices.{next_choice};
 ghost use Rattle.lt_runner.specs.Kept.{Grew, TurnEnds, HasPassedOn};
 ghost use Rattle.lt_live.specs.declared.ends.Seat.{Seat as SeatEnds};
-ghost use Rattle.lt_live.specs.Seats.{TakesIn, TellsSeat};
+ghost use Rattle.lt_live.specs.Seats.{TakesIn, TellsSeat, IsLastLine};
 ghost use Rattle.lt_live.specs.Stations.{IsStation, EachSeat, SeatAt, OnlyAppends, HandMayGo, MayHandOver, CanNotAppend, CanAppend, may_append, NoneCanAppend, SomeCanAppend, StationTurns, HasCursorAt, HaveCursors};
 
 use crate::asking::may_ask;
 use crate::ends::Seat;
+use crate::seats::only_line;
 use lt_log::LongLog;
-use lt_modes::Command;
+use lt_modes::{Command, Event};
 use lt_runner::{Gate, Runner, Turned};
 use lt_spec::MAX_COMMANDS_OF_SERVICE;
 
@@ -127,15 +128,24 @@ fn tell_all(seats: &mut Vec<Seat>, log: &LongLog)
     requires { HaveCursors log.now seats.old.items }
     ensures { EachSeat (TellsSeat log.now.entries) seats.old.items seats.new.items }
 {
+    let only = line_for(seats.len(), log);
     for place in 0..seats.len() {
-        tell_at(seats, log, place);
+        tell_at(seats, log, only, place);
     }
 }
 
-fn tell_at(seats: &mut Vec<Seat>, log: &LongLog, place: usize)
+// The line of the log's last move, where it has just one, and there are several seats to tell.
+fn line_for(seats: usize, log: &LongLog) -> Option<&Event>
+    ensures { IfSome result (λ line. IsLastLine log.now.entries line.now) }
+{
+    if seats < 2 { None } else { only_line(log) }
+}
+
+fn tell_at(seats: &mut Vec<Seat>, log: &LongLog, only: Option<&Event>, place: usize)
     requires inside { place < length seats.old.items }
     requires cursor { HasCursorAt log.now seats.old.items place }
+    requires only { IfSome only (λ line. IsLastLine log.now.entries line.now) }
     ensures { SeatAt (TellsSeat log.now.entries) place seats.old.items seats.new.items }
 {
-    seats[place].tell(log);
+    seats[place].tell_after(log, only);
 }
