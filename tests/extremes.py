@@ -1,6 +1,6 @@
 #!/usr/bin/env python3
 """Runs the proved programs on scripts at each extreme: 1 and the most nodes, sets, clients, clients of a node, commands of
-one client and of one node, of both versions; and nested transactions at theirs. Each ends with status 0, as nobody waits;
+one client and of one node, of each version; and nested transactions at theirs. Each ends with status 0, as nobody waits;
 `check` takes each journal, and of runs that get stuck `lockwaits` tells the ring. Then it runs them on inputs that are
 refused: at their first line, far on, at their last line, and on inputs of no byte. Each is told by its own status and
 line, and none as want of memory. It prints how many calls were made."""
@@ -19,7 +19,7 @@ def text_of(lines):
 
 def script(version, nodes, sets, homes, commands):
     """A script of clients at these nodes, each of which takes and gives back this many locks."""
-    lines = ['version 2'] * (version == 2) + [f'nodes {nodes}'] + [f'set s{k}' for k in range(sets)]
+    lines = [f'version {version}'] * (version > 1) + [f'nodes {nodes}'] + [f'set s{k}' for k in range(sets)]
     lines += [f'client c{k} at {home}' for k, home in enumerate(homes)]
     for turn in range(commands // 2):
         for k in range(len(homes)):
@@ -42,6 +42,7 @@ SCRIPTS = {
     'the most nodes of version 2': script(2, 64, 1, list(range(64)), 4),
     'the most clients of version 2': script(2, 16, 8, [k % 16 for k in range(256)], 2),
     'the greatest of version 2': script(2, 64, 8, [k % 64 for k in range(256)], 16),
+    'the greatest of version 3': script(3, 64, 8, [k % 64 for k in range(1024)], 4),
 }
 
 # Each of eight clients asks for a set and then for the next one's: by the seed 0 they come to wait in a ring.
@@ -62,8 +63,13 @@ OUTSIDE += ['a unlock s write', 'b unlock s write'] * 20 + ['z unlock s write'] 
 OUTSIDE += ['a change s read write', 'b change s read write', 'z lock s write']
 
 # The most clients ask for one set, and none gives it back.
-QUEUE = ['version 2', 'nodes 64', 'set s'] + [f'client c{k} at {k % 64}' for k in range(256)]
-QUEUE += [f'c{k} lock s write' for k in range(256)]
+QUEUE = ['version 3', 'nodes 64', 'set s'] + [f'client c{k} at {k % 64}' for k in range(1024)]
+QUEUE += [f'c{k} lock s write' for k in range(1024)]
+
+# A client that the version doesn't take any more.
+CROWDS = {version: [f'version {version}', f'nodes {nodes}', 'set s'] + [f'client c{k} at {k % nodes}' for k in range(clients + 1)]
+          for version, nodes, clients in [(2, 64, 256), (3, 64, 1024)]}
+CROWD = ['nodes 16', 'set s'] + [f'client c{k} at {k % 16}' for k in range(65)]
 
 
 def nest(sets, transactions, locks):
@@ -105,6 +111,9 @@ REFUSED_SCRIPTS = {
     'a set that is not there far on': (ALONE[:4000] + ['c lock t write'] + ALONE[4000:-1], 'line 4001: S8'),
     'no mode in the last line of a script': (ALONE[:-1] + ['c unlock s wright'], f'line {len(ALONE)}: S10'),
     'a command too many': (ALONE + ['c unlock s write'], f'line {len(ALONE) + 1}: S9'),
+    'a client too many of version 1': (CROWD, 'line 67: S9'),
+    'a client too many of version 2': (CROWDS[2], 'line 260: S9'),
+    'a client too many of version 3': (CROWDS[3], 'line 1028: S9'),
 }
 
 # Of lines of nested transactions that are refused: the lines, and the first of them that is refused.
@@ -133,11 +142,18 @@ SECOND = ['version 2', 'nodes 64'] + [f'set s{k}' for k in range(8)]
 SECOND += [f'client c{k} at {k % 64}' for k in range(256)]
 SECOND += [f'c{k} {word} s{s} {SIXTH}' for k in range(256) for s in range(8) for word in ['lock', 'unlock']]
 
+# The most clients of version 3: each locks two sets, one after the other.
+THIRD = ['version 3', 'nodes 64'] + [f'set s{k}' for k in range(8)]
+THIRD += [f'client c{k} at {k % 64}' for k in range(1024)]
+THIRD += [f'c{k} {word} s{(k + turn) % 8} {SIXTH}' for turn in range(2) for k in range(1024) for word in ['lock', 'unlock']]
+
 # What a model in another language makes of great scripts: the script's bytes, and for these words the status, how many bytes
 # the journal has, and how many moves it is.
 COUNTED = {
     'the widest': (WIDE, 178_091, [(['sim', 'first'], 3, 443_982, 3043)]),
     'the greatest of version 2 by a mode': (SECOND, None, [(['sim', 'first'], 0, 411_530, 8152)]),
+    'the greatest of version 3 by a mode': (THIRD, 161_277, [(['sim', 'first'], 0, 413_543, 8538)]),
+    'the longest queue': (QUEUE, None, [(['sim', 'first'], 3, 78_403, 2032)]),
 }
 DRAWN = (94_384, [(['sim', 'first'], 0, 347_418, 8900), (['sim', '7'], 0, 347_595, 9263)])
 
@@ -202,7 +218,7 @@ for name, words, lines, last in [
     ('a ring', ['sim', '0'], RING, b'cycle ' + b' '.join(b'c%d' % k for k in range(8))),
     ('a long ring', ['sim', '0'], LONG_RING, b'cycle ' + b' '.join(b'c%d' % k for k in range(16))),
     ('a ring from outside', ['sim', '0'], OUTSIDE, b'cycle a b'),
-    ('the longest queue', ['sim', 'first'], QUEUE, b'ends c255 c0'),
+    ('the longest queue', ['sim', 'first'], QUEUE, b'ends c1023 c0'),
 ]:
     journal = call(name, RUN, words, text_of(lines), 3)
     report = call(name, WAITS, [], text_of(lines) + b'journal\n' + journal)

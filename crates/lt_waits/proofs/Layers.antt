@@ -1,20 +1,14 @@
--- The search for a shortest ring, layer by layer: of those that are left, those go that wait for one of the last layer.
+-- Clients layer by layer: of those that are left, those go that wait for one of the last layer.
 use Rattle.std.proofs.Common.{◌≡◌, ℕ, ◌+◌, ◌<◌, ◌≤◌, inl, inr, List, [], ◌∷◌, ◌++◌, length, Some, Bool, true, false, refl, sym, subst, ap, arith, ◌∙◌, ◌⊎◌, ◌||◌, ◌==◌, is_some, not, Contains, if◌then◌else◌, find, eqb-true, eq-eqb}
 use Rattle.std.specs.List.{list_any}
 use Rattle.std.proofs.lemmas.Bool.{false≢true}
-use Rattle.std.proofs.lemmas.Cmp.{nat_eq_equiv}
-use Rattle.std.proofs.lemmas.List.Elements.{Contains-push_cases}
-use Rattle.std.proofs.lemmas.Map.Keys.{IsDistinct-push}
 use Rattle.lt_lists.proofs.Members.{contains_first, contains_later, contains_cases, contains_filter, contains_filtered, list_any-at, list_any-which, none_in}
 use Rattle.lt_spec.specs.Rings.{Graph, AreBelow, first_or, IsPath}
-use Rattle.lt_waits.specs.Shortest.{waiting_for, not_waiting_for, IsLayer, IsPathTo, LeadsOut}
+use Rattle.lt_waits.specs.Shortest.{waiting_for, not_waiting_for, IsLayer, LeadsOut}
 
 pub not_both : {A : Type 0} (b : Bool) → b ≡ true → not b ≡ true → A
 not_both true e f = absurd (false≢true f)
 not_both false e f = absurd (false≢true e)
-
-not_false : (b : Bool) → b ≡ false → not b ≡ true
-not_false b e = ap not e
 
 -- a client is one of these, or isn't
 pub among_or : (xs : List ℕ) (c : ℕ) → Contains xs c ⊎ (Contains xs c → ⊥)
@@ -23,18 +17,6 @@ among_or xs c = by_test (list_any (λ d. c == d) xs) refl
     by_test : (t : Bool) → list_any (λ d. c == d) xs ≡ t → Contains xs c ⊎ (Contains xs c → ⊥)
     by_test true e = let found = list_any-which (λ d. c == d) xs e in inl (subst (Contains xs) (sym (eqb-true c found.0 found.2)) found.1)
     by_test false e = inr (λ there. false≢true (sym e ∙ list_any-at (λ d. c == d) xs c there (eq-eqb c c refl)))
-
--- what a search finds
-pub found_in : (test : ℕ → Bool) (xs : List ℕ) (x : ℕ) → find test xs ≡ Some x → Contains xs x × (test x ≡ true)
-found_in test [] x e = cc
-found_in test (y ∷ more) x e = by_test (test y) refl e (found_in test more x)
-  where
-    by_test : (t : Bool) → test y ≡ t → (if t then Some y else find test more) ≡ Some x → (find test more ≡ Some x → Contains more x × (test x ≡ true))
-        → Contains (y ∷ more) x × (test x ≡ true)
-    by_test true e f again =
-        let same : y ≡ x = cc in
-        (contains_first y x more same, ap test (sym same) ∙ e)
-    by_test false e f again = let later = again f in (contains_later y x more later.0, later.1)
 
 -- a search finds something where something passes
 pub find_tells : (test : ℕ → Bool) (xs : List ℕ) → is_some (find test xs) ≡ list_any test xs
@@ -45,7 +27,7 @@ find_tells test (x ∷ more) = elim (test x) as (λ t. is_some (if t then Some x
 ]
 
 -- a path that goes one client further
-path_further : (graph : Graph) (path : List ℕ) (c d : ℕ) → IsPath graph path c → graph c d ≡ true → IsPath graph (path ++ c ∷ []) d
+pub path_further : (graph : Graph) (path : List ℕ) (c d : ℕ) → IsPath graph path c → graph c d ≡ true → IsPath graph (path ++ c ∷ []) d
 path_further graph [] c d path on = (on, tt)
 path_further graph (a ∷ rest) c d path on = (subst (λ (x : ℕ). graph a x ≡ true) (same rest) path.0, path_further graph rest c d path.1 on)
   where
@@ -53,7 +35,7 @@ path_further graph (a ∷ rest) c d path on = (subst (λ (x : ℕ). graph a x �
     same [] = refl
     same (x ∷ more) = refl
 
-first_further : (path : List ℕ) (c d : ℕ) → first_or d (path ++ c ∷ []) ≡ first_or c path
+pub first_further : (path : List ℕ) (c d : ℕ) → first_or d (path ++ c ∷ []) ≡ first_or c path
 first_further [] c d = refl
 first_further (x ∷ rest) c d = refl
 
@@ -80,11 +62,6 @@ module _ (graph : Graph) (layer left : List ℕ) where
       by_test true e = inr (in_next c there e)
       by_test false e = inl (contains_filter (λ x. not (list_any (graph x) layer)) left c there (ap not e))
 
-  -- the start is left, or is found
-  pub start_stays : (start : ℕ) → Contains left start ⊎ Contains layer start → (Contains layer start → ⊥) → Contains rest start ⊎ Contains next start
-  start_stays start (inl there) never = next_or_rest start there
-  start_stays start (inr found) never = absurd (never found)
-
   pub next_layer : (n : ℕ) → IsLayer n graph layer left → IsLayer n graph next rest
   next_layer n is c d there under out on = elim (among_or left d) [
     | inl left_too ↦ by_place d (next_or_rest d left_too) out
@@ -97,27 +74,6 @@ module _ (graph : Graph) (layer left : List ℕ) where
 
       apart : Contains layer d → ⊥
       apart found = not_both (list_any (graph c) layer) (list_any-at (graph c) layer d found on) (of_rest c there).1
-
-  -- a path to the next layer goes on to this one
-  pub goes_on : (start : ℕ) (path : List ℕ) (last d : ℕ) → IsPathTo graph start next rest path last → Contains layer d → graph last d ≡ true
-      → IsPathTo graph start layer left (path ++ last ∷ []) d
-  goes_on start path last d is there on = record {
-    goes = path_further graph path last d is.goes on;
-    first = first_further path last d ∙ is.first;
-    reaches = there;
-    among = λ c found. elim (Contains-push_cases path last c found) [
-      | inl old ↦ (of_rest c (is.among c old)).0
-      | inr new ↦ subst (Contains left) new (of_next last is.reaches).0
-    ];
-    distinct = IsDistinct-push nat_eq_equiv path last is.distinct (apart (list_any (λ x. last == x) path) refl);
-  }
-    where
-      apart : (t : Bool) → list_any (λ x. last == x) path ≡ t → list_any (λ x. last == x) path ≡ false
-      apart false e = e
-      apart true e =
-          let found = list_any-which (λ x. last == x) path e in
-          let here : Contains rest last = subst (Contains rest) (sym (eqb-true last found.0 found.2)) (is.among found.0 found.1) in
-          not_both (list_any (graph last) layer) (of_next last is.reaches).1 (of_rest last here).1
 
 -- those that go and those that stay are all that are left
 pub parts : (graph : Graph) (layer left : List ℕ) → length (waiting_for graph layer left) + length (not_waiting_for graph layer left) ≡ length left

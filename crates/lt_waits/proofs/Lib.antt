@@ -1,7 +1,6 @@
 mod BehindAll
-mod Closing
+mod BitLemmas
 mod Explaining
-mod FoundPaths
 mod Judged
 mod Layers
 mod Least
@@ -11,5 +10,8 @@ mod Pairs
 mod RingEdges
 mod Rounding
 mod SameGraph
+mod Rounds
+mod Searching
+mod StepRings
 mod Walks
 mod TrueEdges

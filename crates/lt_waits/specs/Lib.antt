@@ -1,10 +1,12 @@
 pub mod Answers
 pub mod Behind
+pub mod Bits
 pub mod BehindLaws
 pub mod EdgeLaws
 pub mod Edges
 pub mod Serves
 pub mod Reasons
+pub mod Search
 pub mod Shortest
 pub mod Tallied
 pub mod Why

@@ -1,4 +1,4 @@
--- Rings of as few clients as there can be, and the search for one.
+-- Rings of as few clients as there can be, and clients layer by layer.
 use Rattle.std.specs.Prelude.{◌≡◌, ◌<◌, ◌≤◌, ◌==◌, not, ℕ, List, length, filter, Contains, IsTrue}
 use Rattle.std.specs.List.{list_any, IsDistinct}
 use Rattle.lt_spec.specs.Rings.{Graph, AreBelow, first_or, IsPath, IsRing}
@@ -35,14 +35,6 @@ not_waiting_for graph others clients = filter (λ c. not (list_any (graph c) oth
 -- one of those left that waits for a client that isn't left waits for one of the layer
 abbrev pub IsLayer : ℕ → Graph → List ℕ → List ℕ → Type 0
 IsLayer n graph layer left = (c d : ℕ) → Contains left c → d < n → (Contains left d → ⊥) → IsTrue (graph c d) → Contains layer d
-
--- a path from the start through clients that are left, none of them twice, to the last one, which is of the layer
-pub record IsPathTo (graph : Graph) (start : ℕ) (layer left path : List ℕ) (last : ℕ) : Type 0 where
-  pub goes : IsPath graph path last
-  pub first : first_or last path ≡ start
-  pub reaches : Contains layer last
-  pub among : (c : ℕ) → Contains path c → Contains left c
-  pub distinct : IsDistinct (λ a b. a == b) path
 
 -- a path of the n clients from the start to the last one, which isn't left
 pub record LeadsOut (n : ℕ) (graph : Graph) (start : ℕ) (left path : List ℕ) (last : ℕ) : Type 0 where
