@@ -60,10 +60,19 @@ frames_are_read key f rest fits =
     bytes = frame_bytes key f ++ rest
 
 -- what was read, of what is known to be read
-some_is : (x y : Found) → Ok (Some x) ≡ Ok (Some y) → x ≡ y
+abbrev pub nothing_yet : Result (Option Found) FrameFault
+nothing_yet = Ok None
+
+abbrev pub one_found : Found → Result (Option Found) FrameFault
+one_found found = Ok (Some found)
+
+abbrev pub refused : FrameFault → Result (Option Found) FrameFault
+refused fault = Err fault
+
+some_is : (x y : Found) → one_found x ≡ one_found y → x ≡ y
 some_is x y e = cc
 
-fault_is : (c d : FrameFault) → Err c ≡ Err d → c ≡ d
+fault_is : (c d : FrameFault) → refused c ≡ refused d → c ≡ d
 fault_is c d e = cc
 
 pub read_frames_are_written : ReadFramesAreWritten
@@ -73,10 +82,10 @@ read_frames_are_written key wire bytes found fits e = elim (outcome key wire byt
   | inr (inr taken) ↦ of_taken taken
 ]
   where
-    neither : Ok None ≡ Ok (Some found) → ⊥
+    neither : nothing_yet ≡ one_found found → ⊥
     neither e = cc
 
-    never : (fault : FrameFault) → Err fault ≡ Ok (Some found) → ⊥
+    never : (fault : FrameFault) → refused fault ≡ one_found found → ⊥
     never fault e = cc
 
     of_taken : IsTaken key wire bytes (frame_from key wire bytes)
@@ -85,11 +94,13 @@ read_frames_are_written key wire bytes found fits e = elim (outcome key wire byt
     of_taken (f, (rest, (by, (is, (fit, read))))) =
         let same : found ≡ found_of key f = some_is found (found_of key f) (sym e ∙ read) in
         let all : f ≡ on_wire wire found =
-        ap (λ (w : Wire). record { wire = w; number = f.number; letter = f.letter }) by ∙ ap (λ (x : Found). on_wire wire x) (sym same) in
-        (rest, (
-          subst (λ (g : Numbered). bytes ≡ frame_bytes key g ++ rest) all is,
-          (subst FrameFits all fit, subst (λ (g : Numbered). found ≡ found_of key g) all same),
-        ))
+        ap (λ (w : Wire). record { wire = w; number = f.number; letter = f.letter }) by ∙ ap (λ (x : Found). on_wire wire x) (sym same) in (
+          rest,
+          (
+            subst (λ (g : Numbered). bytes ≡ frame_bytes key g ++ rest) all is,
+            (subst FrameFits all fit, subst (λ (g : Numbered). found ≡ found_of key g) all same),
+          ),
+        )
 
 pub frame_faults_have_causes : FrameFaultsHaveCauses
 frame_faults_have_causes key wire bytes fault fits e = elim (outcome key wire bytes fits) [
@@ -98,10 +109,10 @@ frame_faults_have_causes key wire bytes fault fits e = elim (outcome key wire by
   | inr (inr taken) ↦ absurd (never (found_of key taken.0) (sym taken.1.1.1.1.1 ∙ e))
 ]
   where
-    neither : Ok None ≡ Err fault → ⊥
+    neither : nothing_yet ≡ refused fault → ⊥
     neither e = cc
 
-    never : (found : Found) → Ok (Some found) ≡ Err fault → ⊥
+    never : (found : Found) → one_found found ≡ refused fault → ⊥
     never found e = cc
 
 -- Frames one after the other.
@@ -134,7 +145,7 @@ pub frames_are_prefix : FramesArePrefix
 frames_are_prefix key [] given fit also h = (given, refl)
 frames_are_prefix key (f ∷ fs) [] fit also h = absurd (none (ap (λ (t : List ℕ). length t) (sym (after_first key f fs h.0) ∙ h.1)))
   where
-    none : length (frame_bytes key f ++ (flat_map (frame_bytes key) fs ++ h.0)) ≡ length [] → ⊥
+    none : length (frame_bytes key f ++ (flat_map (frame_bytes key) fs ++ h.0)) ≡ 0 → ⊥
     none e = omega (arith, e, frame_size key f, length-append (frame_bytes key f) (flat_map (frame_bytes key) fs ++ h.0))
 frames_are_prefix key (f ∷ fs) (g ∷ gs) fit also h =
     let whole : frame_bytes key f ++ (flat_map (frame_bytes key) fs ++ h.0) ≡ frame_bytes key g ++ flat_map (frame_bytes key) gs =

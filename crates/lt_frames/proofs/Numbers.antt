@@ -4,7 +4,7 @@ use mathlib.Core.List.{IsPrefix}
 use Rattle.lt_modes.specs.State.{Letter}
 use Rattle.lt_frames.specs.declared.frame.Wire.{Wire}
 use Rattle.lt_frames.specs.Frames.{Numbered}
-use Rattle.lt_frames.specs.Laws.{numbered, IsOneOf, BearSealsOf, AreAlone, SealedArePrefix}
+use Rattle.lt_frames.specs.Laws.{numbered, IsOneOf, BearSealsOf, HaveNoDouble, SealedArePrefix}
 
 some_is : {A : Type 0} (x y : A) → Some x ≡ Some y → x ≡ y
 some_is x y e = cc

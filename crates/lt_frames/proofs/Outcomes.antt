@@ -57,10 +57,13 @@ judge wire h = by_length (nat_lt MAX_LETTER h.length) refl
     by_to : (t : Bool) → (h.wire.to == wire.to) ≡ t → nat_lt MAX_LETTER h.length ≡ false → (h.version == VERSION) ≡ true → (h.wire.service == wire.service) ≡ true
         → (h.wire.from == wire.from) ≡ true → Judgement wire h
     by_to false to long version service from =
-        inl (Receiver, (
-          rw (long, version, service, from, to) refl,
-          λ key bytes rest is. (h, (rest, (is, eqb-false h.wire.to wire.to to))),
-        ))
+        inl (
+          Receiver,
+          (
+            rw (long, version, service, from, to) refl,
+            λ key bytes rest is. (h, (rest, (is, eqb-false h.wire.to wire.to to))),
+          ),
+        )
     by_to true to long version service from =
         inr (
           rw (long, version, service, from, to) refl,
@@ -77,26 +80,35 @@ judge wire h = by_length (nat_lt MAX_LETTER h.length) refl
         → Judgement wire h
     by_from true from long version service = by_to (h.wire.to == wire.to) refl long version service from
     by_from false from long version service =
-        inl (Sender, (
-          rw (long, version, service, from) refl,
-          λ key bytes rest is. (h, (rest, (is, eqb-false h.wire.from wire.from from))),
-        ))
+        inl (
+          Sender,
+          (
+            rw (long, version, service, from) refl,
+            λ key bytes rest is. (h, (rest, (is, eqb-false h.wire.from wire.from from))),
+          ),
+        )
 
     by_service : (t : Bool) → (h.wire.service == wire.service) ≡ t → nat_lt MAX_LETTER h.length ≡ false → (h.version == VERSION) ≡ true → Judgement wire h
     by_service true service long version = by_from (h.wire.from == wire.from) refl long version service
     by_service false service long version =
-        inl (Service, (
-          rw (long, version, service) refl,
-          λ key bytes rest is. (h, (rest, (is, eqb-false h.wire.service wire.service service))),
-        ))
+        inl (
+          Service,
+          (
+            rw (long, version, service) refl,
+            λ key bytes rest is. (h, (rest, (is, eqb-false h.wire.service wire.service service))),
+          ),
+        )
 
     by_version : (t : Bool) → (h.version == VERSION) ≡ t → nat_lt MAX_LETTER h.length ≡ false → Judgement wire h
     by_version true version long = by_service (h.wire.service == wire.service) refl long version
     by_version false version long =
-        inl (Version, (
-          rw (long, version) refl,
-          λ key bytes rest is. (h, (rest, (is, eqb-false h.version VERSION version))),
-        ))
+        inl (
+          Version,
+          (
+            rw (long, version) refl,
+            λ key bytes rest is. (h, (rest, (is, eqb-false h.version VERSION version))),
+          ),
+        )
 
     by_length : (t : Bool) → nat_lt MAX_LETTER h.length ≡ t → Judgement wire h
     by_length true long = inl (TooLong, (rw long refl, λ key bytes rest is. (h, (rest, (is, ltb-true MAX_LETTER h.length long)))))
@@ -160,7 +172,7 @@ module _ (key : List ℕ) (wire : Wire) (bytes : List ℕ) (fits : IsBytes bytes
       by_seal : (t : Bool) → same_bytes right s.seal ≡ t → Outcome key wire bytes (cond t (letter_in h (whole_from s.text)) (Err Seal))
       by_seal true is = by_letter (sym (same_is right s.seal is)) (whole_from s.text) refl
       by_seal false is =
-          inr (inl (Seal, (refl, (h, (s.text, (s.seal, (s.more, (all_parts, (own, (s.text_size, (s.seal_size, λ e. not_same right s.seal is (sym e)))))))))))
+          inr (inl (Seal, (refl, (h, (s.text, (s.seal, (s.more, (all_parts, (own, (s.text_size, (s.seal_size, λ e. not_same right s.seal is (sym e))))))))))))
 
       split_outcome : Outcome key wire bytes (rest_from key bytes h)
       split_outcome =

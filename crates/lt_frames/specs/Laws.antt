@@ -50,13 +50,13 @@ BearSealsOf key given taken = (f : Numbered) → IsOneOf taken f
     → (g : Numbered) × (IsOneOf given g × (frame_seal key g ≡ frame_seal key f))
 
 -- and no other frame with the seal of one that was given out was taken in
-abbrev pub AreAlone : List ℕ → (Wire → List Letter) → (Wire → List Letter) → Type 0
-AreAlone key given taken = (f g : Numbered) → IsOneOf taken f → IsOneOf given g
+abbrev pub HaveNoDouble : List ℕ → (Wire → List Letter) → (Wire → List Letter) → Type 0
+HaveNoDouble key given taken = (f g : Numbered) → IsOneOf taken f → IsOneOf given g
     → frame_seal key g ≡ frame_seal key f → g ≡ f
 
 -- of frames that were taken in with the numbers from 0 on, whatever was lost, came again or came in another order, and
 -- by whatever wire it came: the letters that were taken in by a wire are first ones of those that were given out by it
 abbrev pub SealedArePrefix : Type 0
 SealedArePrefix = (key : List ℕ) (given taken : Wire → List Letter)
-    → BearSealsOf key given taken → AreAlone key given taken
+    → BearSealsOf key given taken → HaveNoDouble key given taken
     → (wire : Wire) → IsPrefix (taken wire) (given wire)

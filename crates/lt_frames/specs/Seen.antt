@@ -1,5 +1,6 @@
 -- What the code returns, beside what reading gives.
 use Rattle.std.specs.Prelude.{◌≡◌, ℕ, List, ◌++◌, length, Option, Some, None, Result, Ok, Err}
+use Rattle.lt_modes.specs.State.{Letter}
 use Rattle.lt_desk.specs.LetterSeen.{letter_seen}
 use Rattle.lt_frames.specs.Frames.{Numbered, frame_bytes, FrameFits}
 use Rattle.lt_frames.specs.Reading.{Found}
@@ -13,9 +14,13 @@ use Rattle.lt_frames.specs.declared.frame.Wire.{Wire}
 abbrev pub frame_seen : Frame → Found
 frame_seen f = record { number = f.number; letter = letter_seen f.letter; size = f.size }
 
--- what went by this wire with that number
+-- the letter that goes by this wire with that number
+abbrev pub frame_of : Wire → ℕ → Letter → Numbered
+frame_of wire number letter = record { wire = wire; number = number; letter = letter }
+
+-- what was found, by this wire
 abbrev pub on_wire : Wire → Found → Numbered
-on_wire wire found = record { wire = wire; number = found.number; letter = found.letter }
+on_wire wire found = frame_of wire found.number found.letter
 
 -- what is read of a frame
 abbrev pub found_of : List ℕ → Numbered → Found
@@ -32,12 +37,12 @@ abbrev pub IsFound : Result (Option Found) FrameFault → Type 0
 IsFound read = (found : Found) × (read ≡ Ok (Some found))
 
 -- for want of memory there has to be a frame, and a fault is the one that reading gives
-abbrev pub Fails : FrameError → Result (Option Found) FrameFault → Type 0
-Fails errors.Memory read = IsFound read
-Fails (errors.Fault f) read = read ≡ Err f
+abbrev pub FrameFails : FrameError → Result (Option Found) FrameFault → Type 0
+FrameFails errors.Memory read = IsFound read
+FrameFails (errors.Fault f) read = read ≡ Err f
 
 -- what the code returns is what reading gives
-abbrev pub Finds : Result (Option Frame) FrameError → Result (Option Found) FrameFault → Type 0
-Finds (Ok None) read = read ≡ Ok None
-Finds (Ok (Some f)) read = read ≡ Ok (Some (frame_seen f))
-Finds (Err e) read = Fails e read
+abbrev pub FindsFrame : Result (Option Frame) FrameError → Result (Option Found) FrameFault → Type 0
+FindsFrame (Ok None) read = read ≡ Ok None
+FindsFrame (Ok (Some f)) read = read ≡ Ok (Some (frame_seen f))
+FindsFrame (Err e) read = FrameFails e read

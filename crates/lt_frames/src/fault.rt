@@ -2,8 +2,10 @@
 
 ghost use Rattle.std.specs.Prelude.{◌≡◌};
 ghost use Rattle.lt_frames.specs.declared.fault.FrameError.TheVariants as errors;
+ghost use Rattle.lt_frames.specs.declared.fault.WriteError.TheVariants as write_errors;
 
 use lt_letters::Fault;
+use std::alloc::AllocError;
 
 /// What is wrong with a frame: the first of these in this order.
 #[derive(Clone, Copy, Debug, PartialEq, Eq)]
@@ -47,4 +49,12 @@ pub enum WriteError {
     Memory,
     /// The letter has more bytes than a letter may have.
     TooLong,
+}
+
+impl From<AllocError> for WriteError {
+    ghost from_gives = { λ _ e. e ≡ write_errors.Memory };
+
+    fn from(_e: AllocError) -> WriteError {
+        WriteError::Memory
+    }
 }

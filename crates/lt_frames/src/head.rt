@@ -1,6 +1,7 @@
 // What stands before a letter.
 ghost use Rattle.std.specs.Prelude.{◌≡◌};
 ghost use Rattle.lt_letters.specs.Seen.{IsReading};
+ghost use Rattle.lt_frames.specs.Frames.{head_bytes};
 ghost use Rattle.lt_frames.specs.Reading.{head_from, head_fault};
 
 use crate::fault::FrameFault;
@@ -33,6 +34,40 @@ pub(crate) fn head_of(bytes: &[u8]) -> Result<(Head, &[u8]), Fault>
         number,
     };
     Ok((head, rest))
+}
+
+// The bytes of a head.
+pub(crate) fn head_array(head: Head) -> [u8; 23]
+    ensures { result ≡ head_bytes head }
+{
+    let length = head.length.to_le_bytes();
+    let service = head.wire.service.to_le_bytes();
+    let number = head.number.to_le_bytes();
+    [
+        length[0],
+        length[1],
+        length[2],
+        length[3],
+        head.version,
+        service[0],
+        service[1],
+        service[2],
+        service[3],
+        service[4],
+        service[5],
+        service[6],
+        service[7],
+        head.wire.from,
+        head.wire.to,
+        number[0],
+        number[1],
+        number[2],
+        number[3],
+        number[4],
+        number[5],
+        number[6],
+        number[7],
+    ]
 }
 
 // What is wrong with it for one who reads frames of this wire.

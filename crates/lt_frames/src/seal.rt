@@ -15,6 +15,7 @@ pub(crate) fn digest_of(key: &[u8], sealed: &[u8]) -> [u8; 32]
 }
 
 // Whether they are the same, by all their bytes: the time tells nothing of where they differ.
+#[tactic(auto, using(crate::proofs::Same::folds))]
 pub(crate) fn are_same(one: &[u8], other: &[u8]) -> bool
     requires { length one.now ≡ length other.now }
     ensures { result ≡ same_bytes one.now other.now }
