@@ -16,15 +16,24 @@ use lt_desk::Letter;
 use lt_letters::{letter_fits, write_letter};
 use std::alloc::AllocError;
 
+// Puts a head over the first bytes.
+fn put_first(sealed: &mut [u8], head: &[u8])
+    requires size { length head.now ≡ 23 }
+    requires within { 23 ≤ length sealed.old }
+    ensures { sealed.new ≡ head.now ++ drop 23 sealed.old }
+{
+    sealed[..HEAD].copy_from_slice(head);
+}
+
 // Puts a head over the bytes from the start on.
+#[tactic(auto, using(crate::proofs::FrameText::over))]
 fn put_over(out: &mut Vec<u8>, start: usize, head: &[u8])
     requires size { length head.now ≡ 23 }
     requires within { start + 23 ≤ length out.old.items }
     ensures items { out.new.items ≡ take start out.old.items ++ (head.now ++ drop 23 (drop start out.old.items)) }
     ensures room { vec_capacity out.new ≡ vec_capacity out.old }
 {
-    let sealed = &mut out[start..];
-    sealed[..HEAD].copy_from_slice(head);
+    put_first(&mut out[start..], head);
 }
 
 // Writes the seal of all from the start on.
