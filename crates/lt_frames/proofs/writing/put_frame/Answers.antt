@@ -1,4 +1,4 @@
-use Rattle.std.proofs.Common.{rules, ◌≡◌, ◌≤◌, ◌<◌, ◌+◌, ◌++◌, ℕ, List, ap, ◌∙◌, arith, length, take, drop}
+use Rattle.std.proofs.Common.{rules, ◌≡◌, ◌≤◌, ◌<◌, ◌+◌, ◌++◌, ℕ, ap, ◌∙◌, arith, length, take, drop}
 use Rattle.std.specs.Prelude.{replicate, vec_capacity}
 use Rattle.lt_desk.specs.LetterSeen.{letter_seen}
 use Rattle.lt_letters.specs.Spelling.{letter_bytes}
