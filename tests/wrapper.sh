@@ -156,6 +156,7 @@ refused_words '"20" is no number of nodes: 1 to 16, and to 64 with version 2 beh
 refused_words '"65" is no number of nodes: 1 to 16' make 65 3 12 5
 refused_words '"65" is no number of nodes: 1 to 64' make 65 3 12 5 version 2
 refused_words '"65" is no number of clients: 1 to 64, and to 256 with version 2 behind the seed' make 16 65 12 5 version 1
+refused_words '"257" is no number of clients: 1 to 256, and to 1024 with version 3 behind the seed' make 64 257 12 5 version 2
 refused_words '"4" is no version: 1, 2 or 3' make 2 3 12 5 version 4
 refused_words '"0" is no version: 1, 2 or 3' make 2 3 12 5 version 0
 refused_words '"0" is no number of clients: 1 to 64' make 2 0 12 5

@@ -7,7 +7,7 @@ from pathlib import Path
 from typing import NamedTuple, Optional
 
 MOST_NODES = {1: 16, 2: 64, 3: 64}         # by version
-MOST_CLIENTS = {1: 64, 2: 256, 3: 256}     # by version
+MOST_CLIENTS = {1: 64, 2: 256, 3: 1024}    # by version
 MOST_OF_NODE, MOST_SETS, MOST_COMMANDS, MOST_IN_LINE = 16, 8, 4096, 200
 LATER = {'2': 2, '3': 3}   # the versions that have a line, by its second word
 SIXTH = 'read_intention_write'
