@@ -67,7 +67,8 @@ abbrev pub unless_fault : Option FrameFault → Result (Option Found) FrameFault
 unless_fault (Some fault) found = Err fault
 unless_fault None found = found
 
-abbrev pub after_head : List ℕ → Wire → List ℕ → Result (Head × List ℕ) Fault → Result (Option Found) FrameFault
+abbrev pub after_head : List ℕ → Wire → List ℕ → Result (Head × List ℕ) Fault
+    → Result (Option Found) FrameFault
 after_head key wire bytes (Err e) = Ok None
 after_head key wire bytes (Ok h) = unless_fault (head_fault wire h.0) (rest_from key bytes h.0)
 

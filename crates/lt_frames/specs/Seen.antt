@@ -34,7 +34,8 @@ found_of key f = record { number = f.number; letter = f.letter; size = length (f
 abbrev pub IsFrameAt : List ℕ → Wire → List ℕ → Frame → Type 0
 IsFrameAt key wire bytes frame =
     let f = on_wire wire (frame_seen frame) in
-    (rest : List ℕ) × ((bytes ≡ frame_bytes key f ++ rest) × (FrameFits f × (frame.size ≡ length (frame_bytes key f))))
+    (rest : List ℕ) × ((bytes ≡ frame_bytes key f ++ rest)
+    × (FrameFits f × (frame.size ≡ length (frame_bytes key f))))
 
 -- a frame is read
 abbrev pub IsFound : Result (Option Found) FrameFault → Type 0

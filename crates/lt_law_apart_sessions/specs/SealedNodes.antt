@@ -35,4 +35,5 @@ pub record AreSealed (key : List ℕ) (service : ℕ) (nodes : List NodeNow) : T
 -- whatever was lost, came again, came in another order or was damaged on the way: what was brought to a node from
 -- another one is a first part of what that one gave out for it
 abbrev pub CarriedIfSealed : Type 0
-CarriedIfSealed = (key : List ℕ) (service : ℕ) (nodes : List NodeNow) → AreSealed key service nodes → AreCarried nodes
+CarriedIfSealed = (key : List ℕ) (service : ℕ) (nodes : List NodeNow) → AreSealed key service nodes
+    → AreCarried nodes

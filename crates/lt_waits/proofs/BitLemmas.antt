@@ -6,14 +6,14 @@ use Rattle.std.proofs.lemmas.List.{get_or-replicate, get_or_append_left, get_or_
 use Rattle.std.proofs.lemmas.Nat.Bits.{bit_at-zero, bit_at-lt, bit_at_and, bit_at_set_same, bit_at_set_other, bit_at_clear_same, bit_at_clear_other, bit_at-trailing_zeros, bit_at_ones}
 use Rattle.std.proofs.lemmas.Nat.{and_le_l}
 use Rattle.lt_spec.specs.Rings.{Graph}
-use Rattle.lt_waits.specs.Bits.{has_bit, words_for, OtherBitsStand}
+use Rattle.lt_waits.specs.Bits.{row_has, words_for, OtherWaitersStand}
 use Rattle.lt_waits.specs.Search.{IsRow, HasRows}
 use Rattle.lt_waits.specs.Serves.{GraphData}
 
 -- where one word of some has this bit
 bit_put : (words : List ℕ) (k : ℕ) (word : ℕ) (t : Bool) → k / 64 < length words
     → (bit_at word (k % 64) == 1) ≡ t → ((i : ℕ) → i < 64 → i ≢ k % 64 → bit_at word i ≡ bit_at (slice_index_or words (k / 64) 0) i)
-    → (has_bit (slice_set words (k / 64) word) k ≡ t) × OtherBitsStand k words (slice_set words (k / 64) word)
+    → (row_has (slice_set words (k / 64) word) k ≡ t) × OtherWaitersStand k words (slice_set words (k / 64) word)
 bit_put words k word t inside own others = (
   ap (λ (w : ℕ). bit_at w (k % 64) == 1) (get_or-set_same words (k / 64) word 0 inside) ∙ own,
   λ i apart. elim (cases_eq (i / 64) (k / 64)) [
@@ -27,41 +27,41 @@ bit_put words k word t inside own others = (
 )
 
 pub bit_set : (words : List ℕ) (k j : ℕ) → j ≡ k / 64 → k < 64 * length words
-    → (has_bit (slice_set words j (bit_or (slice_index_or words j 0) (1 * 2 ^ (k % 64) % 2 ^ 64))) k ≡ true)
-    × OtherBitsStand k words (slice_set words j (bit_or (slice_index_or words j 0) (1 * 2 ^ (k % 64) % 2 ^ 64)))
+    → (row_has (slice_set words j (bit_or (slice_index_or words j 0) (1 * 2 ^ (k % 64) % 2 ^ 64))) k ≡ true)
+    × OtherWaitersStand k words (slice_set words j (bit_or (slice_index_or words j 0) (1 * 2 ^ (k % 64) % 2 ^ 64)))
 bit_set words k j place few =
     let old = slice_index_or words (k / 64) 0 in
     let new = bit_or old (1 * 2 ^ (k % 64) % 2 ^ 64) in
-    subst (λ (i : ℕ). (has_bit (slice_set words i (bit_or (slice_index_or words i 0) (1 * 2 ^ (k % 64) % 2 ^ 64))) k ≡ true)
-    × OtherBitsStand k words (slice_set words i (bit_or (slice_index_or words i 0) (1 * 2 ^ (k % 64) % 2 ^ 64)))) (sym place)
+    subst (λ (i : ℕ). (row_has (slice_set words i (bit_or (slice_index_or words i 0) (1 * 2 ^ (k % 64) % 2 ^ 64))) k ≡ true)
+    × OtherWaitersStand k words (slice_set words i (bit_or (slice_index_or words i 0) (1 * 2 ^ (k % 64) % 2 ^ 64)))) (sym place)
     (bit_put words k new true (omega (arith, few))
     (ap (λ (b : ℕ). b == 1) (bit_at_set_same w64 old (k % 64) (omega arith)))
     (λ i below apart. bit_at_set_other w64 old (k % 64) (omega arith) i apart))
 
 pub bit_cleared : (words : List ℕ) (k j : ℕ) → j ≡ k / 64 → k < 64 * length words
-    → (has_bit (slice_set words j (bit_and (slice_index_or words j 0) (bit_not w64 (1 * 2 ^ (k % 64) % 2 ^ 64)))) k ≡ false)
-    × OtherBitsStand k words (slice_set words j (bit_and (slice_index_or words j 0) (bit_not w64 (1 * 2 ^ (k % 64) % 2 ^ 64))))
+    → (row_has (slice_set words j (bit_and (slice_index_or words j 0) (bit_not w64 (1 * 2 ^ (k % 64) % 2 ^ 64)))) k ≡ false)
+    × OtherWaitersStand k words (slice_set words j (bit_and (slice_index_or words j 0) (bit_not w64 (1 * 2 ^ (k % 64) % 2 ^ 64))))
 bit_cleared words k j place few =
     let old = slice_index_or words (k / 64) 0 in
     let new = bit_and old (bit_not w64 (1 * 2 ^ (k % 64) % 2 ^ 64)) in
-    subst (λ (i : ℕ). (has_bit (slice_set words i (bit_and (slice_index_or words i 0) (bit_not w64 (1 * 2 ^ (k % 64) % 2 ^ 64)))) k ≡ false)
-    × OtherBitsStand k words (slice_set words i (bit_and (slice_index_or words i 0) (bit_not w64 (1 * 2 ^ (k % 64) % 2 ^ 64))))) (sym place)
+    subst (λ (i : ℕ). (row_has (slice_set words i (bit_and (slice_index_or words i 0) (bit_not w64 (1 * 2 ^ (k % 64) % 2 ^ 64)))) k ≡ false)
+    × OtherWaitersStand k words (slice_set words i (bit_and (slice_index_or words i 0) (bit_not w64 (1 * 2 ^ (k % 64) % 2 ^ 64))))) (sym place)
     (bit_put words k new false (omega (arith, few))
     (ap (λ (b : ℕ). b == 1) (bit_at_clear_same w64 old (k % 64) (omega arith)))
     (λ i below apart. bit_at_clear_other w64 old (k % 64) (omega arith) i below apart))
 
 -- words that are all alike
-pub no_bit : (n k : ℕ) → k < 64 * n → has_bit (replicate n 0) k ≡ false
+pub no_bit : (n k : ℕ) → k < 64 * n → row_has (replicate n 0) k ≡ false
 no_bit n k few =
     ap (λ (w : ℕ). bit_at w (k % 64) == 1) (get_or-replicate n (k / 64) 0 0 (omega (arith, few)))
     ∙ ap (λ (b : ℕ). b == 1) (bit_at-zero (k % 64))
 
-pub each_bit : (n k : ℕ) → k < 64 * n → has_bit (replicate n (2 ^ 64 - 1)) k ≡ true
+pub each_bit : (n k : ℕ) → k < 64 * n → row_has (replicate n (2 ^ 64 - 1)) k ≡ true
 each_bit n k few =
     ap (λ (w : ℕ). bit_at w (k % 64) == 1) (get_or-replicate n (k / 64) (2 ^ 64 - 1) 0 (omega (arith, few)))
     ∙ ap (λ (b : ℕ). b == 1) (bit_at_ones 64 (k % 64) (omega arith))
 
-in_word : (words : List ℕ) (word w i : ℕ) → w ≡ slice_index_or words word 0 → i < 64 → has_bit words (64 * word + i) ≡ (bit_at w i == 1)
+in_word : (words : List ℕ) (word w i : ℕ) → w ≡ slice_index_or words word 0 → i < 64 → row_has words (64 * word + i) ≡ (bit_at w i == 1)
 in_word words word w i is below =
     let place : (64 * word + i) / 64 ≡ word = omega (arith, below) in
     let bit : (64 * word + i) % 64 ≡ i = omega (arith, below) in
@@ -70,8 +70,8 @@ in_word words word w i is below =
 
 -- the lowest bit that two words share
 pub shared : (words others : List ℕ) (word v w : ℕ) → v ≡ slice_index_or words word 0 → w ≡ slice_index_or others word 0 → v < 2 ^ 64 → (bit_and v w ≢ 0)
-    → (trailing_zeros w64 (bit_and v w) < 64) × ((has_bit words (64 * word + trailing_zeros w64 (bit_and v w)) ≡ true)
-    × (has_bit others (64 * word + trailing_zeros w64 (bit_and v w)) ≡ true))
+    → (trailing_zeros w64 (bit_and v w) < 64) × ((row_has words (64 * word + trailing_zeros w64 (bit_and v w)) ≡ true)
+    × (row_has others (64 * word + trailing_zeros w64 (bit_and v w)) ≡ true))
 shared words others word v w is also small some =
     let place = trailing_zeros w64 (bit_and v w) in
     let lowest = bit_at-trailing_zeros w64 (bit_and v w) (omega (arith, some)) (omega (arith, small, and_le_l v w)) in
@@ -85,7 +85,7 @@ shared words others word v w is also small some =
 
 -- of the numbers of the words so far none has its bit in both
 abbrev pub NoneShared : List ℕ → List ℕ → ℕ → Type 0
-NoneShared words others word = (i : ℕ) → i < 64 * word → has_bit others i ≡ true → has_bit words i ≡ false
+NoneShared words others word = (i : ℕ) → i < 64 * word → row_has others i ≡ true → row_has words i ≡ false
 
 pub none_more : (words others : List ℕ) (word v w : ℕ) → v ≡ slice_index_or words word 0 → w ≡ slice_index_or others word 0 → bit_and v w ≡ 0
     → NoneShared words others word → NoneShared words others (word + 1)
@@ -95,17 +95,17 @@ none_more words others word v w is also none before i few there = elim (cases_lt
       let j = i - 64 * word in
       let at : i ≡ 64 * word + j = omega (arith, late) in
       let within : j < 64 = omega (arith, few, late) in
-      let on : bit_at w j ≡ 1 = eqb-true (bit_at w j) 1 (sym (in_word others word w j also within) ∙ (sym (ap (has_bit others) at) ∙ there)) in
+      let on : bit_at w j ≡ 1 = eqb-true (bit_at w j) 1 (sym (in_word others word w j also within) ∙ (sym (ap (row_has others) at) ∙ there)) in
       let gone : bit_at (bit_and v w) j ≡ 0 = ap (λ (n : ℕ). bit_at n j) none ∙ bit_at-zero j in
       let off : bit_at v j ≡ 0 = omega (arith, gone, bit_at_and v w j, on) in
-      ap (has_bit words) at ∙ (in_word words word v j is within ∙ ap (λ (b : ℕ). b == 1) off)
+      ap (row_has words) at ∙ (in_word words word v j is within ∙ ap (λ (b : ℕ). b == 1) off)
 ]
 
 -- A row of bits for each client.
 
 -- of the first k clients those that wait for this one have their bits
 abbrev pub IsMarkedTo : Graph → ℕ → ℕ → ℕ → List ℕ → Type 0
-IsMarkedTo graph n client k row = (c : ℕ) → c < 64 * words_for n → has_bit row c ≡ (nat_lt c k && graph c client)
+IsMarkedTo graph n client k row = (c : ℕ) → c < 64 * words_for n → row_has row c ≡ (nat_lt c k && graph c client)
 
 -- a number that isn't the last one is below it if it is below the next
 not_last : (c k : ℕ) → c ≢ k → nat_lt c k ≡ nat_lt c (k + 1)
@@ -115,10 +115,10 @@ not_last c k apart = elim (cases_lt c k) [
 ]
 
 module _ (graph : Graph) (n client k : ℕ) (row : List ℕ) (before : IsMarkedTo graph n client k row) where
-  pub row_marked : (new : List ℕ) → has_bit new k ≡ true → OtherBitsStand k row new → graph k client ≡ true → IsMarkedTo graph n client (k + 1) new
+  pub row_marked : (new : List ℕ) → row_has new k ≡ true → OtherWaitersStand k row new → graph k client ≡ true → IsMarkedTo graph n client (k + 1) new
   row_marked new own stand on c few = elim (cases_eq c k) [
     | inl same ↦
-        (ap (has_bit new) same ∙ own)
+        (ap (row_has new) same ∙ own)
         ∙ sym (ap (λ (t : Bool). t && graph c client) (lt-ltb c (k + 1) (omega (arith, same))) ∙ (ap (λ (x : ℕ). graph x client) same ∙ on))
     | inr apart ↦ stand c apart ∙ (before c few ∙ ap (λ (t : Bool). t && graph c client) (not_last c k apart))
   ]
@@ -131,7 +131,7 @@ module _ (graph : Graph) (n client k : ℕ) (row : List ℕ) (before : IsMarkedT
     | inr apart ↦ before c few ∙ ap (λ (t : Bool). t && graph c client) (not_last c k apart)
   ]
 
-pub nobody_marked : (graph : Graph) (n client : ℕ) (row : List ℕ) → ((c : ℕ) → c < 64 * words_for n → has_bit row c ≡ false) → IsMarkedTo graph n client 0 row
+pub nobody_marked : (graph : Graph) (n client : ℕ) (row : List ℕ) → ((c : ℕ) → c < 64 * words_for n → row_has row c ≡ false) → IsMarkedTo graph n client 0 row
 nobody_marked graph n client row none c few = none c few ∙ sym (ap (λ (t : Bool). t && graph c client) (le-ltb c 0 (omega arith)))
 
 pub rows_more : (g : GraphData) (rows now : List (List ℕ)) (k : ℕ) (row : List ℕ) → HasRows g rows k → IsRow g k row → now ≡ rows ++ row ∷ [] → HasRows g now (k + 1)

@@ -4,7 +4,7 @@ use Rattle.std.proofs.Math.Nat.{eq-zero-or-pos}
 use Rattle.std.proofs.lemmas.Bool.{cases_lt, false≢true}
 use Rattle.lt_lists.proofs.Members.{contains_first, none_in}
 use Rattle.lt_spec.specs.Rings.{Graph}
-use Rattle.lt_waits.specs.Search.{steps_of, next_of, left_of, IsSearch, IsReached, Reaches, IsDone, GoesNearer, HasSteps}
+use Rattle.lt_waits.specs.Search.{steps_of, next_step_of, unreached_in, IsSearch, IsReached, Reaches, IsSearched, GoesNearer, HasSteps}
 use Rattle.lt_waits.specs.declared.search.Search.{Search}
 use Rattle.lt_waits.proofs.Searching.{at_most, only_one}
 
@@ -19,12 +19,12 @@ pub record IsRound (n : ℕ) (graph : Graph) (goal k : ℕ) (layer : List ℕ) (
   pub further : (c other : ℕ) → c < n → other < n → graph c other ≡ true → 0 < steps_of s other → steps_of s other < k
       → (0 < steps_of s c) × (steps_of s c ≤ steps_of s other + 1)
   pub nearer : (c : ℕ) → c < n → 0 < steps_of s c → GoesNearer graph goal s c
-  pub next_below : (c : ℕ) → c < n → 0 < steps_of s c → next_of s c < n
-  pub bound : k + left_of n s + length layer ≤ n + 1
+  pub next_below : (c : ℕ) → c < n → 0 < steps_of s c → next_step_of s c < n
+  pub bound : k + unreached_in n s + length layer ≤ n + 1
 
 module _ (n : ℕ) (graph : Graph) (goal : ℕ) where
   pub first_round : (layer : List ℕ) (old s : Search) → goal < n → ((c : ℕ) → c < n → steps_of old c ≡ 0) → Reaches n graph (goal ∷ []) 1 [] layer old s
-      → IsDone n graph (goal ∷ []) s → IsRound n graph goal 1 layer s
+      → IsSearched n graph (goal ∷ []) s → IsRound n graph goal 1 layer s
   first_round layer old s inside none r done = record {
     search = r.search;
     some = omega arith;
@@ -47,11 +47,11 @@ module _ (n : ℕ) (graph : Graph) (goal : ℕ) where
     further = λ c other h ho on some few. absurd (omega (arith, some, few));
     nearer = λ c h some. elim (reached c h) [
       | inl none_so ↦ absurd (omega (arith, some, none_so))
-      | inr is ↦ (is.1.1.0, inl (is.0, sym (only_one goal (next_of s c) is.1.0)))
+      | inr is ↦ (is.1.1.0, inl (is.0, sym (only_one goal (next_step_of s c) is.1.0)))
     ];
     next_below = λ c h some. elim (reached c h) [
       | inl none_so ↦ absurd (omega (arith, some, none_so))
-      | inr is ↦ subst (λ (x : ℕ). x < n) (only_one goal (next_of s c) is.1.0) inside
+      | inr is ↦ subst (λ (x : ℕ). x < n) (only_one goal (next_step_of s c) is.1.0) inside
     ];
     bound = omega (arith, r.fewer, at_most n (λ c. steps_of old c == 0));
   }
@@ -60,7 +60,7 @@ module _ (n : ℕ) (graph : Graph) (goal : ℕ) where
       reached c h = r.reached c h (none c h)
 
   module _ (k : ℕ) (layer next : List ℕ) (old s : Search) where
-    pub next_round : IsRound n graph goal k layer old → 0 < length layer → Reaches n graph layer (k + 1) [] next old s → IsDone n graph layer s
+    pub next_round : IsRound n graph goal k layer old → 0 < length layer → Reaches n graph layer (k + 1) [] next old s → IsSearched n graph layer s
         → IsRound n graph goal (k + 1) next s
     next_round was some r done = record {
       search = r.search;
@@ -103,28 +103,28 @@ module _ (n : ℕ) (graph : Graph) (goal : ℕ) where
               elim near.1 [
                 | inl one ↦ inl (kept.1.0 ∙ one.0, kept.1.1 ∙ one.1)
                 | inr step ↦
-                    let same : steps_of s (next_of s c) ≡ steps_of old (next_of old c) =
-                    ap (steps_of s) kept.1.1 ∙ (r.kept (next_of old c) (was.next_below c h kept.0) step.0).0 in
+                    let same : steps_of s (next_step_of s c) ≡ steps_of old (next_step_of old c) =
+                    ap (steps_of s) kept.1.1 ∙ (r.kept (next_step_of old c) (was.next_below c h kept.0) step.0).0 in
                     inr (omega (arith, same, step.0), omega (arith, same, step.1, kept.1.0))
               ],
             )
         | inr (inl none) ↦ absurd (omega (arith, there, none))
         | inr (inr is) ↦
-            let from = was.at (next_of s c) is.1.0 in
-            let same : steps_of s (next_of s c) ≡ k = (r.kept (next_of s c) from.0 (omega (arith, from.1, was.some))).0 ∙ from.1 in
+            let from = was.at (next_step_of s c) is.1.0 in
+            let same : steps_of s (next_step_of s c) ≡ k = (r.kept (next_step_of s c) from.0 (omega (arith, from.1, was.some))).0 ∙ from.1 in
             (is.1.1.0, inr (omega (arith, same, was.some), omega (arith, same, is.0)))
       ];
       next_below = λ c h there. elim (known c h) [
         | inl kept ↦ subst (λ (x : ℕ). x < n) (sym kept.1.1) (was.next_below c h kept.0)
         | inr (inl none) ↦ absurd (omega (arith, there, none))
-        | inr (inr is) ↦ (was.at (next_of s c) is.1.0).0
+        | inr (inr is) ↦ (was.at (next_step_of s c) is.1.0).0
       ];
       bound = omega (arith, was.bound, r.fewer, some);
     }
       where
         -- it was found before and stays so; or it wasn't, and is now or isn't
         known : (c : ℕ) → c < n
-            → ((0 < steps_of old c) × ((steps_of s c ≡ steps_of old c) × (next_of s c ≡ next_of old c))) ⊎ IsReached graph layer (k + 1) next s c
+            → ((0 < steps_of old c) × ((steps_of s c ≡ steps_of old c) × (next_step_of s c ≡ next_step_of old c))) ⊎ IsReached graph layer (k + 1) next s c
         known c h = elim (eq-zero-or-pos (steps_of old c)) [
           | inl none ↦ inr (r.reached c h none)
           | inr found ↦ inl (found, r.kept c h found)

@@ -8,8 +8,8 @@ use Rattle.lt_lists.specs.Below.{count_below}
 use Rattle.lt_lists.proofs.Members.{contains_first, contains_cases, none_in}
 use Rattle.lt_lists.proofs.Searches.{one_less}
 use Rattle.lt_spec.specs.Rings.{Graph}
-use Rattle.lt_waits.specs.Bits.{has_bit, OtherBitsStand}
-use Rattle.lt_waits.specs.Search.{steps_of, next_of, left_of, IsSearch, IsReached, Reaches, IsDone}
+use Rattle.lt_waits.specs.Bits.{row_has, OtherWaitersStand}
+use Rattle.lt_waits.specs.Search.{steps_of, next_step_of, unreached_in, IsSearch, IsReached, Reaches, IsSearched}
 use Rattle.lt_waits.specs.declared.search.Search.{Search}
 
 pub at_most : (n : ℕ) (test : ℕ → Bool) → count_below n test ≤ n
@@ -38,8 +38,8 @@ module _ (n : ℕ) (graph : Graph) where
 
   -- One client more is found.
 
-  pub fewer_left : (k : ℕ) (mid new : Search) (other : ℕ) → IsSearch n mid → 0 < k → other < n → has_bit mid.left other ≡ true
-      → new.steps.items ≡ slice_set mid.steps.items other k → left_of n mid ≡ left_of n new + 1
+  pub fewer_left : (k : ℕ) (mid new : Search) (other : ℕ) → IsSearch n mid → 0 < k → other < n → row_has mid.left other ≡ true
+      → new.steps.items ≡ slice_set mid.steps.items other k → unreached_in n mid ≡ unreached_in n new + 1
   fewer_left k mid new other is pos below was steps =
       one_less n other (λ c. steps_of mid c == 0) (λ c. steps_of new c == 0) below (sym (is.left other below) ∙ was)
       (ne_eqb (steps_of new other) 0 (λ e. omega (arith, e, own, pos)))
@@ -49,9 +49,9 @@ module _ (n : ℕ) (graph : Graph) where
       own = ap (λ (l : List ℕ). slice_index_or l other 0) steps ∙ get_or-set_same mid.steps.items other k 0 (omega (arith, below, is.steps))
 
   module _ (those : List ℕ) (k : ℕ) (before found now : List ℕ) (old mid new : Search) (goal other : ℕ) where
-    pub one_found : Reaches n graph those k before found old mid → 0 < k → other < n → has_bit mid.left other ≡ true → graph other goal ≡ true
+    pub one_found : Reaches n graph those k before found old mid → 0 < k → other < n → row_has mid.left other ≡ true → graph other goal ≡ true
         → Contains those goal → new.steps.items ≡ slice_set mid.steps.items other k → new.next.items ≡ slice_set mid.next.items other goal
-        → length new.left ≡ length mid.left → has_bit new.left other ≡ false → OtherBitsStand other mid.left new.left → now ≡ found ++ other ∷ []
+        → length new.left ≡ length mid.left → row_has new.left other ≡ false → OtherWaitersStand other mid.left new.left → now ≡ found ++ other ∷ []
         → Reaches n graph those k before now old new
     one_found r pos below was waits there steps next words gone stand pushed = record {
       search = record {
@@ -60,7 +60,7 @@ module _ (n : ℕ) (graph : Graph) where
         words = words ∙ r.search.words;
         left = λ c h. elim (cases_eq c other) [
           | inl same ↦
-              ap (has_bit new.left) same ∙ gone
+              ap (row_has new.left) same ∙ gone
               ∙ sym (ap (λ (x : ℕ). steps_of new x == 0) same ∙ ne_eqb (steps_of new other) 0 (λ e. omega (arith, e, own_steps, pos)))
           | inr apart ↦ stand c apart ∙ r.search.left c h ∙ ap (λ (x : ℕ). x == 0) (sym (other_steps c apart))
         ];
@@ -99,13 +99,13 @@ module _ (n : ℕ) (graph : Graph) where
         own_steps : steps_of new other ≡ k
         own_steps = ap (λ (l : List ℕ). slice_index_or l other 0) steps ∙ get_or-set_same mid.steps.items other k 0 (omega (arith, below, r.search.steps))
 
-        own_next : next_of new other ≡ goal
+        own_next : next_step_of new other ≡ goal
         own_next = ap (λ (l : List ℕ). slice_index_or l other 0) next ∙ get_or-set_same mid.next.items other goal 0 (omega (arith, below, r.search.next))
 
         other_steps : (c : ℕ) → c ≢ other → steps_of new c ≡ steps_of mid c
         other_steps c apart = ap (λ (l : List ℕ). slice_index_or l c 0) steps ∙ get_or-set_other mid.steps.items other c k 0 apart
 
-        other_next : (c : ℕ) → c ≢ other → next_of new c ≡ next_of mid c
+        other_next : (c : ℕ) → c ≢ other → next_step_of new c ≡ next_step_of mid c
         other_next c apart = ap (λ (l : List ℕ). slice_index_or l c 0) next ∙ get_or-set_other mid.next.items other c goal 0 apart
 
         steps_now : (c : ℕ) → steps_of mid c ≡ k → steps_of new c ≡ k
@@ -121,7 +121,7 @@ module _ (n : ℕ) (graph : Graph) where
         earlier c f = subst (λ (l : List ℕ). Contains l c) (sym pushed) (Contains-append_left found (other ∷ []) c f)
 
   -- none that is left waits for the client
-  pub one_done : (goal : ℕ) (s : Search) → IsSearch n s → ((c : ℕ) → c < n → has_bit s.left c ≡ true → graph c goal ≡ false) → IsDone n graph (goal ∷ []) s
+  pub one_done : (goal : ℕ) (s : Search) → IsSearch n s → ((c : ℕ) → c < n → row_has s.left c ≡ true → graph c goal ≡ false) → IsSearched n graph (goal ∷ []) s
   one_done goal s is none c other h e f =
       subst (λ (x : ℕ). graph c x ≡ false) (only_one goal other f) (none c h (is.left c h ∙ eq-eqb (steps_of s c) 0 e))
 
@@ -139,7 +139,7 @@ module _ (n : ℕ) (graph : Graph) where
       reached = λ c h e. elim (first.reached c h e) [
         | inl none ↦ elim (second.reached c h none) [
           | inl still ↦ inl still
-          | inr is ↦ inr (is.0, (subst (Contains those) (only_one goal (next_of new c) is.1.0) there, is.1.1))
+          | inr is ↦ inr (is.0, (subst (Contains those) (only_one goal (next_step_of new c) is.1.0) there, is.1.1))
         ]
         | inr is ↦
             let b = second.kept c h (omega (arith, is.0, pos)) in
@@ -164,8 +164,8 @@ module _ (n : ℕ) (graph : Graph) where
     | inr some ↦ absurd (omega (arith, (r.kept c h some).0, some, e))
   ]
 
-  pub then_done : (those : List ℕ) (k i d : ℕ) (found now : List ℕ) (mid new : Search) → i < length those → IsDone n graph (take i those) mid
-      → Reaches n graph (get_or those i d ∷ []) k found now mid new → IsDone n graph (get_or those i d ∷ []) new → IsDone n graph (take (i + 1) those) new
+  pub then_done : (those : List ℕ) (k i d : ℕ) (found now : List ℕ) (mid new : Search) → i < length those → IsSearched n graph (take i those) mid
+      → Reaches n graph (get_or those i d ∷ []) k found now mid new → IsSearched n graph (get_or those i d ∷ []) new → IsSearched n graph (take (i + 1) those) new
   then_done those k i d found now mid new inside done r more c other h e f =
       elim (Contains-push_cases (take i those) (get_or those i d) other (subst (λ (l : List ℕ). Contains l other) (take_more those i d inside) f)) [
         | inl early ↦ done c other h (not_before (get_or those i d ∷ []) k found now mid new r c h e) early

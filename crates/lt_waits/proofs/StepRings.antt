@@ -7,7 +7,7 @@ use Rattle.std.proofs.lemmas.List.Elements.{Contains-push_cases}
 use Rattle.std.proofs.lemmas.Map.Keys.{IsDistinct-push}
 use Rattle.lt_lists.proofs.Members.{contains_first, contains_later, list_any-which, none_in}
 use Rattle.lt_spec.specs.Rings.{Graph, AreBelow, first_or, IsPath, IsRing}
-use Rattle.lt_waits.specs.Search.{steps_of, next_of, GoesNearer, HasSteps}
+use Rattle.lt_waits.specs.Search.{steps_of, next_step_of, GoesNearer, HasSteps}
 use Rattle.lt_waits.specs.Shortest.{IsRingOf}
 use Rattle.lt_waits.specs.declared.search.Search.{Search}
 use Rattle.lt_waits.proofs.Layers.{path_further, first_further}
@@ -50,11 +50,11 @@ module _ (n : ℕ) (graph : Graph) (start : ℕ) (s : Search) (is : HasSteps n g
   }
 
   pub walk_on : (total i : ℕ) (ring now : List ℕ) (client : ℕ) → IsWalk n graph start s total i ring client → i < total → now ≡ ring ++ client ∷ []
-      → IsWalk n graph start s total (i + 1) now (next_of s client)
-  walk_on total i ring now client w more pushed = subst (λ (l : List ℕ). IsWalk n graph start s total (i + 1) l (next_of s client)) (sym pushed) (record {
+      → IsWalk n graph start s total (i + 1) now (next_step_of s client)
+  walk_on total i ring now client w more pushed = subst (λ (l : List ℕ). IsWalk n graph start s total (i + 1) l (next_step_of s client)) (sym pushed) (record {
     long = length_push ring client ∙ ap (λ (x : ℕ). x + 1) w.long;
-    goes = path_further graph ring client (next_of s client) w.goes near.0;
-    begins = first_further ring client (next_of s client) ∙ w.begins;
+    goes = path_further graph ring client (next_step_of s client) w.goes near.0;
+    begins = first_further ring client (next_step_of s client) ∙ w.begins;
     below = λ c f. elim (Contains-push_cases ring client c f) [
       | inl old ↦ w.below c old
       | inr same ↦ subst (λ (x : ℕ). x < n) same w.here

@@ -2,7 +2,7 @@
 // that wait for one of these, and so on.
 ghost use Rattle.std.specs.Prelude.{◌≡◌, ◌<◌, ◌≤◌, ◌∷◌, [], ℕ, All, IfOk, OnOk, length};
 ghost use Rattle.lt_waits.specs.Serves.{graph_of};
-ghost use Rattle.lt_waits.specs.Search.{HasSteps, IsDone, IsSearch, Reaches, next_of, steps_of};
+ghost use Rattle.lt_waits.specs.Search.{HasSteps, IsSearched, IsSearch, Reaches, next_step_of, steps_of};
 
 use crate::bits::Bits;
 use crate::waiters::Waiters;
@@ -31,7 +31,7 @@ impl Search {
     /// Where the client's first step goes.
     pub fn next(&self, client: u16) -> u16
         requires { client < length self.now.next.items }
-        ensures { result ≡ next_of self.now client }
+        ensures { result ≡ next_step_of self.now client }
     {
         self.next[usize::from(client)]
     }
@@ -81,7 +81,7 @@ fn reach(
     requires steps { 0 < steps }
     ensures reached { IfOk result
         (λ found. Reaches waiters.now.clients (graph_of waiters.now) those.now steps [] found.items search.old search.new) }
-    ensures done { OnOk result (IsDone waiters.now.clients (graph_of waiters.now) those.now search.new) }
+    ensures done { OnOk result (IsSearched waiters.now.clients (graph_of waiters.now) those.now search.new) }
 {
     let mut found = Vec::new(alloc);
     for client in those {
@@ -103,7 +103,7 @@ fn reach_one(
     requires steps { 0 < steps }
     ensures reached { OnOk result
         (Reaches waiters.now.clients (graph_of waiters.now) (client ∷ []) steps found.old.items found.new.items search.old search.new) }
-    ensures done { OnOk result (IsDone waiters.now.clients (graph_of waiters.now) (client ∷ []) search.new) }
+    ensures done { OnOk result (IsSearched waiters.now.clients (graph_of waiters.now) (client ∷ []) search.new) }
 {
     while let Some(other) = waiters.one_of(&search.left, client) {
         search.left.remove(other);

@@ -1,7 +1,7 @@
 // Who waits for a client, as bits.
 ghost use Rattle.std.specs.Prelude.{◌≡◌, ◌<◌, ℕ, true, false, length, IfOk, IfSome, IfNone};
 ghost use Rattle.lt_waits.specs.Serves.{graph_of};
-ghost use Rattle.lt_waits.specs.Bits.{has_bit, words_for};
+ghost use Rattle.lt_waits.specs.Bits.{row_has, words_for};
 ghost use Rattle.lt_waits.specs.Search.{IsRow, HasRows};
 
 use crate::bits::Bits;
@@ -47,9 +47,9 @@ impl<'a> Waiters<'a> {
         requires client { client < self.now.clients }
         requires words { length left.now ≡ words_for self.now.clients }
         ensures within { IfSome result (λ other. other < self.now.clients) }
-        ensures left { IfSome result (λ other. has_bit left.now other ≡ true) }
+        ensures left { IfSome result (λ other. row_has left.now other ≡ true) }
         ensures waits { IfSome result (λ other. graph_of self.now other client ≡ true) }
-        ensures none { IfNone result ((other : ℕ) → other < self.now.clients → has_bit left.now other ≡ true → graph_of self.now other client ≡ false) }
+        ensures none { IfNone result ((other : ℕ) → other < self.now.clients → row_has left.now other ≡ true → graph_of self.now other client ≡ false) }
     {
         self.rows[usize::from(client)].common(left)
     }

@@ -1,7 +1,7 @@
 use Rattle.std.proofs.Common.{rules, ◌≡◌, ◌<◌, ◌+◌, ◌++◌, ◌∷◌, [], ℕ, refl, ap, arith, slice_set}
 use Rattle.std.specs.Vec.{with_item}
 use Rattle.lt_lists.proofs.Members.{contains_first}
-use Rattle.lt_waits.specs.Search.{left_of}
+use Rattle.lt_waits.specs.Search.{unreached_in}
 use Rattle.lt_waits.specs.Serves.{graph_of}
 use Rattle.lt_waits.specs.declared.search.Search.{Search}
 use Rattle.lt_waits.proofs.Searching.{fewer_left, one_found}
@@ -19,10 +19,10 @@ found_more c = record {
 pub loop-other-smaller : goal.loop-other-smaller
 loop-other-smaller c =
     let n = c.args.waiters.now.clients in
-    let one : left_of n c.loop-other.search ≡ left_of n (found_more c) + 1 =
+    let one : unreached_in n c.loop-other.search ≡ unreached_in n (found_more c) + 1 =
     fewer_left n (graph_of c.args.waiters.now) c.args.steps c.loop-other.search (found_more c) c.in-Some.other c.loop-other.invariant.search c.requires.steps
     c.in-Some.ensures.within c.in-Some.ensures.left (ap (λ (i : ℕ). slice_set c.loop-other.search.steps.items i c.args.steps) c.from.ensures) in
-    let less : left_of n (found_more c) < left_of n c.loop-other.search = omega (arith, one) in
+    let less : unreached_in n (found_more c) < unreached_in n c.loop-other.search = omega (arith, one) in
     less
 
 pub loop-other-preserved : goal.loop-other-preserved

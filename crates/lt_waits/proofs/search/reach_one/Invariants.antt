@@ -1,5 +1,5 @@
 use Rattle.std.proofs.Common.{◌∷◌, []}
-use Rattle.lt_waits.specs.Search.{Reaches, left_of}
+use Rattle.lt_waits.specs.Search.{Reaches, unreached_in}
 use Rattle.lt_waits.specs.Serves.{graph_of}
 use Rattle.lt_waits.proofs.search.reach_one.Given as goal
 
@@ -8,4 +8,4 @@ invariant-loop-other l = Reaches l.waiters.clients (graph_of l.waiters) (l.clien
 
 -- those that are left become fewer
 abbrev pub decreases-loop-other : goal.decreases-loop-other
-decreases-loop-other l = left_of l.waiters.clients l.search
+decreases-loop-other l = unreached_in l.waiters.clients l.search

@@ -1,7 +1,7 @@
 use Rattle.std.proofs.Common.{◌<◌, ◌+◌, [], ℕ, List, All, length, sym, subst, arith}
 use Rattle.std.proofs.lemmas.Grind.{common_steps}
 use Rattle.lt_lists.proofs.Members.{all_of}
-use Rattle.lt_waits.specs.Search.{Reaches, IsDone}
+use Rattle.lt_waits.specs.Search.{Reaches, IsSearched}
 use Rattle.lt_waits.specs.Serves.{graph_of}
 use Rattle.lt_waits.proofs.Rounds.{first_round, next_round}
 use Rattle.lt_waits.proofs.search.steps_to.Goals as goal
@@ -26,7 +26,7 @@ loop-alloc-preserved c =
     let reached : Reaches n graph layer (c.loop-alloc.steps + 1) [] c.in_ok-layer-2.layer.items c.loop-alloc.search c.reach-in-loop-alloc.new.search =
     subst (λ (l : List ℕ). Reaches n graph l (c.loop-alloc.steps + 1) [] c.in_ok-layer-2.layer.items c.loop-alloc.search c.reach-in-loop-alloc.new.search)
     c.deref.ensures.value c.in_ok-layer-2.ensures.reached in
-    let done : IsDone n graph layer c.reach-in-loop-alloc.new.search =
-    subst (λ (l : List ℕ). IsDone n graph l c.reach-in-loop-alloc.new.search) c.deref.ensures.value c.in_ok-layer-2.ensures.done in
+    let done : IsSearched n graph layer c.reach-in-loop-alloc.new.search =
+    subst (λ (l : List ℕ). IsSearched n graph l c.reach-in-loop-alloc.new.search) c.deref.ensures.value c.in_ok-layer-2.ensures.done in
     next_round n graph c.args.goal c.loop-alloc.steps layer c.in_ok-layer-2.layer.items c.loop-alloc.search c.reach-in-loop-alloc.new.search
     c.loop-alloc.invariant some reached done

@@ -1,5 +1,5 @@
 use Rattle.std.proofs.Common.{◌+◌, length}
-use Rattle.lt_waits.specs.Search.{left_of}
+use Rattle.lt_waits.specs.Search.{unreached_in}
 use Rattle.lt_waits.specs.Serves.{graph_of}
 use Rattle.lt_waits.proofs.Rounds.{IsRound}
 use Rattle.lt_waits.proofs.search.steps_to.Given as goal
@@ -9,4 +9,4 @@ invariant-loop-alloc l = IsRound l.waiters.clients (graph_of l.waiters) l.goal l
 
 -- those that are found are no longer left, and the layer before is gone
 abbrev pub decreases-loop-alloc : goal.decreases-loop-alloc
-decreases-loop-alloc l = left_of l.waiters.clients l.search + length l.layer.items
+decreases-loop-alloc l = unreached_in l.waiters.clients l.search + length l.layer.items

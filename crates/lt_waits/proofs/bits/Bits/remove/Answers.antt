@@ -1,6 +1,6 @@
 use Rattle.std.proofs.Common.{◌≡◌, ◌∙◌, ◌*◌, ◌<◌, List, ℕ, ap, arith, length, slice_index_or}
 use Rattle.std.proofs.lemmas.List.{get_or_default}
-use Rattle.lt_waits.specs.Bits.{has_bit}
+use Rattle.lt_waits.specs.Bits.{row_has}
 use Rattle.lt_waits.proofs.BitLemmas.{bit_cleared}
 use Rattle.lt_waits.proofs.bits.Bits.remove.Goals as goal
 
@@ -18,4 +18,4 @@ returns-clause-others c = λ i apart.
     let few : c.args.client < 64 * length words = omega (arith, c.requires, ap length c.self.view_is) in
     let is_read : c.index_mut.result.now ≡ slice_index_or words c.from.result 0 =
     c.index_mut.ensures.value ∙ get_or_default words c.from.result c.index_mut.result.now 0 (omega (arith, few, c.from.ensures)) in
-    rw (is_read) ((bit_cleared words c.args.client c.from.result c.from.ensures few).1 i apart ∙ ap (λ (bits : List ℕ). has_bit bits i) c.self.view_is)
+    rw (is_read) ((bit_cleared words c.args.client c.from.result c.from.ensures few).1 i apart ∙ ap (λ (bits : List ℕ). row_has bits i) c.self.view_is)
