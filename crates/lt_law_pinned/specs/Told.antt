@@ -218,7 +218,8 @@ pub record CheckTold : Type 0 where
 
 -- the text of the script that is made from the seed 233
 pub record MakeTold : Type 0 where
-  pub text : (run : List Logged) (old new : List ℕ) → Did 1073741824 (Some (Make 1 2 3 20 233)) Done None run (Some old) (Some new)
+  pub text : (run : List Logged) (old new : List ℕ)
+      → Did 1073741824 (Some (Make 1 2 3 20 233)) Done None run (Some old) (Some new)
       → new ≡ old ++ made_text
   pub no_run : (run : List Logged) → SaysOf 1073741824 (Make 1 2 3 20 233) Done None run → run ≡ []
 
