@@ -1,5 +1,5 @@
 -- The sessions of one node's clients, as they are opened and as they are served.
-use Rattle.std.proofs.Common.{◌≡◌, ◌≢◌, ◌<◌, ◌≤◌, ◌+◌, ◌⊎◌, ℕ, List, [], ◌∷◌, ◌++◌, length, Some, inl, inr, refl, sym, ap, subst, ◌∙◌, arith, filter_map, slice_get, slice_set, slice_index_or}
+use Rattle.std.proofs.Common.{◌≡◌, ◌≢◌, ◌<◌, ◌+◌, ◌⊎◌, ℕ, List, [], ◌∷◌, ◌++◌, length, Some, inl, inr, refl, sym, ap, subst, ◌∙◌, arith, filter_map, slice_get, slice_set, slice_index_or}
 use Rattle.std.proofs.lemmas.Bool.{cases_eq}
 use Rattle.std.proofs.lemmas.Option.{same_Some, slice_get-get_or, slice_get_within}
 use Rattle.rtrb.specs.Ring.{producer_capacity}
@@ -10,14 +10,13 @@ use Rattle.lt_spec.specs.World.{Logged}
 use Rattle.lt_runner.specs.declared.parts.Parts.{Parts}
 use Rattle.lt_live.specs.declared.ends.Seat.{Seat}
 use Rattle.lt_live.specs.declared.ends.Session.{Session}
-use Rattle.lt_live.specs.Words.{known_commands, outbox_replies, AreTwoEnds, SameSession}
+use Rattle.lt_live.specs.Words.{known_commands, outbox_replies, AreTwoEnds}
 use Rattle.lt_live.specs.Seats.{IsSeat}
 use Rattle.lt_live.specs.Stations.{IsSeatOf, StationData, AreOthers, IsNewSession, IsSeated, StaySeated, SeatLooks}
-use Rattle.lt_live.specs.Live.{EachSession, SaysSame, ServedBy}
-use Rattle.lt_live.specs.OneNode.{AreSeated, AreServedBy, IsUnused, IsNewHere, HasSessionOf, OpensHere, SettlesHere, SettlingHere}
-use Rattle.lt_live.proofs.SeatLists.{pushed, last_here, stays_here, none_here, alike_self, alike_set, alike_join, alike_len, set_here, set_other}
+use Rattle.lt_live.specs.Live.{SaysSame, ServedBy}
+use Rattle.lt_live.specs.OneNode.{AreSeated, IsUnused, IsNewHere, HasSessionOf, OpensHere, SettlesHere, SettlingHere}
+use Rattle.lt_live.proofs.SeatLists.{pushed, last_here, stays_here, none_here, alike_self, alike_set, alike_join, set_here, set_other}
 use Rattle.lt_live.proofs.Settling.{says_itself, says_join, says_looked}
-use Rattle.lt_live.proofs.Telling.{session_stays}
 
 -- no client yet
 pub none_opened : (script : ScriptData) (capacity share : ℕ) (station : StationData) → station.seats ≡ [] → OpensHere script capacity share 0 station []

@@ -1,5 +1,5 @@
 -- The session of a client of the station's node.
-use Rattle.std.proofs.Common.{◌≡◌, ◌+◌, List, ◌∷◌, ◌++◌, [], subst, sym, rules}
+use Rattle.std.proofs.Common.{◌≡◌, ◌+◌, List, subst, sym, rules}
 use Rattle.lt_spec.specs.NodeMove.{home}
 use Rattle.lt_live.specs.declared.ends.Session.{Session}
 use Rattle.lt_live.specs.OneNode.{OpensHere}
