@@ -1,10 +1,11 @@
 -- Letters that go out.
-use Rattle.std.proofs.Common.{◌≡◌, ◌≢◌, ◌<◌, ◌≤◌, ◌+◌, ◌==◌, ◌⊎◌, ℕ, List, [], ◌∷◌, ◌++◌, Option, Some, None, Bool, true, false, if◌then◌else◌, length, refl, sym, ap, subst, ◌∙◌, arith, inl, inr, slice_get, slice_set, slice_index_or, MatchBool, length-append, append-nil, append_assoc, eq-eqb, ne_eqb}
+use Rattle.std.proofs.Common.{◌≡◌, ◌≢◌, ◌<◌, ◌≤◌, ◌+◌, ◌==◌, ◌⊎◌, ℕ, List, [], ◌∷◌, ◌++◌, Option, Some, None, Result, Err, Bool, true, false, if◌then◌else◌, length, refl, sym, ap, subst, ◌∙◌, arith, inl, inr, slice_get, slice_set, slice_index_or, MatchBool, length-append, append-nil, append_assoc, eq-eqb, ne_eqb}
 use mathlib.Core.List.{IsPrefix}
 use Rattle.lt_modes.specs.State.{Letter}
 use Rattle.lt_modes.specs.Script.{ScriptData}
 use Rattle.lt_letters.specs.Spelling.{letter_bytes}
 use Rattle.lt_frames.specs.declared.frame.TheConstants.{MAX_LETTER}
+use Rattle.lt_frames.specs.declared.fault.WriteError.{WriteError}
 use Rattle.lt_frames.specs.declared.frame.Wire.{Wire}
 use Rattle.lt_frames.specs.Frames.{frame_bytes}
 use Rattle.lt_frames.specs.Seen.{frame_of}
@@ -18,7 +19,7 @@ use Rattle.lt_threads.proofs.Each.{seen_self}
 use Rattle.lt_live.specs.declared.ends.Seat.{Seat}
 use Rattle.lt_live.specs.Stations.{StationData}
 use Rattle.lt_apart.specs.Remote.{AreCounts, HasFarEnds}
-use Rattle.lt_apart.specs.Carrying.{frames, GivesOut, OnlyGives, HasGivenAll, HaveNoNumber, NextIsTooLong}
+use Rattle.lt_apart.specs.Carrying.{frames, gave, GivesOut, OnlyGives, HasGivenAll, HaveNoNumber, NextIsTooLong}
 use Rattle.lt_apart.proofs.BroughtIn.{count_at}
 use Rattle.lt_apart.proofs.Frames.{gives_one}
 use Rattle.lt_apart.proofs.FarEnds.{counts_more, counts_stay, far_ends_last, far_ends_stay}
@@ -170,3 +171,11 @@ pending_is to p f true whole moves some =
       length-append (taken_from f to) (known_from f to),
     )
 pending_is to p f false whole moves none = all_given to p f whole moves none
+
+-- an answer that says that one went out
+pub gave_is : (key : List ℕ) (wire : Wire) (answer : Bool) (before after : List Letter) (out out_now : List ℕ) → answer ≡ true
+    → GivesOut key wire (gave answer) before after out out_now → GivesOut key wire 1 before after out out_now
+gave_is key wire answer before after out out_now is h = subst (λ (b : Bool). GivesOut key wire (gave b) before after out out_now) is h
+
+pub same_error : (a b : WriteError) → ◌≡◌ {A = Result Bool WriteError} (Err a) (Err b) → a ≡ b
+same_error a b e = cc

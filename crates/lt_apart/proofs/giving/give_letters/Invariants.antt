@@ -1,5 +1,5 @@
 -- So many letters went out.
-use Rattle.std.specs.Prelude.{◌≤◌}
+use Rattle.std.specs.Prelude.{◌≤◌, ◌-◌}
 use Rattle.lt_mail.specs.Words.{taken_from}
 use Rattle.lt_apart.specs.Remote.{HasFarEnds}
 use Rattle.lt_apart.specs.Carrying.{GivesOut, OnlyGives}
@@ -12,3 +12,6 @@ invariant-loop-count l = record {
   most : l.count ≤ l.most;
   only : OnlyGives l.wire.to l.initial.station l.station l.initial.ends.far l.ends.far;
 }
+
+abbrev pub decreases-loop-count : goal.decreases-loop-count
+decreases-loop-count l = l.most - l.count

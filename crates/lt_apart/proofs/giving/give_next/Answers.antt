@@ -1,10 +1,12 @@
 -- The next letter went out, or why none did.
-use Rattle.std.proofs.Common.{◌≡◌, ◌<◌, ◌+◌, ℕ, inr, length, subst, sym, ap, arith, rules, slice_set}
+use Rattle.std.proofs.Common.{◌≡◌, ◌<◌, ◌+◌, ℕ, Err, inr, length, subst, sym, ap, arith, rules, slice_set}
 use Rattle.lt_modes.specs.Script.{ScriptData}
 use Rattle.lt_desk.specs.LetterSeen.{letter_seen}
+use Rattle.lt_frames.specs.declared.fault.WriteError.{WriteError}
+use Rattle.lt_frames.specs.declared.fault.WriteError.TheVariants as errors
 use Rattle.lt_mail.specs.Words.{taken_from, known_from}
 use Rattle.lt_apart.specs.Remote.{HasFarEnds}
-use Rattle.lt_apart.proofs.GivenOut.{met_far, taken_far, next_number, no_number, too_long, first_is, gave_one}
+use Rattle.lt_apart.proofs.GivenOut.{met_far, taken_far, next_number, no_number, too_long, same_error, first_is, gave_one}
 use Rattle.lt_apart.proofs.giving.give_next.Goals as goal
 
 pub returns-then-number-clause-far : goal.returns-then-number-clause-far
@@ -31,16 +33,17 @@ returns-in-None-clause-far c =
     c.args.ends.now.given.items c.args.ends.now.brought.items c.requires.far c.meet_taker.ensures.looks c.meet_taker.ensures.far_ends
     c.meet_taker.ensures.far_outs c.meet_taker.ensures.far_taken
 
-pub returns-in-Some-Err-clause-far : goal.returns-in-Some-Err-clause-far
-returns-in-Some-Err-clause-far c =
+pub returns-in-Err-clause-far : goal.returns-in-Err-clause-far
+returns-in-Err-clause-far c =
     met_far c.args.wire.to c.args.station.now.runner c.meet_taker.new.self.runner c.args.ends.now.far c.meet_taker.new.far
     c.args.ends.now.given.items c.args.ends.now.brought.items c.requires.far c.meet_taker.ensures.looks c.meet_taker.ensures.far_ends
     c.meet_taker.ensures.far_outs c.meet_taker.ensures.far_taken
 
-pub returns-in-Some-Err-clause-long : goal.returns-in-Some-Err-clause-long
-returns-in-Some-Err-clause-long c = λ e.
+pub returns-in-Err-clause-long : goal.returns-in-Err-clause-long
+returns-in-Err-clause-long c = λ e.
+    let same : c.in-Err.error ≡ errors.TooLong = same_error c.in-Err.error errors.TooLong e in
     too_long c.args.wire.to c.meet_taker.new.self.runner c.meet_taker.new.far (letter_seen c.in-Some.letter.now) c.meet_taker.ensures.whole
-    c.in-Some.ensures.some (c.in-Err.ensures.long e)
+    c.in-Some.ensures.some (c.in-Err.ensures.long (ap (λ (x : WriteError). Err x) same))
 
 pub returns-clause-far : goal.returns-clause-far
 returns-clause-far c =
