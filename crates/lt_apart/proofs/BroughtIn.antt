@@ -1,5 +1,5 @@
 -- Letters that come in.
-use Rattle.std.proofs.Common.{◌≡◌, ◌≢◌, ◌<◌, ◌≤◌, ◌+◌, ◌⊎◌, ℕ, List, [], ◌∷◌, ◌++◌, Option, Some, None, IfSome, Ok, Bool, if◌then◌else◌, nat_lt, length, take, drop, refl, sym, ap, subst, ◌∙◌, arith, inl, inr, slice_get, slice_set, slice_index_or, append-nil, eq-eqb, ne_eqb, length-append}
+use Rattle.std.proofs.Common.{◌≡◌, ◌≢◌, ◌<◌, ◌+◌, ◌⊎◌, ℕ, List, [], ◌∷◌, ◌++◌, Option, Some, None, IfSome, Ok, Bool, if◌then◌else◌, nat_lt, length, take, refl, sym, ap, subst, ◌∙◌, arith, inl, inr, slice_set, slice_index_or, append-nil, eq-eqb, ne_eqb, length-append}
 use Rattle.std.proofs.lemmas.Bool.{cases_lt, lt-ltb, le-ltb}
 use Rattle.std.proofs.lemmas.List.{take_at}
 use Rattle.std.proofs.lemmas.Option.{slice_get-get_or}
@@ -15,14 +15,14 @@ use Rattle.lt_frames.specs.declared.fault.FrameFault.TheVariants as causes
 use Rattle.lt_frames.specs.declared.frame.Frame.{Frame}
 use Rattle.lt_frames.specs.Causes.{IsFrameCause}
 use Rattle.lt_frames.specs.declared.frame.Wire.{Wire}
-use Rattle.lt_frames.specs.Frames.{Numbered, frame_bytes}
+use Rattle.lt_frames.specs.Frames.{frame_bytes}
 use Rattle.lt_frames.specs.Seen.{IsFrameAt, frame_seen, on_wire}
 use Rattle.lt_frames.proofs.Parts.{frame_size}
 use Rattle.lt_apart.specs.Remote.{AreCounts, HasFarEnds}
 use Rattle.lt_apart.specs.declared.fault.WireFault.{WireFault}
 use Rattle.lt_apart.specs.declared.fault.WireFault.TheVariants.{Memory, Again, Missing}
 use Rattle.lt_apart.specs.Faults.{wire_fault, IsWireCause, number_fault}
-use Rattle.lt_apart.specs.Carrying.{frames, BringsIn, BringsNext, OnlyBrings}
+use Rattle.lt_apart.specs.Carrying.{BringsIn, BringsNext, OnlyBrings}
 use Rattle.lt_apart.proofs.FarEnds.{counts_more, counts_stay, far_ends_last}
 use Rattle.lt_runner.specs.declared.parts.Parts.{Parts}
 
@@ -131,10 +131,10 @@ pub number_is : (number next : ℕ) → number_fault number next ≡ None → nu
 number_is number next none = elim (cases_lt number next) [
   | inl less ↦ absurd (some_is_none (subst (λ (t : Bool). (if t then Some Again else if nat_lt next number then Some Missing else None) ≡ None) (lt-ltb number next less) none))
   | inr past ↦ elim (cases_lt next number) [
-      | inl more ↦ absurd (some_is_none (subst (λ (t : Bool). (if t then Some Missing else None) ≡ None) (lt-ltb next number more)
-          (subst (λ (t : Bool). (if t then Some Again else if nat_lt next number then Some Missing else None) ≡ None) (le-ltb number next past) none)))
-      | inr least ↦ omega (arith, past, least)
-    ]
+    | inl more ↦ absurd (some_is_none (subst (λ (t : Bool). (if t then Some Missing else None) ≡ None) (lt-ltb next number more)
+        (subst (λ (t : Bool). (if t then Some Again else if nat_lt next number then Some Missing else None) ≡ None) (le-ltb number next past) none)))
+    | inr least ↦ omega (arith, past, least)
+  ]
 ]
   where
     some_is_none : {fault : WireFault} → Some fault ≡ None → ⊥

@@ -1,13 +1,13 @@
 -- The far ends of a node's rings, and how many letters went through them.
 use Rattle.std.proofs.Common.{◌≡◌, ◌≢◌, ◌<◌, ◌+◌, ℕ, List, [], ◌∷◌, ◌++◌, Option, Some, None, length, refl, sym, ap, subst, ◌∙◌, arith, inl, inr, slice_get, slice_set, length-append, length-set}
 use Rattle.std.proofs.lemmas.Bool.{cases_eq}
-use Rattle.std.proofs.lemmas.Option.{same_Some, slice_get_within}
+use Rattle.std.proofs.lemmas.Option.{same_Some}
 use Rattle.lt_modes.specs.State.{Letter}
 use Rattle.lt_modes.specs.Script.{ScriptData}
 use Rattle.lt_mail.specs.declared.mail.Mail.{Mail}
 use Rattle.lt_mail.specs.declared.lane.InLane.{InLane}
 use Rattle.lt_mail.specs.Star.{AreFarEnds, IsStar}
-use Rattle.lt_mail.specs.Words.{OutLane, out_at, in_at, outs_count, ins_count, sent_to, taken_from, Both, Alike, SameOut, SameIn, SameEnds, IsOpenLink}
+use Rattle.lt_mail.specs.Words.{OutLane, out_at, in_at, outs_count, sent_to, taken_from, Both, Alike, SameOut, SameIn, SameEnds, IsOpenLink}
 use Rattle.lt_runner.specs.declared.parts.Parts.{Parts}
 use Rattle.lt_live.specs.Live.{GoesOn}
 use Rattle.lt_live.proofs.SeatLists.{set_here, set_other, pushed, none_here}

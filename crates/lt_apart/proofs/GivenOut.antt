@@ -1,5 +1,5 @@
 -- Letters that go out.
-use Rattle.std.proofs.Common.{◌≡◌, ◌≢◌, ◌<◌, ◌≤◌, ◌+◌, ◌==◌, ◌⊎◌, ℕ, List, [], ◌∷◌, ◌++◌, Option, Some, None, Result, Err, Bool, true, false, if◌then◌else◌, length, refl, sym, ap, subst, ◌∙◌, arith, inl, inr, slice_get, slice_set, slice_index_or, MatchBool, length-append, append-nil, append_assoc, eq-eqb, ne_eqb}
+use Rattle.std.proofs.Common.{◌≡◌, ◌≢◌, ◌<◌, ◌+◌, ℕ, List, [], ◌∷◌, ◌++◌, Result, Err, Bool, true, false, length, refl, sym, ap, subst, ◌∙◌, arith, slice_set, slice_index_or, MatchBool, length-append, append-nil, append_assoc, eq-eqb, ne_eqb}
 use mathlib.Core.List.{IsPrefix}
 use Rattle.lt_modes.specs.State.{Letter}
 use Rattle.lt_modes.specs.Script.{ScriptData}
@@ -10,16 +10,15 @@ use Rattle.lt_frames.specs.declared.frame.Wire.{Wire}
 use Rattle.lt_frames.specs.Frames.{frame_bytes}
 use Rattle.lt_frames.specs.Seen.{frame_of}
 use Rattle.lt_mail.specs.declared.mail.Mail.{Mail}
-use Rattle.lt_mail.specs.Words.{sent_by, on_out, out_at, sent_to, given_to, waiting_to, taken_from, known_from, if_from, if_to, SameEnds}
+use Rattle.lt_mail.specs.Words.{sent_by, on_out, out_at, sent_to, given_to, waiting_to, taken_from, known_from, if_from, SameEnds}
 use Rattle.lt_mail.proofs.LookLemmas.{ends_same}
 use Rattle.lt_runner.specs.declared.parts.Parts.{Parts}
-use Rattle.lt_runner.specs.Kept.{AsSeen, LooksTo}
+use Rattle.lt_runner.specs.Kept.{LooksTo}
 use Rattle.lt_runner.proofs.KeptLemmas.{seen_join}
 use Rattle.lt_threads.proofs.Each.{seen_self}
-use Rattle.lt_live.specs.declared.ends.Seat.{Seat}
 use Rattle.lt_live.specs.Stations.{StationData}
 use Rattle.lt_apart.specs.Remote.{AreCounts, HasFarEnds}
-use Rattle.lt_apart.specs.Carrying.{frames, gave, GivesOut, OnlyGives, HasGivenAll, HaveNoNumber, NextIsTooLong}
+use Rattle.lt_apart.specs.Carrying.{frames, gave, GivesOut, OnlyGives, HaveNoNumber, NextIsTooLong}
 use Rattle.lt_apart.proofs.BroughtIn.{count_at}
 use Rattle.lt_apart.proofs.Frames.{gives_one}
 use Rattle.lt_apart.proofs.FarEnds.{counts_more, counts_stay, far_ends_last, far_ends_stay}

@@ -1,16 +1,14 @@
 -- A node that looks at all its rings from both ends.
-use Rattle.std.proofs.Common.{◌≡◌, ◌≢◌, ◌<◌, ◌≤◌, ◌+◌, ℕ, List, ◌++◌, refl, sym, ap, subst, ◌∙◌, arith, inl, inr}
+use Rattle.std.proofs.Common.{◌≡◌, ◌≢◌, ◌<◌, ◌+◌, ℕ, List, ◌++◌, refl, sym, ap, subst, ◌∙◌, arith, inl, inr}
 use Rattle.std.proofs.lemmas.Bool.{cases_eq}
 use Rattle.lt_modes.specs.State.{Letter}
 use Rattle.lt_mail.specs.declared.mail.Mail.{Mail}
 use Rattle.lt_mail.specs.Star.{AreFarEnds}
 use Rattle.lt_mail.specs.Words.{ring_given, sent_by, taken, known, out_at, in_at, on_out, on_in, sent_to, given_to, taken_from, known_from, outs_count, SameEnds, AreLinkedAt}
 use Rattle.lt_mail.proofs.LookLemmas.{ends_same, ends_join}
-use Rattle.lt_runner.specs.declared.parts.Parts.{Parts}
-use Rattle.lt_runner.specs.Kept.{AsSeen, LooksTo, LooksFrom}
+use Rattle.lt_runner.specs.Kept.{LooksTo, LooksFrom}
 use Rattle.lt_runner.proofs.KeptLemmas.{seen_join}
 use Rattle.lt_threads.proofs.Each.{seen_self}
-use Rattle.lt_live.specs.declared.ends.Seat.{Seat}
 use Rattle.lt_live.specs.Stations.{StationData}
 use Rattle.lt_apart.specs.Telling.{OnlyLooks, KnowsRings, LooksAtOne, HasLooked}
 use Rattle.lt_apart.proofs.FarEnds.{far_ends_last}

@@ -1,5 +1,5 @@
 -- What a runner whose rings were looked at says of its node.
-use Rattle.std.proofs.Common.{◌≡◌, ◌≢◌, ◌<◌, ◌≤◌, ℕ, List, [], ◌++◌, Option, Some, None, refl, sym, ap, subst, ◌∙◌, append_assoc, arith, inl, inr, slice_get}
+use Rattle.std.proofs.Common.{◌≡◌, ◌<◌, ◌≤◌, ℕ, List, [], ◌++◌, Option, Some, None, refl, sym, ap, subst, ◌∙◌, append_assoc, arith, inl, inr}
 use Rattle.std.proofs.Math.Path.{fun_ext}
 use Rattle.std.proofs.lemmas.Bool.{cases_lt}
 use Rattle.std.proofs.lemmas.List.{map-append}
@@ -16,7 +16,7 @@ use Rattle.lt_node.specs.NodeData.{state_of}
 use Rattle.lt_mail.specs.declared.lane.OutEnd.{OutEnd}
 use Rattle.lt_mail.specs.declared.lane.InLane.{InLane}
 use Rattle.lt_mail.specs.declared.mail.Mail.{Mail}
-use Rattle.lt_mail.specs.Words.{OutLane, ring_given, outbox_letters, sent_by, taken, known, letters_to, lane_of, on_out, on_in, out_at, in_at, end_at, outs_count, ins_count, sent_to, given_to, waiting_to, taken_from, known_from}
+use Rattle.lt_mail.specs.Words.{OutLane, ring_given, outbox_letters, sent_by, taken, known, letters_to, lane_of, on_out, on_in, out_at, outs_count, ins_count, sent_to, given_to, waiting_to, taken_from, known_from}
 use Rattle.lt_runner.specs.declared.parts.Parts.{Parts}
 use Rattle.lt_runner.specs.Kept.{in_hand, RunnerInvariant}
 use Rattle.lt_threads.specs.Meeting.{part_of, used_of}

@@ -1,12 +1,10 @@
 -- Letters that go out and come in as bytes.
-use Rattle.std.specs.Prelude.{◌≡◌, ◌≢◌, ◌<◌, ◌≤◌, ◌+◌, ◌^◌, ◌⊎◌, ℕ, Bool, true, false, List, ◌∷◌, [], ◌++◌, Result, Ok, Err, Option, Some, None, length, take, drop}
+use Rattle.std.specs.Prelude.{◌≡◌, ◌≢◌, ◌<◌, ◌≤◌, ◌+◌, ◌^◌, ◌⊎◌, ℕ, Bool, true, false, List, ◌∷◌, ◌++◌, Result, Ok, Err, Option, Some, None, length, take, drop}
 use Rattle.std.specs.List.{flat_map}
 use Rattle.lt_modes.specs.State.{Letter}
 use Rattle.lt_letters.specs.Spelling.{letter_bytes}
 use Rattle.lt_mail.specs.declared.mail.Mail.{Mail}
 use Rattle.lt_mail.specs.Words.{sent_to, taken_from, IsFullTo}
-use Rattle.lt_frames.specs.declared.fault.WriteError.{WriteError}
-use Rattle.lt_frames.specs.declared.fault.WriteError.TheVariants as writing
 use Rattle.lt_frames.specs.declared.frame.TheConstants.{MAX_LETTER}
 use Rattle.lt_frames.specs.declared.frame.Wire.{Wire}
 use Rattle.lt_frames.specs.Causes.{IsUnfinished}

@@ -1,5 +1,5 @@
 -- A node in a process of its own.
-use Rattle.std.specs.Prelude.{◌≡◌, ◌<◌, ℕ, List, [], Some, length, slice_get}
+use Rattle.std.specs.Prelude.{◌≡◌, ℕ, List, [], Some, length, slice_get}
 use Rattle.lt_modes.specs.Script.{ScriptData}
 use Rattle.lt_journal.specs.RunLines.{text_of}
 use Rattle.lt_modes.specs.State.{Letter}
@@ -8,12 +8,11 @@ use Rattle.lt_script.specs.Printing.{print_of}
 use Rattle.lt_mail.specs.Star.{AreFarEnds}
 use Rattle.lt_mail.specs.Words.{outs_count, ins_count, sent_to, taken_from}
 use Rattle.lt_runner.specs.declared.parts.Parts.{Parts}
-use Rattle.lt_runner.specs.Kept.{AsSeen, RunnerInvariant}
+use Rattle.lt_runner.specs.Kept.{AsSeen}
 use Rattle.lt_threads.specs.Meeting.{part_of}
 use Rattle.lt_live.specs.declared.ends.Session.{Session}
-use Rattle.lt_live.specs.Live.{GoesOn}
 use Rattle.lt_live.specs.OneNode.{IsOpenNode}
-use Rattle.lt_live.specs.Stations.{StationData, StaySeated}
+use Rattle.lt_live.specs.Stations.{StationData}
 use Rattle.lt_law_apart.specs.Apart.{NodeNow}
 use Rattle.lt_apart.specs.declared.journal.NodeJournal.{NodeJournal}
 

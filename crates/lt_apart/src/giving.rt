@@ -30,7 +30,14 @@ impl Remote {
             from: self.station.node(),
             to,
         };
-        give_letters(&mut self.station, &mut self.ends, &self.key, wire, most, out)
+        give_letters(
+            &mut self.station,
+            &mut self.ends,
+            &self.key,
+            wire,
+            most,
+            out,
+        )
     }
 
     /// Whether a letter for a node waits to be given out.

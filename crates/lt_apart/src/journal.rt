@@ -33,11 +33,7 @@ impl Remote {
     }
 
     // The texts, by a script that is the node's own.
-    fn write_moves(
-        self,
-        alloc: Global,
-        script: &Script,
-    ) -> Result<Option<NodeJournal>, AllocError>
+    fn write_moves(self, alloc: Global, script: &Script) -> Result<Option<NodeJournal>, AllocError>
         requires script { script.now ≡ self.station.runner.node.script }
         requires whole { self.station.runner.log.gone ≡ 0 }
         ensures written { IfOk result (λ made. IfSome made (λ journal. IsJournalOf self journal)) }

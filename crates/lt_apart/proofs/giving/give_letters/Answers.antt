@@ -1,5 +1,5 @@
 -- One letter more went out.
-use Rattle.std.proofs.Common.{◌≡◌, Bool, true, arith, rules}
+use Rattle.std.proofs.Common.{◌≡◌, true, arith, rules}
 use Rattle.lt_mail.specs.Words.{taken_from}
 use Rattle.lt_apart.proofs.Frames.{gives_more}
 use Rattle.lt_apart.proofs.GivenOut.{gave_is, only_join}
