@@ -22,7 +22,7 @@ use Rattle.lt_runner.specs.Kept.{in_hand, RunnerInvariant}
 use Rattle.lt_threads.specs.Meeting.{part_of, used_of}
 use Rattle.lt_threads.proofs.Joined.{used_is}
 use Rattle.lt_law_apart.specs.Apart.{NodeNow, IsNodeNow}
-use Rattle.lt_live.specs.OneNode.{IsOfScript}
+use Rattle.lt_live.specs.OneNode.{IsNodeOfScript}
 use Rattle.lt_live.specs.Served.{HasKeptRunner}
 use Rattle.lt_live.specs.Stations.{StationData, IsStation}
 use Rattle.lt_apart.specs.Remote.{HasFarEnds}
@@ -76,7 +76,7 @@ now_by p far = record {
 }
 
 -- so the node is one of those whose letters are carried
-pub node_is_now : (first : ScriptData) (x n : ℕ) (s : StationData) (far : Mail) → IsScript s.runner.node.script → IsOfScript first x s.runner
+pub node_is_now : (first : ScriptData) (x n : ℕ) (s : StationData) (far : Mail) → IsScript s.runner.node.script → IsNodeOfScript first x s.runner
     → AreAt s.runner.node.script s.runner.node.me s.runner.node.script.commands → RunnerInvariant s.runner → AllLooked n s far
     → IsNodeNow first x (now_by s.runner far)
 node_is_now first x n s far is_script of own kept looked = record {
@@ -122,7 +122,7 @@ node_is_now first x n s far is_script of own kept looked = record {
 
 -- a node that looked at all its rings
 pub told_now : (first : ScriptData) (x : ℕ) (a b : StationData) (far far_now : Mail) (given brought : List ℕ) → HasFarEnds b.runner far_now given brought
-    → HasLooked a.runner.node.script.nodes a b far far_now → IsStation b.runner b.seats → HasKeptRunner b → IsOfScript first x a.runner
+    → HasLooked a.runner.node.script.nodes a b far far_now → IsStation b.runner b.seats → HasKeptRunner b → IsNodeOfScript first x a.runner
     → IsNodeNow first x (now_by b.runner far_now)
 told_now first x a b far far_now given brought h looked station kept of =
     node_is_now first x b.runner.node.script.nodes b far_now kept.is_script (script_lasts first x a.runner b.runner of (seen_goes a.runner b.runner looked.only.runner)) station.own kept.kept (record {

@@ -9,7 +9,7 @@ use Rattle.lt_runner.specs.declared.parts.Parts.{Parts}
 use Rattle.lt_runner.specs.Kept.{AsSeen}
 use Rattle.lt_live.specs.declared.ends.Session.{Session}
 use Rattle.lt_live.specs.Live.{GoesOn, ServedBy}
-use Rattle.lt_live.specs.OneNode.{IsOfScript}
+use Rattle.lt_live.specs.OneNode.{IsNodeOfScript}
 use Rattle.lt_live.specs.Seats.{IsServedSession}
 use Rattle.lt_live.specs.Stations.{StationData}
 use Rattle.lt_law_apart.specs.Apart.{IsNodeNow}
@@ -17,7 +17,7 @@ use Rattle.lt_apart.specs.Remote.{RemoteData, IsOpenRemote, me, now_of}
 
 -- where its station was opened for a script, it is one of the nodes of that script whose letters are carried
 abbrev pub IsTold : RemoteData → RemoteData → Type 0
-IsTold a b = (script : ScriptData) → IsOfScript script (me a) a.station.runner → IsNodeNow script (me a) (now_of b)
+IsTold a b = (script : ScriptData) → IsNodeOfScript script (me a) a.station.runner → IsNodeNow script (me a) (now_of b)
 
 -- What looking at rings does.
 
@@ -51,15 +51,15 @@ pub record HasLooked (n : ℕ) (a b : StationData) (far far_now : Mail) : Type 0
 -- one that is opened is
 abbrev pub OpenedIsOfScript : Type 0
 OpenedIsOfScript = (script : ScriptData) (node service : ℕ) (key : List ℕ) (limit places share : ℕ) (r : RemoteData) (sessions : List Session)
-    → IsOpenRemote script node service key limit places share r sessions → IsOfScript script node r.station.runner
+    → IsOpenRemote script node service key limit places share r sessions → IsNodeOfScript script node r.station.runner
 
 -- and stays so, whatever it does
 abbrev pub ScriptLasts : Type 0
-ScriptLasts = (script : ScriptData) (node : ℕ) (p q : Parts) → IsOfScript script node p → GoesOn p q → IsOfScript script node q
+ScriptLasts = (script : ScriptData) (node : ℕ) (p q : Parts) → IsNodeOfScript script node p → GoesOn p q → IsNodeOfScript script node q
 
 -- That what it says of a session is what is asked of the sessions of all nodes, as a law.
 
 abbrev pub ToldIsServed : Type 0
-ToldIsServed = (script : ScriptData) (r : RemoteData) (s : Session) → IsOfScript script (me r) r.station.runner
+ToldIsServed = (script : ScriptData) (r : RemoteData) (s : Session) → IsNodeOfScript script (me r) r.station.runner
     → ServedBy r.station.runner s.client s
     → IsServedSession (commands_of (with_commands script (now_of r).commands) s.client) (lines_of (now_of r).part.log) s.client s

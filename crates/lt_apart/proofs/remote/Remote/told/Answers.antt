@@ -2,7 +2,7 @@
 use Rattle.std.proofs.Common.{List, sym, subst}
 use Rattle.lt_runner.specs.declared.parts.Parts.{Parts}
 use Rattle.lt_live.specs.declared.ends.Seat.{Seat}
-use Rattle.lt_live.specs.OneNode.{IsOfScript}
+use Rattle.lt_live.specs.OneNode.{IsNodeOfScript}
 use Rattle.lt_live.specs.Stations.{StaySeated}
 use Rattle.lt_apart.specs.Remote.{RemoteData, HasFarEnds, me}
 use Rattle.lt_apart.proofs.FarEnds.{far_ends_looked}
@@ -24,8 +24,8 @@ returns-clause-now c = λ script of.
     (sym c.settle.ensures.runner) c.self.invariant) c.look_at_rings.ensures.only in
     told_now script (me c.args.self.now) c.settle.new.station c.look_at_rings.new.station c.self.inside.ends.far c.look_at_rings.new.far
     c.self.inside.ends.given.items c.self.inside.ends.brought.items far c.look_at_rings.ensures c.kept.ensures c.runner_kept.ensures
-    (subst (λ (p : Parts). IsOfScript script (me c.args.self.now) p) (sym c.settle.ensures.runner)
-    (subst (λ (r : RemoteData). IsOfScript script (me c.args.self.now) r.station.runner) (sym c.self.view_is) of))
+    (subst (λ (p : Parts). IsNodeOfScript script (me c.args.self.now) p) (sym c.settle.ensures.runner)
+    (subst (λ (r : RemoteData). IsNodeOfScript script (me c.args.self.now) r.station.runner) (sym c.self.view_is) of))
 
 pub returns-clause-stay : goal.returns-clause-stay
 returns-clause-stay c =
