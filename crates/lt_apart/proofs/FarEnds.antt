@@ -13,7 +13,7 @@ use Rattle.lt_live.specs.Live.{GoesOn}
 use Rattle.lt_live.proofs.SeatLists.{set_here, set_other, pushed, none_here}
 use Rattle.lt_live.specs.Stations.{StationData}
 use Rattle.lt_apart.specs.Remote.{AreCounts, HasFarEnds}
-use Rattle.lt_apart.specs.Telling.{OnlyLooks}
+use Rattle.lt_apart.specs.Telling.{OnlyRingsLooked}
 
 linked : (o : Option OutLane) (i : Option InLane) (p : Option OutLane) (j : Option InLane) → Alike SameOut o p → Alike SameIn i j
     → Both IsOpenLink o i → Both IsOpenLink p j
@@ -84,7 +84,7 @@ far_ends_go_on p q far later given brought h goes away taken sent =
     far_ends_stay p q far later given brought h (ap (λ (s : ScriptData). s.nodes) goes.script) goes.ends away taken sent
 
 -- it looked at its rings
-pub far_ends_looked : (a b : StationData) (far later : Mail) (given brought : List ℕ) → HasFarEnds a.runner far given brought → OnlyLooks a b far later
+pub far_ends_looked : (a b : StationData) (far later : Mail) (given brought : List ℕ) → HasFarEnds a.runner far given brought → OnlyRingsLooked a b far later
     → HasFarEnds b.runner later given brought
 far_ends_looked a b far later given brought h looks =
     far_ends_stay a.runner b.runner far later given brought h (ap (λ (s : ScriptData). s.nodes) looks.runner.same.script) looks.runner.same.ends looks.ends

@@ -10,7 +10,7 @@ use Rattle.lt_runner.specs.Kept.{LooksTo, LooksFrom}
 use Rattle.lt_runner.proofs.KeptLemmas.{seen_join}
 use Rattle.lt_threads.proofs.Each.{seen_self}
 use Rattle.lt_live.specs.Stations.{StationData}
-use Rattle.lt_apart.specs.Telling.{OnlyLooks, KnowsRings, LooksAtOne, HasLooked}
+use Rattle.lt_apart.specs.Telling.{OnlyRingsLooked, KnowsRings, LooksAtOne, HaveEndsLooked}
 use Rattle.lt_apart.proofs.FarEnds.{far_ends_last}
 
 -- what looking at the ring to one node did, and at that from it
@@ -67,7 +67,7 @@ looks_at_one n a b c f g h to from = record {
 }
 
 -- one node more
-pub looked_next : (n : ℕ) (a b c : StationData) (far f g : Mail) → HasLooked n a b far f → LooksAtOne n b c f g → HasLooked (n + 1) a c far g
+pub looked_next : (n : ℕ) (a b c : StationData) (far f g : Mail) → HaveEndsLooked n a b far f → LooksAtOne n b c f g → HaveEndsLooked (n + 1) a c far g
 looked_next n a b c far f g before at = record {
   only = record {
     runner = seen_join a.runner b.runner c.runner before.only.runner at.only.runner;
@@ -82,14 +82,14 @@ looked_next n a b c far f g before at = record {
   ];
 }
 
-pub looked_none : (a : StationData) (far : Mail) → HasLooked 0 a a far far
+pub looked_none : (a : StationData) (far : Mail) → HaveEndsLooked 0 a a far far
 looked_none a far = record {
   only = record { runner = seen_self a.runner; seats = refl; ends = ends_same far; given_stays = λ node. refl; brought_stays = λ node. refl };
   rings = λ node below. absurd (omega (arith, below));
 }
 
 -- far ends stay those of the runner that looked
-pub ends_looked : (a b : StationData) (far far_now : Mail) → OnlyLooks a b far far_now → AreFarEnds a.runner.mail far → AreFarEnds b.runner.mail far_now
+pub ends_looked : (a b : StationData) (far far_now : Mail) → OnlyRingsLooked a b far far_now → AreFarEnds a.runner.mail far → AreFarEnds b.runner.mail far_now
 ends_looked a b far far_now h ends = far_ends_last a.runner.mail b.runner.mail far far_now ends h.runner.same.ends h.ends
 
 -- and then the ring from the node has its two ends there still

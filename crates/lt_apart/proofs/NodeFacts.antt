@@ -26,7 +26,7 @@ use Rattle.lt_live.specs.OneNode.{IsNodeOfScript}
 use Rattle.lt_live.specs.Served.{HasKeptRunner}
 use Rattle.lt_live.specs.Stations.{StationData, IsStation}
 use Rattle.lt_apart.specs.Remote.{HasFarEnds}
-use Rattle.lt_apart.specs.Telling.{KnowsRings, HasLooked}
+use Rattle.lt_apart.specs.Telling.{KnowsRings, HaveEndsLooked}
 use Rattle.lt_apart.proofs.Standing.{script_lasts, seen_goes}
 
 -- what was sent is what the ring was given, and then what waits
@@ -122,7 +122,7 @@ node_is_now first x n s far is_script of own kept looked = record {
 
 -- a node that looked at all its rings
 pub told_now : (first : ScriptData) (x : ℕ) (a b : StationData) (far far_now : Mail) (given brought : List ℕ) → HasFarEnds b.runner far_now given brought
-    → HasLooked a.runner.node.script.nodes a b far far_now → IsStation b.runner b.seats → HasKeptRunner b → IsNodeOfScript first x a.runner
+    → HaveEndsLooked a.runner.node.script.nodes a b far far_now → IsStation b.runner b.seats → HasKeptRunner b → IsNodeOfScript first x a.runner
     → IsNodeNow first x (now_by b.runner far_now)
 told_now first x a b far far_now given brought h looked station kept of =
     node_is_now first x b.runner.node.script.nodes b far_now kept.is_script (script_lasts first x a.runner b.runner of (seen_goes a.runner b.runner looked.only.runner)) station.own kept.kept (record {

@@ -34,7 +34,8 @@ abbrev pub HaveNoNumber : List Letter → Type 0
 HaveNoNumber letters = 2 ^ 64 ≤ length letters + 1
 
 -- so many letters more went by the wire, and their frames, numbered on, stand at the end of the bytes
-pub record GivesOut (key : List ℕ) (wire : Wire) (count : ℕ) (before after : List Letter) (out out_now : List ℕ) : Type 0 where
+pub record GivesOut (key : List ℕ) (wire : Wire) (count : ℕ) (before after : List Letter)
+    (out out_now : List ℕ) : Type 0 where
   pub letters : List Letter
   pub count_is : length letters ≡ count
   pub goes_on : after ≡ before ++ letters
@@ -79,9 +80,9 @@ abbrev pub WaitsForMore : Wire → Mail → List ℕ → Type 0
 WaitsForMore wire far rest = IsUnfinished wire rest ⊎ (IsFullTo far wire.from ⊎ HaveNoNumber (sent_to far wire.from))
 
 -- how many bytes were used
-abbrev pub used_of : Result ℕ Refused → ℕ
-used_of (Ok used) = used
-used_of (Err refused) = refused.used
+abbrev pub letters_used : Result ℕ Refused → ℕ
+letters_used (Ok used) = used
+letters_used (Err refused) = refused.used
 
 -- how many letters went in the frame, if one went out
 abbrev pub gave : Bool → ℕ

@@ -42,8 +42,8 @@ abbrev pub given : RemoteData → ℕ → List Letter
 given r to = taken_from r.far to
 
 -- what can be said of the node by itself
-abbrev pub now_of : RemoteData → NodeNow
-now_of r = record {
+abbrev pub fact_of : RemoteData → NodeNow
+fact_of r = record {
   commands = r.station.runner.node.script.commands;
   part = part_of r.station.runner;
   brought = brought r;
@@ -72,7 +72,8 @@ pub record CarriesNone (a b : RemoteData) : Type 0 where
   pub given_stays : (to : ℕ) → given b to ≡ given a to
 
 -- the station of the node with these sessions, where no letter came in or went out yet
-pub record IsOpenRemote (script : ScriptData) (node service : ℕ) (key : List ℕ) (limit places share : ℕ) (r : RemoteData)
+pub record IsOpenRemote (script : ScriptData) (node service : ℕ) (key : List ℕ) (limit places share : ℕ)
+    (r : RemoteData)
     (sessions : List Session) : Type 0 where
   pub service_is : r.service ≡ service
   pub key_is : r.key ≡ key
@@ -86,6 +87,6 @@ pub record StandsStill (a b : RemoteData) : Type 0 where
   pub seats : b.station.seats ≡ a.station.seats
 
 -- the texts of the script with the commands of the node's clients, and of the node's moves
-pub record IsJournalOf (r : RemoteData) (journal : NodeJournal) : Type 0 where
+pub record IsJournalOfNode (r : RemoteData) (journal : NodeJournal) : Type 0 where
   pub script : journal.script.items ≡ print_of r.station.runner.node.script
   pub moves : journal.moves.items ≡ text_of r.station.runner.node.script r.station.runner.log.entries (Some (me r))

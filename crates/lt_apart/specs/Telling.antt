@@ -13,17 +13,17 @@ use Rattle.lt_live.specs.OneNode.{IsNodeOfScript}
 use Rattle.lt_live.specs.Seats.{IsServedSession}
 use Rattle.lt_live.specs.Stations.{StationData}
 use Rattle.lt_law_apart.specs.Apart.{IsNodeNow}
-use Rattle.lt_apart.specs.Remote.{RemoteData, IsOpenRemote, me, now_of}
+use Rattle.lt_apart.specs.Remote.{RemoteData, IsOpenRemote, me, fact_of}
 
 -- where its station was opened for a script, it is one of the nodes of that script whose letters are carried
 abbrev pub IsTold : RemoteData → RemoteData → Type 0
-IsTold a b = (script : ScriptData) → IsNodeOfScript script (me a) a.station.runner → IsNodeNow script (me a) (now_of b)
+IsTold a b = (script : ScriptData) → IsNodeOfScript script (me a) a.station.runner → IsNodeNow script (me a) (fact_of b)
 
 -- What looking at rings does.
 
 -- nothing happened to the station and to these far ends but that letters may have gone on to their rings, and that more
 -- may be known
-pub record OnlyLooks (a b : StationData) (far far_now : Mail) : Type 0 where
+pub record OnlyRingsLooked (a b : StationData) (far far_now : Mail) : Type 0 where
   pub runner : AsSeen a.runner b.runner
   pub seats : b.seats ≡ a.seats
   pub ends : SameEnds far far_now
@@ -37,29 +37,32 @@ pub record KnowsRings (node : ℕ) (station : StationData) (far : Mail) : Type 0
 
 -- the rings between it and one node were looked at, and no others
 pub record LooksAtOne (node : ℕ) (a b : StationData) (far far_now : Mail) : Type 0 where
-  pub only : OnlyLooks a b far far_now
+  pub only : OnlyRingsLooked a b far far_now
   pub here : KnowsRings node b far_now
   pub others : (other : ℕ) → other ≢ node → KnowsRings other a far → KnowsRings other b far_now
 
 -- those between it and each of the first n nodes were
-pub record HasLooked (n : ℕ) (a b : StationData) (far far_now : Mail) : Type 0 where
-  pub only : OnlyLooks a b far far_now
+pub record HaveEndsLooked (n : ℕ) (a b : StationData) (far far_now : Mail) : Type 0 where
+  pub only : OnlyRingsLooked a b far far_now
   pub rings : (node : ℕ) → node < n → KnowsRings node b far_now
 
 -- That a node by itself stays one of its script, as laws.
 
 -- one that is opened is
 abbrev pub OpenedIsOfScript : Type 0
-OpenedIsOfScript = (script : ScriptData) (node service : ℕ) (key : List ℕ) (limit places share : ℕ) (r : RemoteData) (sessions : List Session)
+OpenedIsOfScript = (script : ScriptData) (node service : ℕ) (key : List ℕ) (limit places share : ℕ) (r : RemoteData)
+    (sessions : List Session)
     → IsOpenRemote script node service key limit places share r sessions → IsNodeOfScript script node r.station.runner
 
 -- and stays so, whatever it does
 abbrev pub ScriptLasts : Type 0
-ScriptLasts = (script : ScriptData) (node : ℕ) (p q : Parts) → IsNodeOfScript script node p → GoesOn p q → IsNodeOfScript script node q
+ScriptLasts = (script : ScriptData) (node : ℕ) (p q : Parts) → IsNodeOfScript script node p → GoesOn p q
+    → IsNodeOfScript script node q
 
 -- That what it says of a session is what is asked of the sessions of all nodes, as a law.
 
 abbrev pub ToldIsServed : Type 0
 ToldIsServed = (script : ScriptData) (r : RemoteData) (s : Session) → IsNodeOfScript script (me r) r.station.runner
     → ServedBy r.station.runner s.client s
-    → IsServedSession (commands_of (with_commands script (now_of r).commands) s.client) (lines_of (now_of r).part.log) s.client s
+    → IsServedSession (commands_of (with_commands script (fact_of r).commands) s.client) (lines_of
+    (fact_of r).part.log) s.client s

@@ -5,7 +5,7 @@ ghost use Rattle.lt_mail.specs.Words.{outs_count, sent_to, SameEnds};
 ghost use Rattle.lt_frames.specs.Causes.{IsUnfinished};
 ghost use Rattle.lt_frames.specs.Seen.{IsFrameAt};
 ghost use Rattle.lt_apart.specs.Remote.{AreCounts, brought, nodes};
-ghost use Rattle.lt_apart.specs.Carrying.{wire_from, BringsIn, BringsNext, OnlyBrings, StopsBringing, WaitsForMore, used_of};
+ghost use Rattle.lt_apart.specs.Carrying.{wire_from, BringsIn, BringsNext, OnlyBrings, StopsBringing, WaitsForMore, letters_used};
 ghost use Rattle.lt_apart.specs.Faults.{IsWireCause, number_fault};
 
 use crate::ends::Ends;
@@ -15,16 +15,19 @@ use lt_frames::{Frame, FrameError, Wire, read_frame};
 use std::alloc::Global;
 
 impl Remote {
-    /// Takes in the letters of a node whose frames stand at the front of the bytes, as far as these are whole, and answers
-    /// how many bytes they have. The bytes that are left are to be brought again, with those that come after them.
+    /// Takes in the letters of a node whose frames stand at the front of the bytes, as far as these are whole, and
+    /// answers how many bytes they have. The bytes that are left are to be brought again, with those that come after
+    /// them.
     ///
     /// The bytes may be any. After one of its frames was refused the node is as it was after those before it.
     pub fn bring_in(&mut self, alloc: Global, from: u8, bytes: &[u8]) -> Result<usize, Refused>
         requires peer { from < nodes self.old }
-        ensures brings { BringsIn self.old.key (wire_from self.old from) (used_of result) (brought self.old from) (brought self.new from) bytes.now }
+        ensures brings { BringsIn self.old.key (wire_from self.old from) (letters_used result) (brought self.old from)
+            (brought self.new from) bytes.now }
         ensures stops { StopsBringing self.old.key (wire_from self.old from) self.new.far bytes.now result }
         ensures only { OnlyBrings from self.old.far self.new.far }
-        ensures same { (self.new.service ≡ self.old.service) × (self.new.key ≡ self.old.key) × (self.new.station ≡ self.old.station) }
+        ensures same { (self.new.service ≡ self.old.service) × (self.new.key ≡ self.old.key)
+            × (self.new.station ≡ self.old.station) }
     {
         let wire = Wire {
             service: self.service,
@@ -47,7 +50,8 @@ fn bring_letters(
     requires counts { AreCounts (outs_count ends.old.far) ends.old.brought.items (sent_to ends.old.far) }
     ensures counts { AreCounts (outs_count ends.new.far) ends.new.brought.items (sent_to ends.new.far) }
     ensures ends { SameEnds ends.old.far ends.new.far }
-    ensures brings { BringsIn key.now wire (used_of result) (sent_to ends.old.far wire.from) (sent_to ends.new.far wire.from) bytes.now }
+    ensures brings { BringsIn key.now wire (letters_used result) (sent_to ends.old.far wire.from)
+        (sent_to ends.new.far wire.from) bytes.now }
     ensures stops { StopsBringing key.now wire ends.new.far bytes.now result }
     ensures only { OnlyBrings wire.from ends.old.far ends.new.far }
     ensures given { ends.new.given ≡ ends.old.given }
@@ -74,7 +78,8 @@ fn bring_next(
     requires counts { AreCounts (outs_count ends.old.far) ends.old.brought.items (sent_to ends.old.far) }
     ensures counts { AreCounts (outs_count ends.new.far) ends.new.brought.items (sent_to ends.new.far) }
     ensures ends { SameEnds ends.old.far ends.new.far }
-    ensures brings { BringsNext key.now wire result (sent_to ends.old.far wire.from) (sent_to ends.new.far wire.from) bytes.now }
+    ensures brings { BringsNext key.now wire result (sent_to ends.old.far wire.from)
+        (sent_to ends.new.far wire.from) bytes.now }
     ensures waits { result ≡ Ok None → WaitsForMore wire ends.new.far bytes.now }
     ensures cause { IfErr result (λ fault. IsWireCause key.now wire (sent_to ends.new.far wire.from) fault bytes.now) }
     ensures only { OnlyBrings wire.from ends.old.far ends.new.far }
@@ -108,9 +113,11 @@ fn frame_at(
     number: u64,
     bytes: &[u8],
 ) -> Result<Option<Frame>, WireFault>
-    ensures found { IfOk result (λ read. IfSome read (λ frame. IsFrameAt key.now wire bytes.now frame × (frame.number ≡ number))) }
+    ensures found { IfOk result (λ read. IfSome read (λ frame. IsFrameAt key.now wire bytes.now frame
+        × (frame.number ≡ number))) }
     ensures unfinished { result ≡ Ok None → IsUnfinished wire bytes.now }
-    ensures cause { IfErr result (λ fault. (letters : List Letter) → length letters ≡ number → IsWireCause key.now wire letters fault bytes.now) }
+    ensures cause { IfErr result (λ fault. (letters : List Letter) → length letters ≡ number
+        → IsWireCause key.now wire letters fault bytes.now) }
 {
     match read_frame(alloc, key, wire, bytes) {
         Ok(None) => Ok(None),

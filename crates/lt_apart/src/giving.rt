@@ -11,13 +11,15 @@ use lt_frames::{Wire, WriteError, write_frame};
 use lt_live::Station;
 
 impl Remote {
-    /// Puts the frames of the next letters for a node at the end of the bytes, up to so many, and answers how many these are.
+    /// Puts the frames of the next letters for a node at the end of the bytes, up to so many, and answers how many
+    /// these are.
     ///
-    /// These letters count as given out: all their bytes are to be carried to the node, in this order. A frame that finds no
-    /// memory is put there later; where it is the first one, this is told.
+    /// These letters count as given out: all their bytes are to be carried to the node, in this order. A frame that
+    /// finds no memory is put there later; where it is the first one, this is told.
     pub fn take_out(&mut self, to: u8, most: u32, out: &mut Vec<u8>) -> Result<u32, WriteError>
         requires peer { to < nodes self.old }
-        ensures gives { IfOk result (λ count. GivesOut self.old.key (wire_to self.old to) count (given self.old to) (given self.new to) out.old.items out.new.items) }
+        ensures gives { IfOk result (λ count. GivesOut self.old.key (wire_to self.old to) count (given self.old to)
+            (given self.new to) out.old.items out.new.items) }
         ensures most { IfOk result (λ count. count ≤ most) }
         ensures none { result ≡ Ok 0 → 0 < most → HasGivenAll to self.new.station.runner self.new.far }
         ensures error { OnErr result ((given self.new to ≡ given self.old to) × (out.new.items ≡ out.old.items)) }
@@ -44,7 +46,8 @@ impl Remote {
     #[tactic(auto, using(crate::proofs::GivenOut::pending_is))]
     pub fn pending(&mut self, to: u8) -> bool
         requires peer { to < nodes self.old }
-        ensures value { MatchBool result (length (given self.new to) < length (sent_to self.new.station.runner.mail to)) (sent_to self.new.station.runner.mail to ≡ given self.new to) }
+        ensures value { MatchBool result (length (given self.new to) < length
+            (sent_to self.new.station.runner.mail to)) (sent_to self.new.station.runner.mail to ≡ given self.new to) }
         ensures only { OnlyGives to self.old.station self.new.station self.old.far self.new.far }
         ensures same { CarriesNone self.old self.new }
     {
@@ -64,10 +67,12 @@ fn give_letters(
     requires far { HasFarEnds station.old.runner ends.old.far ends.old.given.items ends.old.brought.items }
     requires peer { wire.to < station.old.runner.node.script.nodes }
     ensures far { HasFarEnds station.new.runner ends.new.far ends.new.given.items ends.new.brought.items }
-    ensures gives { IfOk result (λ count. GivesOut key.now wire count (taken_from ends.old.far wire.to) (taken_from ends.new.far wire.to) out.old.items out.new.items) }
+    ensures gives { IfOk result (λ count. GivesOut key.now wire count (taken_from ends.old.far wire.to)
+        (taken_from ends.new.far wire.to) out.old.items out.new.items) }
     ensures most { IfOk result (λ count. count ≤ most) }
     ensures none { result ≡ Ok 0 → 0 < most → HasGivenAll wire.to station.new.runner ends.new.far }
-    ensures error { OnErr result ((taken_from ends.new.far wire.to ≡ taken_from ends.old.far wire.to) × (out.new.items ≡ out.old.items)) }
+    ensures error { OnErr result ((taken_from ends.new.far wire.to ≡ taken_from ends.old.far wire.to)
+        × (out.new.items ≡ out.old.items)) }
     ensures long { result ≡ Err errors.TooLong → NextIsTooLong wire.to station.new.runner ends.new.far }
     ensures only { OnlyGives wire.to station.old station.new ends.old.far ends.new.far }
 {
@@ -94,9 +99,11 @@ fn give_next(
     requires far { HasFarEnds station.old.runner ends.old.far ends.old.given.items ends.old.brought.items }
     requires peer { wire.to < station.old.runner.node.script.nodes }
     ensures far { HasFarEnds station.new.runner ends.new.far ends.new.given.items ends.new.brought.items }
-    ensures gives { IfOk result (λ one. GivesOut key.now wire (gave one) (taken_from ends.old.far wire.to) (taken_from ends.new.far wire.to) out.old.items out.new.items) }
+    ensures gives { IfOk result (λ one. GivesOut key.now wire (gave one) (taken_from ends.old.far wire.to)
+        (taken_from ends.new.far wire.to) out.old.items out.new.items) }
     ensures none { result ≡ Ok false → HasGivenAll wire.to station.new.runner ends.new.far }
-    ensures error { OnErr result ((taken_from ends.new.far wire.to ≡ taken_from ends.old.far wire.to) × (out.new.items ≡ out.old.items)) }
+    ensures error { OnErr result ((taken_from ends.new.far wire.to ≡ taken_from ends.old.far wire.to)
+        × (out.new.items ≡ out.old.items)) }
     ensures long { result ≡ Err errors.TooLong → NextIsTooLong wire.to station.new.runner ends.new.far }
     ensures only { OnlyGives wire.to station.old station.new ends.old.far ends.new.far }
 {

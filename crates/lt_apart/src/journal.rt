@@ -1,7 +1,7 @@
 // What a node adds to the journal of its service.
 ghost use Rattle.std.specs.Prelude.{◌≡◌, Ok, None, IfOk, IfSome};
 ghost use Rattle.lt_runner.specs.Kept.{HasAll};
-ghost use Rattle.lt_apart.specs.Remote.{IsJournalOf};
+ghost use Rattle.lt_apart.specs.Remote.{IsJournalOfNode};
 
 use crate::remote::Remote;
 use lt_script::{Script, print};
@@ -12,8 +12,8 @@ use std::alloc::{AllocError, Global};
 pub struct NodeJournal {
     /// The text of the script with the commands of the node's clients.
     pub script: Vec<u8>,
-    /// The text of the node's moves: a line for each, with its stamp, and the lines of its events, and at the end the line
-    /// `cut` with the node.
+    /// The text of the node's moves: a line for each, with its stamp, and the lines of its events, and at the end the
+    /// line `cut` with the node.
     pub moves: Vec<u8>,
 }
 
@@ -22,7 +22,7 @@ impl Remote {
     ///
     /// Without memory all is dropped.
     pub fn into_journal(self, alloc: Global) -> Result<Option<NodeJournal>, AllocError>
-        ensures written { IfOk result (λ made. IfSome made (λ journal. IsJournalOf self journal)) }
+        ensures written { IfOk result (λ made. IfSome made (λ journal. IsJournalOfNode self journal)) }
         ensures forgotten { result ≡ Ok None → ¬ HasAll self.station.runner }
     {
         if !self.station.has_all() {
@@ -36,7 +36,7 @@ impl Remote {
     fn write_moves(self, alloc: Global, script: &Script) -> Result<Option<NodeJournal>, AllocError>
         requires script { script.now ≡ self.station.runner.node.script }
         requires whole { self.station.runner.log.gone ≡ 0 }
-        ensures written { IfOk result (λ made. IfSome made (λ journal. IsJournalOf self journal)) }
+        ensures written { IfOk result (λ made. IfSome made (λ journal. IsJournalOfNode self journal)) }
         ensures some { ¬ (result ≡ Ok None) }
     {
         let node = self.node();

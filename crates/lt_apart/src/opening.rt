@@ -15,9 +15,9 @@ use std::alloc::{AllocError, Global};
 impl Remote {
     /// One node of the script in this process, and a session for each of its clients, in order.
     ///
-    /// All nodes of one service are opened with the same script, and under the same number and the same key, each in one
-    /// process; a node that is opened anew opens another service. The node makes up to `limit` moves. A session's rings of
-    /// commands and of replies have `places` places each, and it may submit `share` commands in its life.
+    /// All nodes of one service are opened with the same script, and under the same number and the same key, each in
+    /// one process; a node that is opened anew opens another service. The node makes up to `limit` moves. A session's
+    /// rings of commands and of replies have `places` places each, and it may submit `share` commands in its life.
     pub fn open(
         alloc: Global,
         script: &Script,
@@ -33,7 +33,8 @@ impl Remote {
         requires limit { (0 < limit) × (limit ≤ MAX_MOVES_OF_SERVICE) }
         requires places { (0 < places) × (places ≤ MAX_COMMANDS) }
         requires share { share ≤ most_share script.now }
-        ensures { IfOk result (λ opened. IsOpenRemote script.now node service key.now limit places share opened.0 opened.1.items) }
+        ensures { IfOk result (λ opened. IsOpenRemote script.now node service key.now limit places share opened.0
+            opened.1.items) }
     {
         let nodes = script.nodes();
         let (mail, far) = open_star(alloc, nodes, node, LETTER_PLACES)?;

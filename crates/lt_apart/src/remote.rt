@@ -77,7 +77,8 @@ impl Remote {
 
     /// Takes commands of the node's clients, makes one move, and tells what replies there are, as a station does.
     pub fn turn<G: Gate>(&mut self, gate: &G) -> Turned
-        ensures turns { StationTurns result self.old.station.runner self.old.station.seats self.new.station.runner self.new.station.seats }
+        ensures turns { StationTurns result self.old.station.runner self.old.station.seats self.new.station.runner
+            self.new.station.seats }
         ensures goes_on { GoesOn self.old.station.runner self.new.station.runner }
         ensures seated { StaySeated self.old.station.seats self.new.station.seats }
         ensures carried { CarriesNone self.old self.new }
@@ -86,8 +87,8 @@ impl Remote {
         self.station.turn(gate)
     }
 
-    /// The node whose letter is next and doesn't fit. It was made by no node that was opened with this script; it is never
-    /// taken, and no letter after it.
+    /// The node whose letter is next and doesn't fit. It was made by no node that was opened with this script; it is
+    /// never taken, and no letter after it.
     pub fn misfit(&self) -> Option<u8>
         ensures { result ≡ misfit self.now.station.runner }
     {
@@ -104,7 +105,8 @@ impl Remote {
 
     /// Forgets the moves that were made, as a station does.
     pub fn forget_moves(&mut self) -> Result<(), AllocError>
-        ensures forgets { MayForget self.old.station.runner self.old.station.seats self.new.station.runner self.new.station.seats }
+        ensures forgets { MayForget self.old.station.runner self.old.station.seats self.new.station.runner
+            self.new.station.seats }
         ensures all { OnOk result (HasForgotten self.new.station.runner self.new.station.seats) }
         ensures none { OnErr result (self.new.station.runner ≡ self.old.station.runner) }
         ensures goes_on { GoesOn self.old.station.runner self.new.station.runner }
@@ -117,7 +119,8 @@ impl Remote {
     /// Forgets the commands that its clients have made, as a station does.
     pub fn forget_commands(&mut self, alloc: Global) -> Result<(), AllocError>
         ensures forgets { ForgetsCommands self.old.station self.new.station }
-        ensures all { OnOk result (self.new.station.runner.node.gone ≡ length self.old.station.runner.node.script.commands) }
+        ensures all { OnOk result (self.new.station.runner.node.gone
+            ≡ length self.old.station.runner.node.script.commands) }
         ensures none { OnErr result (self.new ≡ self.old) }
         ensures goes_on { GoesOn self.old.station.runner self.new.station.runner }
         ensures seated { StaySeated self.old.station.seats self.new.station.seats }

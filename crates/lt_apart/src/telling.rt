@@ -7,7 +7,7 @@ ghost use Rattle.lt_live.specs.Stations.{StaySeated};
 ghost use Rattle.lt_mail.specs.Star.{AreFarEnds};
 ghost use Rattle.lt_mail.specs.Words.{outs_count};
 ghost use Rattle.lt_apart.specs.Remote.{CarriesNone};
-ghost use Rattle.lt_apart.specs.Telling.{IsTold, HasLooked, LooksAtOne};
+ghost use Rattle.lt_apart.specs.Telling.{IsTold, HaveEndsLooked, LooksAtOne};
 
 use crate::remote::Remote;
 use lt_live::{Session, Station, settle};
@@ -41,7 +41,7 @@ impl Remote {
 fn look_at_rings(station: &mut Station, far: &mut Mail)
     requires near { outs_count station.old.runner.mail ≡ station.old.runner.node.script.nodes }
     requires ends { AreFarEnds station.old.runner.mail far.old }
-    ensures { HasLooked station.old.runner.node.script.nodes station.old station.new far.old far.new }
+    ensures { HaveEndsLooked station.old.runner.node.script.nodes station.old station.new far.old far.new }
 {
     for node in 0..station.script().nodes() {
         look_at_ring(station, far, node);
