@@ -12,6 +12,7 @@ use crate::code::{
     number_of_turn,
 };
 use crate::content::Content;
+use lt_apart::Remote;
 use lt_live::{Session, Station};
 use lt_modes::Command;
 use lt_runner::Open;
@@ -24,6 +25,7 @@ pub fn turn(content: &mut Content) -> u32
 {
     match content {
         Content::Station(station) => turn_of(station),
+        Content::Node(node) => number_of_turn(node.remote.turn(&Open)),
         _ => WRONG_HANDLE,
     }
 }
@@ -42,6 +44,7 @@ pub fn forget(content: &mut Content, alloc: Global) -> u32
 {
     match content {
         Content::Station(station) => forget_by(station, alloc),
+        Content::Node(node) => forget_at(&mut node.remote, alloc),
         _ => WRONG_HANDLE,
     }
 }
@@ -55,6 +58,16 @@ fn forget_by(station: &mut Station, alloc: Global) -> u32
         return NO_MEMORY;
     };
     match station.forget_commands(alloc) {
+        Ok(()) => OK,
+        Err(_) => NO_MEMORY,
+    }
+}
+
+fn forget_at(remote: &mut Remote, alloc: Global) -> u32 {
+    let Ok(()) = remote.forget_moves() else {
+        return NO_MEMORY;
+    };
+    match remote.forget_commands(alloc) {
         Ok(()) => OK,
         Err(_) => NO_MEMORY,
     }

@@ -6,6 +6,7 @@ ghost use Rattle.lt_live_c.specs.Journals.{JournalIsOf, FinishRefused};
 
 use crate::code::{FORGOTTEN, NO_MEMORY, TOO_MANY, WRONG_HANDLE};
 use crate::journal::Journal;
+use crate::node::Node;
 use crate::service::Service;
 use lt_live::{FinishError, Session, Station};
 use std::alloc::Global;
@@ -16,6 +17,7 @@ pub enum Content {
     Station(Station),
     Session(Session),
     Journal(Journal),
+    Node(Node),
 }
 
 // Written out, so that all places which let a content go call this.
@@ -26,6 +28,7 @@ impl Drop for Content {
             Content::Station(station) => drop(station),
             Content::Session(session) => drop(session),
             Content::Journal(journal) => drop(journal),
+            Content::Node(node) => drop(node),
         }
     }
 }
@@ -58,6 +61,19 @@ impl Content {
     {
         match self {
             Content::Service(service) => match service.finish(alloc) {
+                Ok(journal) => Ok(Content::Journal(journal)),
+                Err(FinishError::Forgotten) => Err(FORGOTTEN),
+                Err(FinishError::TooMany) => Err(TOO_MANY),
+                Err(FinishError::NoMemory) => Err(NO_MEMORY),
+            },
+            _ => unreachable!(),
+        }
+    }
+
+    /// The journal of the moves that the node made, or the code of why there is none.
+    pub fn journal_of_node(self, alloc: Global) -> Result<Content, u32> {
+        match self {
+            Content::Node(node) => match node.finish(alloc) {
                 Ok(journal) => Ok(Content::Journal(journal)),
                 Err(FinishError::Forgotten) => Err(FORGOTTEN),
                 Err(FinishError::TooMany) => Err(TOO_MANY),
