@@ -21,7 +21,7 @@ ended x = cond (length x.1 == 0) (Ok x.0) (Err Trailing)
 not_read : (letter : Letter) → Err Trailing ≡ Ok letter → ⊥
 not_read letter e = cc
 
-whole_is : (bytes : List ℕ) (letter : Letter) → IsBytes bytes → whole_from bytes ≡ Ok letter
+pub whole_is : (bytes : List ℕ) (letter : Letter) → IsBytes bytes → whole_from bytes ≡ Ok letter
     → (bytes ≡ letter_bytes letter) × LetterFits letter
 unfolding whole_from
 whole_is bytes letter fits e =
@@ -37,7 +37,7 @@ whole_is bytes letter fits e =
     by_rest found (r ∷ rest) read is =
         absurd (not_read letter (sym (ap (λ (b : Bool). cond b (Ok found) (Err Trailing)) (more_left r rest)) ∙ is))
 
-whole_again : (bytes : List ℕ) (letter : Letter) → LetterFits letter → bytes ≡ letter_bytes letter → whole_from bytes ≡ Ok letter
+pub whole_again : (bytes : List ℕ) (letter : Letter) → LetterFits letter → bytes ≡ letter_bytes letter → whole_from bytes ≡ Ok letter
 unfolding whole_from
 whole_again bytes letter fits is =
     let read : letter_from bytes ≡ Ok (letter, []) =

@@ -9,8 +9,9 @@ ghost use Rattle.lt_modes.specs.FiveModes.{modes_of_mask};
 use crate::fault::Fault;
 use lt_modes::{Ask, Link, Mode, ModeSet, Owed, Stamp};
 
+/// The first byte, and those after it.
 #[tactic(auto, unfolding(crate::specs::Reading::byte_from))]
-pub(crate) fn byte_of(bytes: &[u8]) -> Result<(u8, &[u8]), Fault>
+pub fn byte_of(bytes: &[u8]) -> Result<(u8, &[u8]), Fault>
     ensures { IsReading (λ x. (x.0, x.1.now)) result (byte_from bytes.now) }
 {
     match bytes {
@@ -44,8 +45,9 @@ pub(crate) fn u16_of(bytes: &[u8]) -> Result<(u16, &[u8]), Fault>
     Ok((number, rest))
 }
 
+/// The first number of 4 bytes, and the bytes after it.
 #[tactic(auto, unfolding(crate::specs::Reading::number_from))]
-pub(crate) fn u32_of(bytes: &[u8]) -> Result<(u32, &[u8]), Fault>
+pub fn u32_of(bytes: &[u8]) -> Result<(u32, &[u8]), Fault>
     ensures { IsReading (λ x. (x.0, x.1.now)) result (number_from w32 bytes.now) }
 {
     if bytes.len() < 4 {
@@ -56,8 +58,9 @@ pub(crate) fn u32_of(bytes: &[u8]) -> Result<(u32, &[u8]), Fault>
     Ok((number, rest))
 }
 
+/// The first number of 8 bytes, and the bytes after it.
 #[tactic(auto, unfolding(crate::specs::Reading::number_from))]
-pub(crate) fn u64_of(bytes: &[u8]) -> Result<(u64, &[u8]), Fault>
+pub fn u64_of(bytes: &[u8]) -> Result<(u64, &[u8]), Fault>
     ensures { IsReading (λ x. (x.0, x.1.now)) result (number_from w64 bytes.now) }
 {
     if bytes.len() < 8 {

@@ -11,6 +11,7 @@ mod reading;
 mod writing;
 
 pub use fault::{Fault, ReadError};
+pub use fields::{byte_of, u32_of, u64_of};
 pub use fitting::letter_fits;
 pub use laws::law_letters;
 pub use reading::read_letter;

@@ -17,4 +17,4 @@ pub mod Taking
 pub mod Moves
 pub mod OwnCommands
 pub mod WholeRuns
-pub mod OneNode
+pub mod OpensHere

@@ -43,7 +43,7 @@ pub fn open_node(
 }
 
 // New sessions of all clients of the station's node, with their seats there.
-#[tactic(auto, using(crate::proofs::OneNode::none_opened))]
+#[tactic(auto, using(crate::proofs::OpensHere::none_opened))]
 fn sessions_at(
     alloc: Global,
     script: &Script,

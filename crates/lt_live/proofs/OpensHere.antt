@@ -1,7 +1,7 @@
 -- The sessions of one node's clients, as they are opened and as they are served.
-use Rattle.std.proofs.Common.{◌≡◌, ◌≢◌, ◌<◌, ◌≤◌, ◌+◌, ◌⊎◌, ℕ, List, [], ◌∷◌, ◌++◌, length, Some, inl, inr, refl, sym, ap, subst, ◌∙◌, arith, filter_map, slice_get, slice_set, slice_index_or}
+use Rattle.std.proofs.Common.{◌≡◌, ◌≢◌, ◌<◌, ◌+◌, ◌⊎◌, ℕ, List, [], ◌∷◌, ◌++◌, length, Some, inl, inr, refl, sym, ap, subst, ◌∙◌, arith, filter_map, slice_get, slice_set, slice_index_or}
 use Rattle.std.proofs.lemmas.Bool.{cases_eq}
-use Rattle.std.proofs.lemmas.Option.{same_Some, slice_get_within}
+use Rattle.std.proofs.lemmas.Option.{same_Some, slice_get-get_or, slice_get_within}
 use Rattle.rtrb.specs.Ring.{producer_capacity}
 use Rattle.lt_modes.specs.declared.command.Command.{Command}
 use Rattle.lt_modes.specs.Script.{ScriptData}
@@ -10,14 +10,13 @@ use Rattle.lt_spec.specs.World.{Logged}
 use Rattle.lt_runner.specs.declared.parts.Parts.{Parts}
 use Rattle.lt_live.specs.declared.ends.Seat.{Seat}
 use Rattle.lt_live.specs.declared.ends.Session.{Session}
-use Rattle.lt_live.specs.Words.{known_commands, outbox_replies, AreTwoEnds, SameSession}
+use Rattle.lt_live.specs.Words.{known_commands, outbox_replies, AreTwoEnds}
 use Rattle.lt_live.specs.Seats.{IsSeat}
 use Rattle.lt_live.specs.Stations.{IsSeatOf, StationData, AreOthers, IsNewSession, IsSeated, StaySeated, SeatLooks}
-use Rattle.lt_live.specs.Live.{EachSession, SaysSame, ServedBy}
-use Rattle.lt_live.specs.OneNode.{AreSeated, AreServedBy, IsUnused, IsNewHere, HasSessionOf, OpensHere, SettlesHere, SettlingHere}
-use Rattle.lt_live.proofs.SeatLists.{pushed, last_here, stays_here, none_here, alike_self, alike_set, alike_join, alike_len, set_here, set_other}
+use Rattle.lt_live.specs.Live.{SaysSame, ServedBy}
+use Rattle.lt_live.specs.OneNode.{AreSeated, IsUnused, IsNewHere, HasSessionOf, OpensHere, SettlesHere, SettlingHere}
+use Rattle.lt_live.proofs.SeatLists.{pushed, last_here, stays_here, none_here, alike_self, alike_set, alike_join, set_here, set_other}
 use Rattle.lt_live.proofs.Settling.{says_itself, says_join, says_looked}
-use Rattle.lt_live.proofs.Telling.{session_stays}
 
 -- no client yet
 pub none_opened : (script : ScriptData) (capacity share : ℕ) (station : StationData) → station.seats ≡ [] → OpensHere script capacity share 0 station []
@@ -184,7 +183,7 @@ next_settled n station mid later sessions between after h at = record {
 }
 
 -- the session that is found there looked at its rings
-pub settles_here : (place : ℕ) (station later : StationData) (sessions : List Session) (s t : Session) → slice_get sessions place ≡ Some s
+settles_here : (place : ℕ) (station later : StationData) (sessions : List Session) (s t : Session) → slice_get sessions place ≡ Some s
     → AreSeated sessions station.seats → SeatLooks station.runner.log.entries s t station.seats later.seats → IsSeated t later.seats
     → StaySeated station.seats later.seats → ServedBy station.runner s.client t → later.runner ≡ station.runner
     → SettlesHere place station sessions later (slice_set sessions place t)
@@ -206,3 +205,16 @@ settles_here place station later sessions s t here seated looks now stay served 
 
     is_new : (k : ℕ) (u : Session) → slice_get (slice_set sessions place t) k ≡ Some u → k ≡ place → t ≡ u
     is_new k u e at = same_Some t u (sym (set_here sessions place t (slice_get_within sessions place s here)) ∙ (ap (slice_get (slice_set sessions place t)) (sym at) ∙ e))
+
+-- so does the one that is found there, where it is inside
+pub seated_found : (place : ℕ) (sessions : List Session) (d : Session) (seats : List Seat) → place < length sessions → AreSeated sessions seats
+    → IsSeated (slice_index_or sessions place d) seats
+seated_found place sessions d seats inside seated =
+    seated place (slice_index_or sessions place d) (slice_get-get_or sessions place d inside)
+
+pub settles_found : (place : ℕ) (station later : StationData) (sessions : List Session) (d t : Session) → place < length sessions
+    → AreSeated sessions station.seats → SeatLooks station.runner.log.entries (slice_index_or sessions place d) t station.seats later.seats
+    → IsSeated t later.seats → StaySeated station.seats later.seats → ServedBy station.runner (slice_index_or sessions place d).client t
+    → later.runner ≡ station.runner → SettlesHere place station sessions later (slice_set sessions place t)
+settles_found place station later sessions d t inside seated looks now stay served runner =
+    settles_here place station later sessions (slice_index_or sessions place d) t (slice_get-get_or sessions place d inside) seated looks now stay served runner

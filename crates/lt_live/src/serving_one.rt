@@ -11,7 +11,7 @@ use crate::station::Station;
 ///
 /// Each looks at its rings from both ends, so that what its station has taken and told is what it submitted and polls. It
 /// makes no move and wants no memory.
-#[tactic(auto, using(crate::proofs::OneNode::none_settled))]
+#[tactic(auto, using(crate::proofs::OpensHere::none_settled))]
 pub fn settle(station: &mut Station, sessions: &mut [Session])
     requires { AreSeated sessions.old station.old.seats }
     ensures served { AreServedBy station.new.runner sessions.new }

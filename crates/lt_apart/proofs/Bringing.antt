@@ -1,0 +1,96 @@
+-- Letters that come in.
+use Rattle.std.proofs.Common.{◌≡◌, ◌≢◌, ◌<◌, ◌≤◌, ◌+◌, ◌⊎◌, ℕ, List, [], ◌∷◌, ◌++◌, Option, Some, None, length, take, drop, refl, sym, ap, subst, ◌∙◌, arith, inl, inr, slice_get, slice_set, append-nil, eq-eqb, ne_eqb, length-append}
+use Rattle.std.proofs.lemmas.List.{take_at}
+use Rattle.lt_modes.specs.State.{Letter}
+use Rattle.lt_desk.specs.LetterSeen.{letter_seen}
+use Rattle.lt_mail.specs.declared.mail.Mail.{Mail}
+use Rattle.lt_mail.specs.Words.{taken, on_in, in_at, outs_count, sent_to, taken_from, if_to, SameEnds}
+use Rattle.lt_mail.proofs.LookLemmas.{ends_same}
+use Rattle.lt_frames.specs.declared.frame.Frame.{Frame}
+use Rattle.lt_frames.specs.declared.frame.Wire.{Wire}
+use Rattle.lt_frames.specs.Frames.{Numbered, frame_bytes}
+use Rattle.lt_frames.specs.Seen.{IsFrameAt, frame_seen, on_wire}
+use Rattle.lt_frames.proofs.Parts.{frame_size}
+use Rattle.lt_apart.specs.Remote.{AreCounts, HasFarEnds}
+use Rattle.lt_apart.specs.Carrying.{frames, BringsIn, OnlyBrings}
+use Rattle.lt_apart.proofs.FarEnds.{counts_more, counts_stay, far_ends_last}
+use Rattle.lt_runner.specs.declared.parts.Parts.{Parts}
+
+pub only_join : (from : ℕ) (f g h : Mail) → OnlyBrings from f g → OnlyBrings from g h → OnlyBrings from f h
+only_join from f g h one two = record {
+  given_stays = λ node. two.given_stays node ∙ one.given_stays node;
+  others = λ node apart. two.others node apart ∙ one.others node apart;
+}
+
+pub only_itself : (from : ℕ) (f : Mail) → OnlyBrings from f f
+only_itself from f = record { given_stays = λ node. refl; others = λ node apart. refl }
+
+-- no letter came
+pub only_sent : (from : ℕ) (f g : Mail) → ((node : ℕ) → sent_to g node ≡ sent_to f node) → ((node : ℕ) → in_at g node ≡ in_at f node) → OnlyBrings from f g
+only_sent from f g sent ins = record { given_stays = λ node. ap (on_in taken) (ins node); others = λ node apart. sent node }
+
+to_here : (from : ℕ) (letter : Letter) → if_to from letter from ≡ letter ∷ []
+to_here from letter = rw (eq-eqb from from refl) refl
+
+to_other : (from node : ℕ) (letter : Letter) → node ≢ from → if_to from letter node ≡ []
+to_other from node letter apart = rw (ne_eqb from node (λ e. apart (sym e))) refl
+
+-- one letter came
+pub sent_here : (from : ℕ) (f g : Mail) (letter : Letter) → ((node : ℕ) → sent_to g node ≡ sent_to f node ++ if_to from letter node)
+    → sent_to g from ≡ sent_to f from ++ letter ∷ []
+sent_here from f g letter sent = sent from ∙ ap (λ (more : List Letter). sent_to f from ++ more) (to_here from letter)
+
+sent_other : (from : ℕ) (f g : Mail) (letter : Letter) → ((node : ℕ) → sent_to g node ≡ sent_to f node ++ if_to from letter node)
+    → (node : ℕ) → node ≢ from → sent_to g node ≡ sent_to f node
+sent_other from f g letter sent node apart =
+    sent node ∙ (ap (λ (more : List Letter). sent_to f node ++ more) (to_other from node letter apart) ∙ append-nil (sent_to f node))
+
+pub only_put : (from : ℕ) (f g : Mail) (letter : Letter) → ((node : ℕ) → sent_to g node ≡ sent_to f node ++ if_to from letter node)
+    → ((node : ℕ) → in_at g node ≡ in_at f node) → OnlyBrings from f g
+only_put from f g letter sent ins = record {
+  given_stays = λ node. ap (on_in taken) (ins node);
+  others = λ node apart. sent_other from f g letter sent node apart;
+}
+
+pub counts_put : (from number : ℕ) (f g : Mail) (brought : List ℕ) (letter : Letter) → AreCounts (outs_count f) brought (sent_to f) → from < outs_count f
+    → number ≡ length (sent_to f from) → SameEnds f g → ((node : ℕ) → sent_to g node ≡ sent_to f node ++ if_to from letter node)
+    → AreCounts (outs_count g) (slice_set brought from (number + 1)) (sent_to g)
+counts_put from number f g brought letter h below is ends sent =
+    subst (λ (n : ℕ). AreCounts n (slice_set brought from (number + 1)) (sent_to g)) (sym ends.counts.0)
+    (counts_more (outs_count f) brought (sent_to f) (sent_to g) from number letter h below is (sent_here from f g letter sent) (sent_other from f g letter sent))
+
+pub counts_same : (f g : Mail) (brought : List ℕ) → AreCounts (outs_count f) brought (sent_to f) → SameEnds f g
+    → ((node : ℕ) → sent_to g node ≡ sent_to f node) → AreCounts (outs_count g) brought (sent_to g)
+counts_same f g brought h ends sent = counts_stay (outs_count f) (outs_count g) brought (sent_to f) (sent_to g) ends.counts.0 sent h
+
+-- its frame stands at the front of the bytes
+pub brings_frame : (key : List ℕ) (wire : Wire) (frame : Frame) (before after : List Letter) (bytes : List ℕ) → IsFrameAt key wire bytes frame
+    → frame.number ≡ length before → after ≡ before ++ letter_seen frame.letter ∷ [] → BringsIn key wire frame.size before after bytes × (0 < frame.size)
+brings_frame key wire frame before after bytes at number more = (
+  record {
+    letters = letter_seen frame.letter ∷ [];
+    goes_on = more;
+    within = omega (arith, at.2.1, ap (λ (list : List ℕ). length list) at.1, length-append its at.0);
+    bytes_are = ap (λ (n : ℕ). take n bytes) at.2.1
+        ∙ (ap (take (length its)) at.1
+        ∙ (take_at its at.0 (length its) refl
+        ∙ (ap (λ (n : ℕ). frame_bytes key (record { wire = wire; number = n; letter = letter_seen frame.letter })) number
+        ∙ sym (append-nil _))));
+  },
+  omega (arith, at.2.1, frame_size key (on_wire wire (frame_seen frame))),
+)
+  where
+    its : List ℕ
+    its = frame_bytes key (on_wire wire (frame_seen frame))
+
+-- the far ends of the node still, with other numbers of letters that came
+pub far_ends_brought : (p : Parts) (f g : Mail) (given brought later : List ℕ) (from : ℕ) → HasFarEnds p f given brought → SameEnds f g
+    → OnlyBrings from f g → AreCounts (outs_count g) later (sent_to g) → HasFarEnds p g given later
+far_ends_brought p f g given brought later from h ends only counts = record {
+  outs = ends.counts.0 ∙ h.outs;
+  ins = ends.counts.1 ∙ h.ins;
+  near = h.near;
+  ends = far_ends_last p.mail p.mail f g h.ends (ends_same p.mail) ends;
+  given_counts = counts_stay p.node.script.nodes p.node.script.nodes given (taken_from f) (taken_from g) refl only.given_stays h.given_counts;
+  brought_counts = subst (λ (n : ℕ). AreCounts n later (sent_to g)) (ends.counts.0 ∙ h.outs) counts;
+}

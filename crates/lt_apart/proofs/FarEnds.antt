@@ -1,0 +1,74 @@
+-- The far ends of a node's rings, and how many letters went through them.
+use Rattle.std.proofs.Common.{◌≡◌, ◌≢◌, ◌<◌, ◌+◌, ℕ, List, [], ◌∷◌, ◌++◌, Option, Some, None, length, refl, sym, ap, subst, ◌∙◌, arith, inl, inr, slice_get, slice_set, length-append, length-set}
+use Rattle.std.proofs.lemmas.Bool.{cases_eq}
+use Rattle.std.proofs.lemmas.Option.{same_Some, slice_get_within}
+use Rattle.lt_modes.specs.State.{Letter}
+use Rattle.lt_modes.specs.Script.{ScriptData}
+use Rattle.lt_mail.specs.declared.mail.Mail.{Mail}
+use Rattle.lt_mail.specs.declared.lane.InLane.{InLane}
+use Rattle.lt_mail.specs.Star.{AreFarEnds}
+use Rattle.lt_mail.specs.Words.{OutLane, out_at, in_at, outs_count, ins_count, sent_to, taken_from, Both, Alike, SameOut, SameIn, SameEnds, IsOpenLink}
+use Rattle.lt_runner.specs.declared.parts.Parts.{Parts}
+use Rattle.lt_live.proofs.SeatLists.{set_here, set_other}
+use Rattle.lt_apart.specs.Remote.{AreCounts, HasFarEnds}
+
+linked : (o : Option OutLane) (i : Option InLane) (p : Option OutLane) (j : Option InLane) → Alike SameOut o p → Alike SameIn i j
+    → Both IsOpenLink o i → Both IsOpenLink p j
+linked None i p j u v e = absurd e
+linked (Some o) None p j u v e = absurd e
+linked (Some o) (Some i) None j u v e = absurd u
+linked (Some o) (Some i) (Some p) None u v e = absurd v
+linked (Some o) (Some i) (Some p) (Some j) u v e =
+    ((v.0.0 ∙ e.0.0 ∙ sym u.0.0, v.0.1 ∙ e.0.1 ∙ sym u.0.1, v.0.2 ∙ e.0.2 ∙ sym u.0.2, v.0.3 ∙ e.0.3 ∙ sym u.0.3), subst (λ (n : ℕ). 0 < n) (sym u.1) e.1)
+
+-- far ends stay those of the same rings
+pub far_ends_last : (mail now far later : Mail) → AreFarEnds mail far → SameEnds mail now → SameEnds far later → AreFarEnds now later
+far_ends_last mail now far later h near away = record {
+  out = λ node below.
+      linked (out_at mail node) (in_at far node) (out_at now node) (in_at later node) (near.outs node) (away.ins node)
+      (h.out node (omega (arith, below, near.counts.0)));
+  into = λ node below.
+      linked (out_at far node) (in_at mail node) (out_at later node) (in_at now node) (away.outs node) (near.ins node)
+      (h.into node (omega (arith, below, near.counts.0)));
+}
+
+-- How many letters went through each.
+
+pub counts_stay : (n m : ℕ) (numbers : List ℕ) (a b : ℕ → List Letter) → m ≡ n → ((node : ℕ) → b node ≡ a node) → AreCounts n numbers a → AreCounts m numbers b
+counts_stay n m numbers a b same stays h = record {
+  count = h.count ∙ sym same;
+  each = λ node number here. h.each node number here ∙ sym (ap (λ (letters : List Letter). length letters) (stays node));
+}
+
+length_more : (before after : List Letter) (letter : Letter) → after ≡ before ++ letter ∷ [] → length after ≡ length before + 1
+length_more before after letter e =
+    ap (λ (letters : List Letter). length letters) e ∙ length-append before (letter ∷ [])
+
+-- one letter more by one of them
+pub counts_more : (n : ℕ) (numbers : List ℕ) (a b : ℕ → List Letter) (place number : ℕ) (letter : Letter) → AreCounts n numbers a → place < n
+    → number ≡ length (a place) → b place ≡ a place ++ letter ∷ [] → ((node : ℕ) → node ≢ place → b node ≡ a node)
+    → AreCounts n (slice_set numbers place (number + 1)) b
+counts_more n numbers a b place number letter h below is here others = record {
+  count = length-set numbers place (number + 1) ∙ h.count;
+  each = λ node other e. elim (cases_eq node place) [
+    | inl same ↦
+        let now : number + 1 ≡ other =
+        same_Some (number + 1) other (sym (set_here numbers place (number + 1) (omega (arith, below, h.count))) ∙ (ap (slice_get (slice_set numbers place (number + 1))) (sym same) ∙ e)) in
+        omega (arith, now, is, length_more (a place) (b place) letter here, ap (λ (k : ℕ). length (b k)) same)
+    | inr apart ↦
+        h.each node other (sym (set_other numbers place (number + 1) node apart) ∙ e)
+        ∙ sym (ap (λ (letters : List Letter). length letters) (others node apart))
+  ];
+}
+
+pub far_ends_stay : (p q : Parts) (far later : Mail) (given brought : List ℕ) → HasFarEnds p far given brought → q.node.script.nodes ≡ p.node.script.nodes
+    → SameEnds p.mail q.mail → SameEnds far later → ((node : ℕ) → taken_from later node ≡ taken_from far node)
+    → ((node : ℕ) → sent_to later node ≡ sent_to far node) → HasFarEnds q later given brought
+far_ends_stay p q far later given brought h nodes near away taken sent = record {
+  outs = away.counts.0 ∙ (h.outs ∙ sym nodes);
+  ins = away.counts.1 ∙ (h.ins ∙ sym nodes);
+  near = near.counts.0 ∙ (h.near ∙ sym nodes);
+  ends = far_ends_last p.mail q.mail far later h.ends near away;
+  given_counts = counts_stay p.node.script.nodes q.node.script.nodes given (taken_from far) (taken_from later) nodes taken h.given_counts;
+  brought_counts = counts_stay p.node.script.nodes q.node.script.nodes brought (sent_to far) (sent_to later) nodes sent h.brought_counts;
+}

@@ -1,0 +1,130 @@
+-- Letters that go out.
+use Rattle.std.proofs.Common.{◌≡◌, ◌≢◌, ◌<◌, ◌≤◌, ◌+◌, ◌==◌, ◌⊎◌, ℕ, List, [], ◌∷◌, ◌++◌, Option, Some, None, Bool, true, false, if◌then◌else◌, length, refl, sym, ap, subst, ◌∙◌, arith, inl, inr, slice_get, slice_set, append-nil, append_assoc, eq-eqb, ne_eqb}
+use mathlib.Core.List.{IsPrefix}
+use Rattle.lt_modes.specs.State.{Letter}
+use Rattle.lt_modes.specs.Script.{ScriptData}
+use Rattle.lt_letters.specs.Spelling.{letter_bytes}
+use Rattle.lt_frames.specs.declared.frame.TheConstants.{MAX_LETTER}
+use Rattle.lt_frames.specs.declared.frame.Wire.{Wire}
+use Rattle.lt_frames.specs.Frames.{frame_bytes}
+use Rattle.lt_mail.specs.declared.mail.Mail.{Mail}
+use Rattle.lt_mail.specs.Words.{sent_by, on_out, out_at, sent_to, given_to, waiting_to, taken_from, known_from, if_from, if_to, SameEnds}
+use Rattle.lt_mail.proofs.LookLemmas.{ends_same}
+use Rattle.lt_runner.specs.declared.parts.Parts.{Parts}
+use Rattle.lt_runner.specs.Kept.{AsSeen, LooksTo}
+use Rattle.lt_runner.proofs.KeptLemmas.{seen_join}
+use Rattle.lt_threads.proofs.Each.{seen_self}
+use Rattle.lt_live.specs.declared.ends.Seat.{Seat}
+use Rattle.lt_live.specs.Stations.{StationData}
+use Rattle.lt_apart.specs.Remote.{AreCounts, HasFarEnds}
+use Rattle.lt_apart.specs.Carrying.{frames, GivesOut, OnlyGives, HasGivenAll, NextIsTooLong}
+use Rattle.lt_apart.proofs.FarEnds.{counts_more, counts_stay, far_ends_last, far_ends_stay}
+use Rattle.lt_apart.proofs.NodeFacts.{sent_is}
+
+-- one after the other
+pub only_join : (to : ℕ) (a b c : StationData) (f g h : Mail) → OnlyGives to a b f g → OnlyGives to b c g h → OnlyGives to a c f h
+only_join to a b c f g h one two = record {
+  runner = seen_join a.runner b.runner c.runner one.runner two.runner;
+  seats = two.seats ∙ one.seats;
+  brought_stays = λ node. two.brought_stays node ∙ one.brought_stays node;
+  others = λ node apart. two.others node apart ∙ one.others node apart;
+}
+
+pub only_itself : (to : ℕ) (a : StationData) (f : Mail) → OnlyGives to a a f f
+only_itself to a f = record { runner = seen_self a.runner; seats = refl; brought_stays = λ node. refl; others = λ node apart. refl }
+
+-- nothing was given out
+pub gave_nothing : (key : List ℕ) (wire : Wire) (before after : List Letter) (out out_now : List ℕ) → GivesOut key wire 0 before after out out_now
+    → (after ≡ before) × (out_now ≡ out)
+gave_nothing key wire before after out out_now h = none h.letters h.count_is h.goes_on h.bytes
+  where
+    none : (letters : List Letter) → length letters ≡ 0 → after ≡ before ++ letters → out_now ≡ out ++ frames key wire (length before) letters
+        → (after ≡ before) × (out_now ≡ out)
+    none [] e more bytes = (more ∙ append-nil before, bytes ∙ append-nil out)
+    none (letter ∷ letters) e more bytes = absurd (omega (arith, e))
+
+-- the ring was looked at from both ends
+pub met_far : (to : ℕ) (p q : Parts) (f g : Mail) (given brought : List ℕ) → HasFarEnds p f given brought → LooksTo to p q → SameEnds f g
+    → ((node : ℕ) → out_at g node ≡ out_at f node) → ((node : ℕ) → taken_from g node ≡ taken_from f node) → HasFarEnds q g given brought
+met_far to p q f g given brought h looks ends outs taken =
+    far_ends_stay p q f g given brought h (ap (λ (s : ScriptData). s.nodes) looks.seen.same.script) looks.seen.same.ends ends taken
+    (λ node. ap (on_out sent_by) (outs node))
+
+pub met_only : (to : ℕ) (a b : StationData) (f g : Mail) → LooksTo to a.runner b.runner → b.seats ≡ a.seats
+    → ((node : ℕ) → out_at g node ≡ out_at f node) → ((node : ℕ) → taken_from g node ≡ taken_from f node) → OnlyGives to a b f g
+met_only to a b f g looks seats outs taken = record {
+  runner = looks.seen;
+  seats = seats;
+  brought_stays = λ node. ap (on_out sent_by) (outs node);
+  others = λ node apart. taken node;
+}
+
+-- where none is known then, all letters were given out
+pub all_given : (to : ℕ) (p : Parts) (f : Mail) → taken_from f to ++ known_from f to ≡ given_to p.mail to
+    → (known_from f to ≡ [] → waiting_to p.mail to ≡ []) → known_from f to ≡ [] → sent_to p.mail to ≡ taken_from f to
+all_given to p f whole moves none =
+    sent_is p.mail to
+    ∙ (ap (λ (letters : List Letter). given_to p.mail to ++ letters) (moves none)
+    ∙ (append-nil (given_to p.mail to)
+    ∙ (sym whole
+    ∙ (ap (λ (letters : List Letter). taken_from f to ++ letters) none
+    ∙ append-nil (taken_from f to)))))
+
+-- and where one is, it is the next one
+pub next_is : (to : ℕ) (p : Parts) (f : Mail) (letter : Letter) → taken_from f to ++ known_from f to ≡ given_to p.mail to
+    → IsPrefix (letter ∷ []) (known_from f to) → (rest : List Letter) × (sent_to p.mail to ≡ taken_from f to ++ letter ∷ rest)
+next_is to p f letter whole first = (
+  first.0 ++ waiting_to p.mail to,
+  sent_is p.mail to
+      ∙ (ap (λ (letters : List Letter). letters ++ waiting_to p.mail to) (sym whole ∙ ap (λ (letters : List Letter). taken_from f to ++ letters) (sym first.1))
+      ∙ append_assoc (taken_from f to) (letter ∷ first.0) (waiting_to p.mail to)),
+)
+
+pub too_long : (to : ℕ) (p : Parts) (f : Mail) (letter : Letter) → taken_from f to ++ known_from f to ≡ given_to p.mail to
+    → IsPrefix (letter ∷ []) (known_from f to) → MAX_LETTER < length (letter_bytes letter) → NextIsTooLong to p f
+too_long to p f letter whole first long =
+    let next = next_is to p f letter whole first in
+    (letter, (next.0, (next.1, long)))
+
+-- the first known letter is the one that is taken
+pub first_is : (letters rest : List Letter) (a b : Letter) → IsPrefix (a ∷ []) letters → letters ≡ b ∷ rest → a ≡ b
+first_is letters rest a b first is = heads (a ∷ first.0) a refl (first.1 ∙ is)
+  where
+    heads : (xs : List Letter) (x : Letter) → xs ≡ x ∷ first.0 → xs ≡ b ∷ rest → x ≡ b
+    heads xs x e f = cc
+
+if_here : (to : ℕ) (letter : Letter) → if_from to letter to ≡ letter ∷ []
+if_here to letter = rw (eq-eqb to to refl) refl
+
+if_other : (to node : ℕ) (letter : Letter) → node ≢ to → if_from to letter node ≡ []
+if_other to node letter apart = rw (ne_eqb node to apart) refl
+
+-- one letter more was taken from the far end
+pub taken_far : (to number : ℕ) (p : Parts) (f g : Mail) (given brought : List ℕ) (letter : Letter) → HasFarEnds p f given brought
+    → to < p.node.script.nodes → number ≡ length (taken_from f to) → SameEnds f g → ((node : ℕ) → out_at g node ≡ out_at f node)
+    → ((node : ℕ) → taken_from g node ≡ taken_from f node ++ if_from to letter node) → HasFarEnds p g (slice_set given to (number + 1)) brought
+taken_far to number p f g given brought letter h below is ends outs taken = record {
+  outs = ends.counts.0 ∙ h.outs;
+  ins = ends.counts.1 ∙ h.ins;
+  near = h.near;
+  ends = far_ends_last p.mail p.mail f g h.ends (ends_same p.mail) ends;
+  given_counts = counts_more p.node.script.nodes given (taken_from f) (taken_from g) to number letter h.given_counts below is here others;
+  brought_counts = counts_stay p.node.script.nodes p.node.script.nodes brought (sent_to f) (sent_to g) refl (λ node. ap (on_out sent_by) (outs node)) h.brought_counts;
+}
+  where
+    here : taken_from g to ≡ taken_from f to ++ letter ∷ []
+    here = taken to ∙ ap (λ (more : List Letter). taken_from f to ++ more) (if_here to letter)
+
+    others : (node : ℕ) → node ≢ to → taken_from g node ≡ taken_from f node
+    others node apart =
+        taken node ∙ (ap (λ (more : List Letter). taken_from f node ++ more) (if_other to node letter apart) ∙ append-nil (taken_from f node))
+
+pub taken_only : (to : ℕ) (a : StationData) (f g : Mail) (letter : Letter) → ((node : ℕ) → out_at g node ≡ out_at f node)
+    → ((node : ℕ) → taken_from g node ≡ taken_from f node ++ if_from to letter node) → OnlyGives to a a f g
+taken_only to a f g letter outs taken = record {
+  runner = seen_self a.runner;
+  seats = refl;
+  brought_stays = λ node. ap (on_out sent_by) (outs node);
+  others = λ node apart.
+      taken node ∙ (ap (λ (more : List Letter). taken_from f node ++ more) (if_other to node letter apart) ∙ append-nil (taken_from f node));
+}

@@ -1,0 +1,15 @@
+//! A node in a process of its own: its letters come in and go out as bytes, which the caller carries between processes.
+#![tactic(auto)]
+
+mod bringing;
+mod ends;
+mod fault;
+mod giving;
+mod laws;
+mod opening;
+mod remote;
+mod telling;
+
+pub use fault::{Refused, WireFault};
+pub use laws::law_remote;
+pub use remote::Remote;

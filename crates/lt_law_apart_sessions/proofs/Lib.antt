@@ -1,0 +1,2 @@
+pub mod ApartSessions
+pub mod SealedNodes
