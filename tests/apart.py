@@ -402,11 +402,112 @@ def try_flips(count, draw):
     want('the lock', reply_of(two), lockrun.GRANTED)
 
 
+def try_flood():
+    """A node that sends more letters than another one has places for: the rest is received once that one has made turns."""
+    text = 'version 3\nnodes 2\n' + ''.join(f'set s{k}\n' for k in range(8)) + ''.join(f'client c{k} at 1\n' for k in range(16))
+    one, two = two_nodes(text=text)
+    kinds = ((lockrun.LOCK, lockrun.MODES.index('write')), (lockrun.WITHDRAW, None))
+    for name in range(8):
+        for kind, mode in kinds:
+            for session in two.sessions.values():
+                first = session.client if mode is None else mode
+                lockrun.said(two.library.lockrun_submit(session.handle, kind, name, first, 0))
+                two.turn()
+                while two.library.lockrun_poll(session.handle, lockrun.c_uint64()) != lockrun.NOTHING:
+                    pass
+    frames = b''.join(two.transport.out[0])
+    used, code = one.receive(1, frames)
+    want('what a flood is answered', code, lockrun.OK)
+    if not 0 < used < len(frames):
+        fail(f'{used} of {len(frames)} bytes of a flood were used at once')
+    while used < len(frames):
+        one.turn()
+        more, code = one.receive(1, frames[used:])
+        if code != lockrun.OK or not more:
+            fail(f'after {used} bytes of a flood {code} came, and {more} were used')
+            return
+        used += more
+    for _ in range(1000):
+        if one.receive(1, frames)[1] != lockrun.AGAIN:
+            fail('a frame of a flood was received again')
+
+
+class Plain(Carrier):
+    """A carrier that gives each frame once and in order, and nothing to a node that is gone."""
+
+    def next(self, pair):
+        """The due frames."""
+        frames, came = self.frames[pair], self.came[pair]
+        return b''.join(frames[came:]), {lockrun.OK}, None
+
+    def work_until(self, over):
+        """Carries until this is so: whether it was in time."""
+        end = time.monotonic() + SECONDS
+        while time.monotonic() < end and not over():
+            self.take(0.002)
+            self.deliver()
+        return over()
+
+
+def run_beside(stream, me, phases):
+    """The process of a node of which node 2 stops while it holds s0: who asks for that gives up, and the others go on."""
+    link = Link(stream, me)
+    link.apart = apart = Apart(script(3), me, 3, KEY, 1, link)
+    session = apart.session(f'c{me}')
+    if me == 2:
+        guard = session.lock('s0', 'write')
+        phases.put(0, 1)
+        while guard:
+            apart.serve(None)
+    while phases.get(0) == 0:
+        apart.serve(0.01)
+    try:
+        session.lock('s0', 'write', timeout=0.3)
+        phases.put(2, 1)
+    except lockrun.Withdrawn:
+        pass
+    for _ in range(20):
+        with session.lock('s1', 'write'):
+            phases.put(1, phases.get(1) + 1)
+    stream.send(b'D')
+    while not link.quits:
+        apart.serve(None)
+
+
+def try_stop():
+    """A node that stops while it holds a lock: nobody else is granted it, who asks for it may give up, and others go on."""
+    phases, streams, processes = Holders(), [], []
+    for me in range(3):
+        mine, other = socket.socketpair(socket.AF_UNIX, socket.SOCK_SEQPACKET)
+        process = os.fork()
+        if process == 0:
+            try:
+                run_beside(other, me, phases)
+            finally:
+                os._exit(0)
+        other.close()
+        streams.append(mine)
+        processes.append(process)
+    carrier = Plain(streams, random.Random(1))
+    if not carrier.work_until(lambda: phases.get(0) == 1):
+        fail('the node that is to stop got no lock')
+    os.kill(processes[2], signal.SIGSTOP)
+    if not carrier.work_until(lambda: carrier.done == {0, 1}):
+        fail('the others did not go on')
+    want('locks of the others', phases.get(1), 40)
+    want('a lock that a stopped node holds', phases.get(2), 0)
+    for process in processes:
+        os.kill(process, signal.SIGKILL)
+        os.waitpid(process, 0)
+
+
 def main():
     """The status is 0 if nothing failed."""
     runs, flips, seed = (list(map(int, sys.argv[1:])) + [6, 20000, 1][len(sys.argv) - 1:])[:3]
     try_codes()
     try_pending()
+    try_flood()
+    try_stop()
     try_flips(flips, random.Random(seed))
     codes = {}
     with tempfile.TemporaryDirectory() as folder:

@@ -10,7 +10,7 @@ bytes between them.
 import time
 from ctypes import c_size_t, c_uint8
 
-from lockrun import (FULL, NOTHING, OK, Handle, Journal, LockError, Session, bytes_of, library_path, load, numbered, said,
+from lockrun import (FULL, NOTHING, OK, OWN, Handle, Journal, LockError, Session, bytes_of, library_path, load, numbered, said,
                      version)
 
 # How many bytes of a frame aren't of its letter.
@@ -54,7 +54,10 @@ class Apart:
         self.turn()
 
     def nap(self, tries, end):
-        """Sleeps until something comes, or until this time: what a session does that waits."""
+        """Sleeps until something comes, or until this time: what a session does that waits. At first it looks again, since
+        several replies may be there."""
+        if tries < OWN:
+            return tries + 1
         for node, frames in self.transport.sleep(None if end is None else max(0, end - time.monotonic())):
             self.came[node] += frames
         return tries + 1
