@@ -15,8 +15,9 @@
 /* Beside the codes of lockrun.h: the time is over; the transport is broken. */
 enum { LOCKRUN_STILL_WAITS = 32, LOCKRUN_NO_CARRIER };
 
-/* For how many bytes of frames there is room at first; and how many of a frame aren't of its letter. */
-enum { LOCKRUN_FRAMES = 1 << 16, LOCKRUN_AROUND = 39 };
+/* For how many bytes of frames there is room at first; how many of a frame aren't of its letter; and after how many calls it is
+ * looked whether something came, where none of them had to wait: else a caller that has all it wants would keep others out. */
+enum { LOCKRUN_FRAMES = 1 << 16, LOCKRUN_AROUND = 39, LOCKRUN_CALLS = 8 };
 
 /* Bytes that came from a node and weren't received yet. */
 typedef struct { uint8_t *bytes; size_t length, room; } lockrun_came;
@@ -28,6 +29,7 @@ typedef struct lockrun_apart {
     uint8_t *frames;  /* a buffer for frames that go out */
     size_t room;
     uint64_t dropped; /* how many locks the last LOCKRUN_DROPPED was of */
+    unsigned calls;
     uint64_t sent, received, bytes; /* frames that went out and came in, and the bytes of the former */
     void *transport;
     /* Carries frames to a node: 0 if it can't. */
@@ -140,6 +142,7 @@ static inline uint32_t lockrun_reply_apart(lockrun_apart *apart, lockrun_session
 static inline uint32_t lockrun_call_apart(lockrun_apart *apart, lockrun_session *session, uint32_t kind, uint32_t set,
                                           uint32_t first, uint32_t second, int64_t patience) {
     uint32_t code = lockrun_submit(session, kind, set, first, second);
+    if (++apart->calls % LOCKRUN_CALLS == 0 && !apart->sleep(apart->transport, apart, 0)) return LOCKRUN_NO_CARRIER;
     return code == LOCKRUN_OK ? lockrun_reply_apart(apart, session, patience) : code;
 }
 

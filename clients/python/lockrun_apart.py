@@ -103,6 +103,8 @@ class Apart:
     def turn(self, _home=None):
         """Takes in what came, turns the node until it makes no move, and gives out what it sends: what a session does that
         waits."""
+        for node, frames in self.transport.sleep(0):
+            self.came[node] += frames
         moved = True
         while moved:
             self._take_in()

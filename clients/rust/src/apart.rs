@@ -71,6 +71,8 @@ impl<C: Carrier> Apart<C> {
     fn call(&mut self, client: usize, kind: u32, set: u32, mode: Mode, wanted: u32) -> Result<(), Error> {
         // SAFETY: the handle stands for something, and `&mut` gives it to one call at a time.
         check(unsafe { exports::lockrun_submit(&mut self.sessions[client], kind, set, mode as u32, 0) })?;
+        // Else a caller that has all it wants would keep others out.
+        self.sleep(Some(Duration::ZERO))?;
         loop {
             self.turn()?;
             let mut count = 0;
