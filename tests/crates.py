@@ -10,7 +10,7 @@ sys.dont_write_bytecode = True
 from definitions import House
 
 MOST_IN_CHAIN = 10
-MOST_TWICE = 20
+MOST_TWICE = 34
 
 
 def chain(crates, name):

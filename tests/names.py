@@ -3,13 +3,16 @@
 or a word of a command or of a format; that it is an item of the crate, or of the file of definitions, that it is said
 to be of; that each clause that docs/PROOFS.md names is one of the call or the law that it is said of, or a field of a
 record that such a clause is; that each link leads to a file or a heading; and that the code in docs/READING.md and
-docs/LIBRARY.md stands in the sources."""
+docs/LIBRARY.md stands in the sources, and that in README.md and docs/LIBRARY.md of C, Rust and Python in examples/."""
 import re
 import sys
 from functools import cache
 from pathlib import Path
 
 TOP = Path(__file__).resolve().parent.parent
+sys.path.insert(0, str(TOP / 'tools'))
+sys.dont_write_bytecode = True
+from definitions import at_margin  # noqa: E402
 # Those that `tools/pages` makes from the sources are left out.
 MADE = ('BELIEVE', 'LAWS', 'CALLS', 'CRATES')
 PAGES = [TOP / 'README.md', *(path for path in sorted((TOP / 'docs').glob('*.md')) if path.stem not in MADE)]
@@ -20,7 +23,7 @@ SOURCES = [path for part in ('src', 'specs', 'proofs') for path in sorted((TOP /
 FIRST_WORDS = '''
     version nodes set client journal lock try unlock change drop move grant wait not_held busy copy freeze token held
     withdraw withdrawn void withheld waiting owner end cut ok act take run sim check make soak lockrun: rt rustc unfolding waits cycle no ends a
-    order ordered not needs too
+    order ordered not needs too axioms logic=proved pip man
     C T begin commit abort not_open children t u locknest: lockwaits: locklive:'''.split()
 # Words that are names of nothing in the repository: of languages, of the toolchain and its libraries, of what a build
 # or a check makes, of calls in clients/, and of places in an example.
@@ -30,7 +33,10 @@ OTHERS = '''
     atomic_table seed_from_u64 for_each_mut join_mut rattle-kit-13f specs/declared Goals Given crates/lockrun/out/sources
     --help --version --kind --moves --waits --all-waits --diff --set --client --json --chrome --words --write --nested --commands chrome://tracing
     pg_locks readers chain
-    lock_within and_within change_within timeout= StillWaits
+    lock_within and_within change_within timeout= sets= StillWaits -std=c11
+    logic=proved functions=N axioms= axioms=N target=.. cpu=.. sum=dac8208d650f15bf native=nat,char,string logic-built=trusted
+    libraries-built=trusted statements=trusted incremental=trusted batches=trusted cache=trusted threads= may-wait= may-abort=
+    partial= rattle_alloc rattle_realloc rattle_dealloc Appends
     File crates/lt_modes/specs/File.antt tests/bugs/CRATE.edits
     s0 s1 s2 s3 c0 c1 cI name'''.split()
 
@@ -112,7 +118,7 @@ def definitions():
     for path, text in TEXTS.items():
         if path.suffix != '.antt' or 'specs' not in path.parts:
             continue
-        for block in re.split(r'\n(?=\S)', text):
+        for block in re.split(r'\n(?=\S)', at_margin(text)[0]):
             match = re.match(r'(?:abbrev |unfoldable )?(?:pub )?(?:record )?(\w+)', block)
             if match:
                 texts[match[1]] = texts.get(match[1], '') + block
@@ -246,14 +252,15 @@ def unknown_clauses(page):
 
 
 def unknown_code(page):
-    """The faults of a page that shows code: lines that stand in no source."""
-    lines = {line.strip() for path in SOURCES for line in path.read_text().splitlines()}
+    """The faults of a page that shows code: lines that stand in no source, and in no first program."""
+    paths = [*SOURCES, *(TOP / 'examples').glob('first.*')]
+    lines = {line.strip() for path in paths for line in path.read_text().splitlines()}
     text = page.read_text()
     fenced = '```rust' in text
     is_code = False
     for number, line in enumerate(text.splitlines(), 1):
         if line.startswith('```'):
-            is_code = line == '```rust'
+            is_code = line in ('```rust', '```c', '```python')
         elif (is_code if fenced else line.startswith('    ')) and line.strip() not in lines | {''}:
             yield f'{page.relative_to(TOP)}:{number}: no source has this line'
 
@@ -265,7 +272,7 @@ def main():
               for fault in [*unknown_names(page, known), *unknown_files(page), *misplaced_names(page)]]
     faults += [fault for page in [*PAGES, TOP / 'CONTRIBUTING.md'] for fault in unknown_links(page)]
     faults += [*unknown_clauses(TOP / 'docs' / 'PROOFS.md'), *unknown_code(TOP / 'docs' / 'READING.md'),
-               *unknown_code(TOP / 'docs' / 'LIBRARY.md')]
+               *unknown_code(TOP / 'docs' / 'LIBRARY.md'), *unknown_code(TOP / 'README.md')]
     for fault in faults:
         print(f'tests/names.py: {fault}')
     print(f'tests/names.py: {len(PAGES)} pages, {len(faults)} faults')

@@ -69,6 +69,7 @@ try_tools() {
     said alone "$1/$tool" "$2/upgrade.script" "$2/upgrade.journal" >"$room/printed"
     expect "$label: $tool" '' "$(grep '^status ' "$room/printed")"
   done
+  expect "$label: show" "$("$top/lockrun" show "$2/deadlock.journal")" "$(said alone "$1/../lockrun" show "$2/deadlock.journal")"
   expect "$label: nest-waits" "$(cat "$2/nested-ring.waits")" \
     "$(said alone "$1/nest-waits" "$2/nested-ring.lines" "$2/nested-ring.answers")"
 }
@@ -114,12 +115,12 @@ try_pages() {
   else
     leave_out "manual pages of $label: mandoc is not there"
   fi
-  expect "$label: a page for each call" '' "$(for call in $("$top/tools/manual" --calls); do
+  expect "$label: a page for each call" '' "$(for call in $("$top/tools/manual" --calls) $("$top/tools/manual" --easy-calls); do
     ls "$1/man/man3/$call.3"* >/dev/null 2>&1 || echo "$call"
   done)"
   if has bash; then
     # shellcheck disable=SC2016 # bash opens these
-    expect "$label: words for bash" 'sim seeds soak, first' "$(bash -c '. "$1"; COMP_WORDS=(/x/lockrun s) COMP_CWORD=1
+    expect "$label: words for bash" 'sim seeds soak show, first' "$(bash -c '. "$1"; COMP_WORDS=(/x/lockrun s) COMP_CWORD=1
       _lockrun; printf "%s, " "${COMPREPLY[*]}"; COMP_WORDS=(lockrun sim "") COMP_CWORD=2; _lockrun; echo "${COMPREPLY[*]}"' \
       bash "$1/bash-completion/completions/lockrun")"
   else
@@ -166,6 +167,12 @@ try_wheel() {
   expect "$label: its version" "$version" \
     "$(said alone "$room/venv/bin/python" -c 'from importlib.metadata import version; print(version("lockrun"))')"
   expect "$label: a program in Python" "$wanted" "$(said alone "$room/venv/bin/python" "$top/examples/first.py")"
+  if has mypy; then
+    expect "$label: its types" '' "$(said alone mypy --strict --no-error-summary --cache-dir "$room/types" \
+      --python-executable "$room/venv/bin/python" -p lockrun)"
+  else
+    leave_out "types of $label: mypy is not there"
+  fi
 }
 
 try_crate() {
@@ -182,6 +189,12 @@ try_crate() {
   done
   expect "$label: its documentation's examples run" 1 "$(said alone env "LOCKRUN_LIBRARIES=$tree/lib" cargo test --doc \
     --manifest-path "$room/lockrun-$version/Cargo.toml" --target-dir "$room/target" | grep -c '^test result: ok')"
+  if has cargo-clippy; then
+    expect "$label: clippy finds nothing" '' "$(said alone env "LOCKRUN_LIBRARIES=$tree/lib" cargo clippy --quiet --all-targets \
+      --manifest-path "$room/lockrun-$version/Cargo.toml" --target-dir "$room/target" -- -D warnings)"
+  else
+    leave_out "clippy on $label: it is not there"
+  fi
   expect "$label: its documentation is made" '' "$(said alone env "LOCKRUN_LIBRARIES=$tree/lib" cargo doc --quiet --no-deps \
     --manifest-path "$room/lockrun-$version/Cargo.toml" --target-dir "$room/target")"
 }

@@ -18,8 +18,8 @@ make_top() {
 # The stand-in for the program: prints its words and its input. The first line of the input may ask for an answer.
 program='#!/bin/sh
 printf "<%s>" "$@"; echo
-case "$1:$2:$3:$4:$5" in
-  make:20:* | make:2:0:* | make:2:33:* | *:4097:* | *:99999999999999999999:* | *:18446744073709551616)
+case "$1:$2:$3:$4:$5:$6:$7" in
+  make:20:* | make:65:* | make:*:65:* | make:*:version:[04] | make:2:0:* | make:2:33:* | *:4097:* | *:99999999999999999999:* | *:18446744073709551616:*)
     echo "lockrun: usage: run | sim first | sim SEED | check | make NODES CLIENTS COMMANDS SEED | soak SEED | order" >&2
     exit 1 ;;
   make:*) exit 0 ;;
@@ -97,12 +97,14 @@ for word in --help -h help; do
   expect "$word has status 0" 'status 0' "$(said "$top/lockrun" $word | tail -n 1)"
 done
 expect '--help names the limits' 2 "$("$top/lockrun" --help | grep -c -e '64 clients on up to 16 nodes' -e '256 clients on up to 64')"
-for word in 'sim first' 'sim SEED' 'seeds FROM TO' run check 'make NODES CLIENTS COMMANDS SEED' 'soak SEED' order; do
+for word in 'sim first' 'sim SEED' 'seeds FROM TO' run check 'make NODES CLIENTS COMMANDS SEED' \
+  'make NODES CLIENTS COMMANDS SEED version VERSION' 'soak SEED' order; do
   expect "--help names $word" 1 "$("$top/lockrun" --help | grep -c "^  ./lockrun $word  ")"
 done
 expect '--version' "lockrun $(cat "$here/VERSION")
 status 0" "$(said "$top/lockrun" --version)"
-usage='lockrun: usage: run | sim first | sim SEED | check | make NODES CLIENTS COMMANDS SEED | soak SEED | order'
+usage='lockrun: usage: run | sim first | sim SEED | check | make NODES CLIENTS COMMANDS SEED | soak SEED | order
+lockrun: and also: make NODES CLIENTS COMMANDS SEED version VERSION | seeds FROM TO | --help | --version'
 no_command() {
   why=$1
   shift
@@ -111,10 +113,10 @@ lockrun: $why}
 status 1" "$(PATH=$room/no-rt && said "$room/bare/lockrun" "$@" </dev/null)"
 }
 long=$(printf '%070d' 7)
-no_command ''
-no_command '"" is none of run, sim, check, make, soak, order and seeds' ''
-no_command '"simulate" is none of run, sim, check, make, soak, order and seeds' simulate first
-no_command '"r?n" is none of run, sim, check, make, soak, order and seeds' "$(printf 'r\377n')"
+no_command 'further words are seeds FROM TO and show JOURNAL'
+no_command '"" is none of run, sim, check, make, soak, order, seeds and show' ''
+no_command '"simulate" is none of run, sim, check, make, soak, order, seeds and show' simulate first
+no_command '"r?n" is none of run, sim, check, make, soak, order, seeds and show' "$(printf 'r\377n')"
 no_command 'sim has a seed behind it: first, or 1 to 20 digits' sim
 no_command '"two words" is no seed: first, or 1 to 20 digits, and less than 2^64' sim 'two words'
 no_command '"--help" is no file that can be read, and nothing else may stand there' sim first --help
@@ -125,7 +127,12 @@ no_command '"-7" is no seed: 1 to 20 digits, and less than 2^64' soak -7
 no_command '"now" is one word too many' soak 7 now
 no_command 'make has four numbers behind it: NODES CLIENTS COMMANDS SEED' make 2 3 8
 no_command '"eight" is no number of commands: 0 to 4096' make 2 3 eight 7
-no_command '"8" is one word too many' make 2 3 4 7 8
+no_command '"8" is one word too many: behind the seed there may be version VERSION' make 2 3 4 7 8
+no_command 'version has a number behind it: 1, 2 or 3' make 2 3 4 7 version
+no_command '"versions" is one word too many: behind the seed there may be version VERSION' make 2 3 4 7 versions 3
+no_command '"three" is no version: 1, 2 or 3' make 2 3 4 7 version three
+no_command '"more" is one word too many' make 2 3 4 7 version 3 more
+no_command '"eight" is no number of commands: 0 to 4096' make 2 3 eight 7 version 3
 no_command '"now" is no file that can be read, and nothing else may stand there' run now
 no_command "\"$room\" is no file that can be read, and nothing else may stand there" order "$room"
 no_command '"/dev/null" is one word too many' order /etc/passwd /dev/null
@@ -145,14 +152,19 @@ refused_words() {
 lockrun: $why
 status 1" "$(said "$top/lockrun" "$@" </dev/null | sed '/^</d')"
 }
-refused_words '"20" is no number of nodes: 1 to 16' make 20 3 12 5
+refused_words '"20" is no number of nodes: 1 to 16, and to 64 with version 2 behind the seed' make 20 3 12 5
+refused_words '"65" is no number of nodes: 1 to 16' make 65 3 12 5
+refused_words '"65" is no number of nodes: 1 to 64' make 65 3 12 5 version 2
+refused_words '"65" is no number of clients: 1 to 64, and to 256 with version 2 behind the seed' make 16 65 12 5 version 1
+refused_words '"4" is no version: 1, 2 or 3' make 2 3 12 5 version 4
+refused_words '"0" is no version: 1, 2 or 3' make 2 3 12 5 version 0
 refused_words '"0" is no number of clients: 1 to 64' make 2 0 12 5
 refused_words '"33" clients are more than 16 on a node' make 2 33 12 5
 refused_words '"4097" is no number of commands: 0 to 4096' make 2 32 4097 5
 refused_words '"18446744073709551616" is no seed: 1 to 20 digits, and less than 2^64' make 2 32 4096 18446744073709551616
 refused_words '"99999999999999999999" is no seed: 1 to 20 digits, and less than 2^64' soak 99999999999999999999
 refused_words '"99999999999999999999" is no seed: first, or 1 to 20 digits, and less than 2^64' sim 99999999999999999999
-for words in 'sim 18446744073709551615' 'make 17 1 1 1' 'soak 007' 'check' 'order'; do
+for words in 'sim 18446744073709551615' 'make 17 1 1 1' 'make 17 1 1 1 version 03' 'soak 007' 'check' 'order'; do
   # shellcheck disable=SC2086 # a call may be more words
   expect "a command, or the program says why not: $words" "$(printf '<%s>' $words)
 status 0" "$(said "$top/lockrun" $words </dev/null)"
@@ -184,8 +196,8 @@ expect 'seeds, some stuck' 'status         runs
 
 To see the first that gets stuck:
   ./lockrun sim 3 < SCRIPT > stuck.journal
-  tools/journal-state SCRIPT stuck.journal
-  tools/journal-picture --waits SCRIPT stuck.journal > stuck.svg
+  ./lockrun show SCRIPT stuck.journal
+  ./lockrun show picture SCRIPT stuck.journal --waits > stuck.svg
 status 3' "$(echo '# by seed' | said "$top/lockrun" seeds 1 23)"
 expect 'seeds, one cut' 'status 7' "$(echo '# by seed' | said "$top/lockrun" seeds 4 6 | tail -n 1)"
 expect 'seeds, another end' 'lockrun: seed 42
@@ -202,7 +214,8 @@ expect 'seeds of a folder' 'lockrun: read fault
 status 4' "$(said "$top/lockrun" seeds 1 2 </)"
 expect 'seeds on a full disk' 'lockrun: write fault
 status 5' "$(echo x | said sh -c "'$top/lockrun' seeds 1 2 >/dev/full")"
-expect 'seeds, unproved' 'lockrun: not proved: no program is built from these sources (./build makes it), so this takes a minute or more
+expect 'seeds, unproved' 'lockrun: not proved: no program is built from these sources; ./build lockrun proves them and makes it
+lockrun: not proved: the sources are compiled for this run, in a minute or more
 lockrun: so the further seeds take as long together as the first
 0, done           0
 3, stuck          8   first: 1
@@ -213,6 +226,28 @@ yes | "$top/lockrun" seeds 1 1 >/dev/null
 expect 'seeds of an endless input' 1048577 "$(wc -c <"$top/crates/lockrun/out/lockrun.input")"
 expect 'seeds, no folder can be made' 'lockrun: no folder can be made for what is kept while it runs
 status 125' "$(echo x | (TMPDIR=$room/none && export TMPDIR && said "$top/lockrun" seeds 1 2))"
+
+# A run is shown by the tool of the view, with its script before it, above it in one file, or beside it by its name.
+if command -v python3 >/dev/null; then
+  for view in state counts picture trace; do
+    case $view in counts) tool=journal-summary ;; *) tool=journal-$view ;; esac
+    "$here/tools/$tool" "$here/examples/deadlock.script" "$here/examples/deadlock.journal" >"$room/wanted"
+    "$here/lockrun" show $view "$here/examples/deadlock.journal" >"$room/seen" 2>&1
+    expect "show $view" '' "$(cmp "$room/wanted" "$room/seen" 2>&1)"
+  done
+  expect 'show a state' "$("$here/tools/journal-state" "$here/examples/deadlock.script" "$here/examples/deadlock.journal" 3)" \
+    "$("$here/lockrun" show "$here/examples/deadlock.script" "$here/examples/deadlock.journal" 3 2>&1)"
+  { cat "$here/examples/deadlock.script"; printf ' journal\r\n'; cat "$here/examples/deadlock.journal"; } >"$room/both"
+  expect 'show one file' "$("$here/lockrun" show "$here/examples/deadlock.journal")" "$("$here/lockrun" show state "$room/both" 2>&1)"
+fi
+expect 'show nothing' 'lockrun: usage: show [state | counts | picture | trace | waits] [SCRIPT] JOURNAL
+status 1' "$(said "$here/lockrun" show)"
+expect 'show no file' 'lockrun: usage: show [state | counts | picture | trace | waits] [SCRIPT] JOURNAL
+lockrun: "pictures" is no view, and no file that can be read
+status 1' "$(said "$here/lockrun" show pictures "$here/examples/deadlock.journal")"
+echo 'end 0' >"$room/lone.journal"
+expect 'show a journal alone' "lockrun: $room/lone.journal has no line \`journal\` behind its script, and $room/lone.script is no file: name the script before it
+status 1" "$(said "$here/lockrun" show "$room/lone.journal")"
 
 # The wrapper may be called by links, from anywhere, and with CDPATH.
 ln -s "$top/lockrun" "$room/link" && ln -s link "$room/second" && ln -s "$top" "$room/folder"
@@ -230,7 +265,8 @@ status 0' "$(PATH=$top:$PATH && said lockrun run </dev/null)"
 
 # A folder as standard input is a read fault, whichever way the program runs.
 expect 'a folder as input' 'status 4' "$(said "$top/lockrun" run 2>/dev/null </ | tail -n 1)"
-expect 'a folder as input, unproved' 'lockrun: not proved: no program is built from these sources (./build makes it), so this takes a minute or more
+expect 'a folder as input, unproved' 'lockrun: not proved: no program is built from these sources; ./build lockrun proves them and makes it
+lockrun: not proved: the sources are compiled for this run, in a minute or more
 lockrun: read fault
 status 4' "$(PATH=$with_rt && said "$room/bare/lockrun" run </ | grep -v '^<')"
 expect 'a folder as input that nothing reads, unproved' '<make><1><1><1><1>
@@ -242,7 +278,7 @@ status 4' "$(PATH=$with_rt && said "$room/bare/lockrun" run <&- | grep -v -e '^<
 unproved() { PATH=$with_rt && export PATH && said "$room/bare/lockrun" "$@" | grep -v '^lockrun: not'; }
 expect 'the status, unproved' '<sim><first>
 status 3' "$(echo '# stuck' | unproved sim first)"
-expect 'no answer, unproved' 'lockrun: the trial runner gave no answer; ./build makes the program
+expect 'no answer, unproved' 'lockrun: the trial runner gave no answer; ./build lockrun makes the program
 status 125' "$(echo '# no answer' | unproved sim first)"
 expect 'a full disk, unproved' 'lockrun: write fault
 status 5' "$(echo x | (PATH=$with_rt && said sh -c "'$room/bare/lockrun' run >/dev/full") | grep -v '^lockrun: not')"
@@ -252,13 +288,29 @@ expect 'no folder can be made' 'lockrun: no folder can be made for what is kept 
 status 125' "$(echo x | (TMPDIR=$room/none && export TMPDIR && unproved run))"
 
 # Without a program that was built from the sources as they are, the toolchain runs them.
-expect 'unproved' 'lockrun: not proved: no program is built from these sources (./build makes it), so this takes a minute or more
+expect 'unproved' 'lockrun: not proved: no program is built from these sources; ./build lockrun proves them and makes it
+lockrun: not proved: the sources are compiled for this run, in a minute or more
 <sim><first>
 status 0' "$(echo x | (PATH=$with_rt && said "$room/bare/lockrun" sim first))"
+# The answer of an unproved run is kept, for the same sources, words and input. `rt` isn't asked again.
+asked_again() {
+  PATH=$with_rt && export PATH
+  printf '%s\n' "$2" | said "$room/bare/lockrun" $1 | sed -e '/^lockrun: .*no program is built/d' -e '/^lockrun: the trial/d' \
+    -e 's/^lockrun: .*are compiled.*/compiled/' -e 's/^lockrun: .*of an earlier run.*/kept/' | tr '\n' ' '
+}
+expect 'unproved, once more' 'kept <sim><first> status 0 ' "$(asked_again 'sim first' x)"
+expect 'unproved, other words' 'compiled <sim><7> status 0 ' "$(asked_again 'sim 7' x)"
+expect 'unproved, another input' 'compiled <sim><first> status 0 ' "$(asked_again 'sim first' y)"
+expect 'unproved, the status once more' 'kept <sim><first> status 3 ' "$(asked_again 'sim first' '# stuck')"
+expect 'unproved, no answer is kept of none' 'compiled status 125 ' "$(asked_again 'sim first' '# no answer')"
+expect 'unproved, an input without a line end' 'compiled <sim><first> status 0 ' "$(printf '' | asked_again 'sim first' "x ")"
+echo '// another source' >>"$room/bare/crates/lockrun/src/main.rt"
+expect 'unproved, other sources' 'compiled <sim><first> status 0 ' "$(asked_again 'sim first' x)"
+expect 'unproved, answers of other sources are removed' 1 "$(find "$room/bare/crates/lockrun/out/tried" -name status | wc -l)"
 expect 'no toolchain' "lockrun: no program is built, and the toolchain's program rt isn't on the PATH: README.md says what it is, under \"What it needs\"
 status 127" "$(PATH=$room/no-rt && said "$room/bare/lockrun" sim first </dev/null)"
 is_stale() {
-  expect "$1" 'lockrun: not proved: no program is built from these sources (./build makes it), so this takes a minute or more' \
+  expect "$1" 'lockrun: not proved: no program is built from these sources; ./build lockrun proves them and makes it' \
     "$(PATH=$with_rt && said "$top/lockrun" run <"$room/bytes" 2>&1 | head -n 1)"
   build "$top"
 }
@@ -316,7 +368,7 @@ echo "library lt_low: modules loaded=1" >&2
 mkdir -p out && printf "#!/bin/sh\necho built\n" >out/lockrun && chmod +x out/lockrun
 echo "<$*>"' >"$room/with-build/rt" && chmod +x "$room/with-build/rt"
 with_build=$room/with-build:$PATH
-expect 'the build' "build: from nothing, all together takes about half an hour on four processors; what was built here before and didn't change isn't proved again
+expect 'the build' "build: from nothing, all together takes up to half an hour on four processors; what was proved before and didn't change isn't proved again
 build: lockrun is made from 2 crates, and each that isn't proved yet is proved first
 fn low: proved
 logic=proved functions=1
@@ -345,6 +397,18 @@ expect 'a build with no toolchain' "build: the toolchain's program rt isn't on t
 status 127" "$(PATH=$room/no-rt && said "$made/build" lockrun)"
 expect 'a build with no folder to be made' 'build: no folder can be made for what is kept while it runs
 status 125' "$(PATH=$with_build && TMPDIR=$room/none && export TMPDIR && said "$made/build" lockrun)"
+# A toolchain whose gate takes names is asked for the program alone; if it leaves none, the crates below are proved here.
+mkdir "$room/with-gate" && printf '%s\n' '#!/bin/sh
+case $1 in
+  --help) echo "  rt ci [NAME..]  the merge gate" ;;
+  ci) echo "logic=proved functions=2"; mkdir -p crates/$2/out && [ ! -e none ] && echo "$2" >crates/$2/out/$2 && chmod +x crates/$2/out/$2 ;;
+  all) echo "all $2" ;;
+esac' >"$room/with-gate/rt" && chmod +x "$room/with-gate/rt" && rm "$made/crates/lockrun/out/lockrun"
+expect 'the build by the gate' 'logic=proved functions=2
+build: lockrun: 1 of 2 crates proved' "$(PATH=$room/with-gate:$PATH && said "$made/build" lockrun | sed -n 3,4p)"
+expect 'the build, where the gate leaves no program' 'all check' \
+  "$(rm "$made/crates/lockrun/out/lockrun" && : >"$made/none" && PATH=$room/with-gate:$PATH && said "$made/build" lockrun | grep '^all')"
+rm "$made/none" && printf '#!/bin/sh\necho built\n' >"$made/crates/lockrun/out/lockrun" && chmod +x "$made/crates/lockrun/out/lockrun"
 # A checkout that can't be written is tried as another user, if we are the one who may write everywhere.
 as_nobody=
 if [ -w / ]; then as_nobody='setpriv --reuid 65534 --regid 65534 --clear-groups'; fi
@@ -404,7 +468,7 @@ status 1' "$(on_terminal "'$top/lockrun'; echo status \$?" | tail -n 2)"
   expect 'an endless input, on a terminal' 1048577 "$(wc -c <"$top/crates/lockrun/out/lockrun.input")"
   expect 'no folder can be made, on a terminal' '<run>
 status 0' "$(on_terminal "TMPDIR='$room/none' '$top/lockrun' run; echo status \$?")"
-  expect 'no answer, on a terminal, unproved' 'lockrun: the trial runner gave no answer; ./build makes the program
+  expect 'no answer, on a terminal, unproved' 'lockrun: the trial runner gave no answer; ./build lockrun makes the program
 status 125' "$(on_terminal "echo '# no answer' | PATH='$with_rt' '$room/bare/lockrun' run; echo status \$?" | tail -n 2)"
 }
 if [ "$(on_terminal 'test -t 2 && echo yes')" = yes ]; then on_a_terminal; else echo "tests/wrapper.sh: no terminal can be made here"; fi
@@ -412,7 +476,8 @@ if [ "$(on_terminal 'test -t 2 && echo yes')" = yes ]; then on_a_terminal; else 
 # locknest takes no words, and reads whatever it is given.
 nest=$room/nest
 make_top "$nest" && mkdir -p "$nest/crates/locknest/out" "$nest/crates/locknest/src" && : >"$nest/crates/locknest/src/main.rt"
-expect 'locknest, unproved' 'locknest: not proved: no program is built from these sources (./build makes it), so this takes a minute or more
+expect 'locknest, unproved' 'locknest: not proved: no program is built from these sources; ./build locknest proves them and makes it
+locknest: not proved: the sources are compiled for this run, in a minute or more
 locknest: read fault
 status 4' "$(PATH=$with_rt && said "$nest/locknest" </)"
 printf '%s\n' '#!/bin/sh
@@ -448,7 +513,8 @@ if [ "$(on_terminal 'test -t 2 && echo yes')" = yes ]; then nest_on_a_terminal; 
 waits=$room/waits
 make_top "$waits" && mkdir -p "$waits/crates/lockwaits/out" "$waits/crates/lockwaits/src" &&
   : >"$waits/crates/lockwaits/src/main.rt"
-expect 'lockwaits, unproved' 'lockwaits: not proved: no program is built from these sources (./build makes it), so this takes a minute or more
+expect 'lockwaits, unproved' 'lockwaits: not proved: no program is built from these sources; ./build lockwaits proves them and makes it
+lockwaits: not proved: the sources are compiled for this run, in a minute or more
 lockwaits: read fault
 status 4' "$(PATH=$with_rt && said "$waits/lockwaits" </)"
 printf '%s\n' '#!/bin/sh
@@ -537,7 +603,8 @@ if [ "$(on_terminal 'test -t 2 && echo yes')" = yes ]; then waits_on_a_terminal;
 # locklive takes no words, and explains a script that is refused.
 live=$room/live
 make_top "$live" && mkdir -p "$live/crates/locklive/out" "$live/crates/locklive/src" && : >"$live/crates/locklive/src/main.rt"
-expect 'locklive, unproved' 'locklive: not proved: no program is built from these sources (./build makes it), so this takes a minute or more
+expect 'locklive, unproved' 'locklive: not proved: no program is built from these sources; ./build locklive proves them and makes it
+locklive: not proved: the sources are compiled for this run, in a minute or more
 locklive: read fault
 status 4' "$(PATH=$with_rt && said "$live/locklive" </)"
 printf '%s\n' '#!/bin/sh
@@ -606,7 +673,10 @@ fault "$head"'client s at 0\n' 5 7 8 1 'declared before, in line 2'
 fault 'nodes 1\nset s\na lock s read\n' 3 8 1 1 'no client of this name was declared before'
 fault "$head"'a lock b read\n' 5 8 8 1 'b is a client, and not a set'
 fault "$head"'a drop b t\n' 5 8 10 1 'no set of this name was declared before'
-fault 'nodes 17\n' 1 9 7 2 'a script has at most 16 nodes'
+fault 'nodes 17\n' 1 9 7 2 'a script has at most 16 nodes, and 64 if its first line is `version 2`'
+fault 'nodes 65\n' 1 9 7 2 'a script has at most 16 nodes'
+fault "$(awk 'BEGIN { printf "nodes 16\\n"; for (k = 0; k < 65; k++) printf "client c%d at %d\\n", k, k % 16 }')" 66 9 8 3 \
+  'a script has at most 64 clients, and 256 if its first line is `version 2`'
 fault "$head"'a change s read ride\n' 5 10 17 4 'not a mode: intention_read, read, upgrade, intention_write or write'
 fault "$head"'a drop b s\n' 5 11 8 1 'b is on node 1, and a on node 0: a client drops and withdraws for clients of its own node'
 second='version 2\n'"$head"

@@ -21,16 +21,22 @@ LAW = re.compile(r'pub fn (law_\w+)\(\)$')
 CLAUSE = re.compile(r'(requires|ensures) *(\w*) *\{ *(.*)')
 OWNER = re.compile(r'(?:pub )?trait (\w+)|(?:unsafe )?impl(?:<.*?>)? (?:[\w<>\', ]+ for )?(\w+)')
 CALL = re.compile(r'\s*(?:pub )?(?:const )?(?:unsafe )?(?:extern "C" )?fn (\w+)')
+MODULE = re.compile(r' *module _ (.*) where$')
+PARAMETERS = re.compile(r'[({]((?:[^\s(){}]+ )+): ')
+CONTRACT = re.compile(r'\n    (?:requires|ensures) ?\w* ')
+EXPORT = re.compile(r'^pub extern "C" fn ', re.M)
 
 
 @dataclass(frozen=True)
 class Definition:
-    """A definition of a file of `specs/`: `module` is its path as other files import it."""
+    """A definition of a file of `specs/`: `module` is its path as other files import it, `given` the parameters of the blocks
+    `module` that it stands in."""
     module: str
     name: str
     line: int
     text: str
     comment: str
+    given: str = ''
 
     @property
     def crate(self):
@@ -91,6 +97,7 @@ class House:
         text = path.read_text()
         imports, wholes = imports_of(text)
         self.imports[module], self.wholes[module] = imports, wholes
+        text, given = at_margin(text)
         for number, lines in blocks(text):
             code = [line for line in lines if not line.lstrip().startswith('--') and not BESIDE.match(line)]
             head = HEAD.match(code[0]) if code else None
@@ -99,7 +106,7 @@ class House:
             name = head[1]
             comment = ' '.join(line[2:].strip() for line in lines if line.startswith('--'))
             first = number + lines.index(code[0])
-            found = Definition(module, name, first, '\n'.join(code), comment)
+            found = Definition(module, name, first, '\n'.join(code), comment, given.get(first, ''))
             is_data = re.search(r'\bdata\b', code[0])
             makers = [made[1] for line in code[1:] if is_data and (made := MADE.match(line))]
             for known in [name, *makers]:
@@ -123,8 +130,12 @@ class House:
         """What a definition names: modules with names, in the order in which they stand there."""
         imports, wholes = self.imports[found.module], self.wholes[found.module]
         body = re.sub(r'codes "[^"]*"', '', found.text)
-        names = []
-        for word in names_of(body, found.name, lambda word: self.is_variable(found.module, word)):
+        bound = {word for words in PARAMETERS.findall(found.given) for word in words.split()}
+        names, is_variable = [], lambda word: word in bound or self.is_variable(found.module, word)
+        words = [*names_of(found.given, '', is_variable), *names_of(body, found.name, is_variable)]
+        for word in words:
+            if word.partition('.')[0] in bound:
+                continue
             before, _, after = word.partition('.')
             if before in imports:
                 names.append(imports[before])
@@ -156,6 +167,19 @@ class House:
                 else:
                     library.add(key)
         return list(order), code, library
+
+    def named_by_exports(self, crate):
+        """The definitions that the contracts of a crate's exports for C name, in the order of its files."""
+        found = {}
+        for path in sorted((CRATES / crate / 'src').rglob('*.rt')):
+            text = path.read_text()
+            imports = {name: key for module, names in GHOST.findall(text) for name, key in imported(module, names)}
+            for match in EXPORT.finditer(text):
+                clauses = CONTRACT.split(text[match.start():].partition('\n{')[0])[1:]
+                words = [word for clause in clauses for word in names_of(clause, '', lambda _: False)]
+                keys = (imports[word] for word in words if word in imports)
+                found.update((one, None) for key in keys if (one := self.at(key)))
+        return list(found)
 
     @cached_property
     def laws(self):
@@ -213,6 +237,23 @@ def imported(module, names):
         name, _, other = item.strip().partition(' as ')
         if name:
             yield other or name, (module, name)
+
+
+def at_margin(text):
+    """The text with what stands in blocks `module` moved to the margin, without their heads; and of each of their lines the
+    parameters of the blocks that it stands in."""
+    lines, given, within = [], {}, []
+    for number, line in enumerate(text.splitlines(), 1):
+        indent = len(line) - len(line.lstrip())
+        while line.strip() and within and indent <= within[-1][0]:
+            within.pop()
+        if within:
+            given[number] = ' '.join(parameters for _, parameters in within)
+        if match := MODULE.match(line):
+            within.append((indent, match[1]))
+            line = ''
+        lines.append(line[2 * len(within):])
+    return '\n'.join(lines), given
 
 
 def blocks(text):

@@ -83,7 +83,7 @@ function odd_word(wanted, words) {
 function explain_number(    k) {
   k = word[1] == "nodes" ? 2 : 4
   if (word[k] !~ /^[0-9]+$/ || length(word[k]) > 9) point(k, "not a number: 1 to 9 digits")
-  else if (k == 2) point(k, "a script" of_version() " has 1 to " most_nodes() " nodes")
+  else if (k == 2) point(k, "a script" of_version() " has 1 to " most_nodes(version) " nodes")
   else point(k, "not a node of this script, which has " (nodes == 1 ? "node 0 alone" : "nodes 0 to " nodes - 1))
 }
 
@@ -95,14 +95,25 @@ function explain_unknown() {
   else unknown(4, "set")
 }
 
-function most_nodes() { return version > 1 ? 64 : 16 }
-function most_clients() { return version > 1 ? 256 : 64 }
+# The limits of a version.
+function most_nodes(of) { return of > 1 ? 64 : 16 }
+function most_clients(of) { return of > 2 ? 1024 : of > 1 ? 256 : 64 }
 function of_version() { return version > 1 ? " of version " version : "" }
 
-function explain_limit() {
-  if (word[1] == "nodes") point(2, "a script" of_version() " has at most " most_nodes() " nodes")
+# The first later version whose scripts may have so many nodes and clients, if there is one.
+function version_for(nodes, clients,    k) {
+  for (k = version + 1; k <= 3; k++) if (nodes <= most_nodes(k) && clients <= most_clients(k)) return k
+}
+
+# Which first line would allow more: that of the version `later`, if there is one, with which there may be so many.
+function would_have(later, most) { return later ? ", and " most " if its first line is `version " later "`" : "" }
+
+function explain_limit(    later) {
+  if (word[1] == "nodes") point(2, "a script" of_version() " has at most " most_nodes(version) " nodes" \
+                                   would_have(later = version_for(word[2] + 0, 0), most_nodes(later)))
   else if (word[1] == "set") point(2, "a script has at most 8 sets")
   else if (word[1] != "client") point(2, "a script has at most 4,096 commands")
-  else if (clients >= most_clients()) point(2, "a script" of_version() " has at most " most_clients() " clients")
+  else if (clients >= most_clients(version)) point(2, "a script" of_version() " has at most " most_clients(version) " clients" \
+                                                   would_have(later = version_for(nodes, clients + 1), most_clients(later)))
   else point(4, "a node has at most 16 clients")
 }

@@ -1,4 +1,4 @@
-/* lockrun_easy.h: calls that wait, over lockrun.h and lockrun_nodes.h. Plain C11, and C++11; nothing of it is proved.
+/* lockrun_easy.h: calls that wait, over lockrun.h and lockrun_nodes.h. C11 with POSIX, and C++11; nothing of it is proved.
  *
  * No thread runs the nodes: whoever waits turns them, one thread at a time for each node. A caller is used by one thread
  * at a time. A call waits at most `patience` milliseconds, or for ever if that is LOCKRUN_FOREVER.
@@ -207,7 +207,8 @@ static inline uint32_t lockrun_ask_change(lockrun_caller *caller, uint32_t set, 
     return lockrun_call(caller, LOCKRUN_CHANGE, set, held, mode, patience);
 }
 
-/* LOCKRUN_TRUE or LOCKRUN_FALSE. */
+/* LOCKRUN_TRUE; or LOCKRUN_FALSE, which may come though nobody holds the set, on another node than the one that has its token:
+ * lockrun_lock with a short time is granted then. */
 static inline uint32_t lockrun_try(lockrun_caller *caller, uint32_t set, enum lockrun_mode mode, int64_t patience) {
     return lockrun_call(caller, LOCKRUN_TRY, set, mode, 0, patience);
 }

@@ -1,5 +1,5 @@
 /* lockrun_nodes.h: all nodes of a script, with a caller for each client, over lockrun.h; lockrun_easy.h has what callers ask.
- * Plain C11, and C++11; nothing of it is proved.
+ * C11 with POSIX, as -std=gnu11 or -D_POSIX_C_SOURCE=200809L give it, and C++11; nothing of it is proved.
  *
  * Nodes are opened with version 3 of scripts, which alone knows how to give up a wait: its line is put before a text that has
  * no line of a version.
@@ -7,6 +7,9 @@
 #ifndef LOCKRUN_NODES_H
 #define LOCKRUN_NODES_H
 #include "lockrun.h"
+#if defined(__STRICT_ANSI__) && !defined(__cplusplus) && !defined(_POSIX_C_SOURCE) && !defined(_DEFAULT_SOURCE)
+#error "lockrun_nodes.h uses clocks and threads of POSIX: compile with -std=gnu11, or with -D_POSIX_C_SOURCE=200809L"
+#endif
 #include <sched.h>
 #include <stdlib.h>
 #include <string.h>

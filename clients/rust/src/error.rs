@@ -86,7 +86,7 @@ impl fmt::Display for Error {
     fn fmt(&self, out: &mut fmt::Formatter<'_>) -> fmt::Result {
         out.write_str(match self {
             Error::NoMemory => "out of memory",
-            Error::BadArgument => "the script has no such set, mode or client",
+            Error::BadArgument => "a number out of range, or the script has no such set, mode or client",
             Error::BadScript => "the script has a fault",
             Error::Spent => "the session's share of commands is used up",
             Error::LogFull => "a node made as many moves as it may",

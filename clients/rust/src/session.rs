@@ -170,7 +170,8 @@ impl Session {
         }
     }
 
-    /// Has the lock at once, or none.
+    /// Has the lock at once, or none: none may come though nobody holds the set, on another node than the one that has its token.
+    /// `lock_within` with a short time is granted then.
     ///
     /// ```
     /// # use lockrun::Mode;

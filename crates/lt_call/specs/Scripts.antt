@@ -1,7 +1,7 @@
 -- What an input denotes, where it is a script.
 use Rattle.std.specs.Prelude.{◌≡◌, ℕ, List, Option, IfSome, IsSomeAnd, Ok, Err}
 use Rattle.lt_modes.specs.Script.{ScriptData}
-use Rattle.lt_spec.specs.Script.{IsOrdered}
+use Rattle.lt_spec.specs.Ordered.{IsOrdered}
 use Rattle.lt_script.specs.declared.fault.ScriptFault.{ScriptFault}
 use Rattle.lt_script.specs.Reading.{read_of}
 

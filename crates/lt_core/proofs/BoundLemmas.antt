@@ -6,16 +6,21 @@ use Rattle.std.proofs.lemmas.List.{drop_more}
 use Rattle.lt_modes.specs.State.{Parked, ParkedAsk, ParkedTell, SetState, then_do, Letter, Body, AskBody, TellBody, CopyBody, TokenBody, FreezeBody, Desk, place, after_holders_from, entry_of, silent, Made, no_ask}
 use Rattle.lt_modes.specs.Fits.{ask_if, has_client}
 use Rattle.lt_modes.specs.declared.stamp.Stamp.{Stamp}
-use Rattle.lt_modes.specs.SetMove.{finish, dealt, Way, Parks, Goes, way, sent_on, route_by, learn, make_tell, tell_of, finish_by, attend, granted, asked, asked_or_not, ask_of, answers, given, given_up, locked, tried, unlocked, changed, change_held, dropped, retaken, same_wish, take_body, arrive}
+use Rattle.lt_modes.specs.SetMove.{finish, make_tell, finish_by, attend, granted, asked, asked_or_not, ask_of, answers, given, given_up, locked, tried, unlocked, changed, change_held, dropped, retaken, same_wish}
+use Rattle.lt_modes.specs.Routing.{dealt, Way, Parks, Goes, way, sent_on, route_by, learn}
+use Rattle.lt_modes.specs.Telling.{tell_of, told}
+use Rattle.lt_modes.specs.Taking.{take_body, arrive}
 use Rattle.lt_modes.specs.declared.mode.Mode.{Mode}
 use Rattle.lt_modes.specs.declared.parts.Hoped.{Hoped}
 use Rattle.lt_modes.specs.Modes.{bars, same_modes, excludes_itself, Modes, held_modes, count_of, take_lock}
-use Rattle.lt_modes.specs.Serving.{told, queue_of_desk, queue_of, waits, is_gone, without_gone, next_draw, ask_at, serve, hand_over, hand_over_to, hand_over_for}
-use Rattle.lt_modes.specs.Freezing.{can_grant, freeze}
+use Rattle.lt_modes.specs.Serving.{queue_of_desk, queue_of, is_gone, without_gone, ask_at, serve}
+use Rattle.lt_modes.specs.Waiting.{waits, pending_ask, is_before, has_older}
+use Rattle.lt_modes.specs.HandingOver.{next_draw, hand_over, hand_over_to, hand_over_for}
+use Rattle.lt_modes.specs.Freezing.{freeze}
+use Rattle.lt_modes.specs.Granting.{can_grant}
 use Rattle.lt_modes.specs.declared.event.Event.TheVariants as event
 use Rattle.lt_modes.specs.declared.parts.Link.{Link}
 use Rattle.lt_modes.specs.declared.ask.Ask.{Ask}
-use Rattle.lt_modes.specs.Waiting.{pending_ask, is_before, has_older}
 use Rattle.lt_desk.specs.DeskData.{OutData, FitsOut}
 use Rattle.lt_core.specs.Steps.{ask_count, is_ask_of}
 use Rattle.lt_core.specs.declared.set_command.SetCommand.{SetCommand}

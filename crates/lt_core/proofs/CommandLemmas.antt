@@ -1,12 +1,13 @@
 -- The line that a command sends out, and the room that a change of what is held leaves.
 use Rattle.std.proofs.Common.{◌≡◌, ◌∙◌, ℕ, ◌+◌, ◌≤◌, ◌<◌, Bool, true, false, [], ◌∷◌, ◌++◌, length, sym, ap, refl, arith, append-nil, length-append, not, Option, Some, None}
 use Rattle.lt_modes.specs.Modes.{locks_in}
-use Rattle.lt_modes.specs.Freezing.{can_grant}
+use Rattle.lt_modes.specs.Granting.{can_grant}
 use Rattle.lt_modes.specs.State.{SetState, ParkedAsk}
 use Rattle.lt_modes.specs.declared.mode.Mode.{Mode}
 use Rattle.lt_modes.specs.declared.stamp.Stamp.{Stamp}
 use Rattle.lt_modes.specs.declared.ask.Ask.{Ask}
-use Rattle.lt_modes.specs.SetMove.{answers, asked, route}
+use Rattle.lt_modes.specs.SetMove.{answers, asked}
+use Rattle.lt_modes.specs.Routing.{route}
 use Rattle.lt_modes.specs.declared.event.Event.{Event}
 use Rattle.lt_modes.specs.declared.event.Event.TheVariants.{Wait}
 use Rattle.lt_desk.specs.DeskData.{DeskData, OutData, FitsOut, out_after}

@@ -5,3 +5,4 @@ pub mod FitsLemmas
 pub mod BoundServices
 pub mod CommandLemmas
 pub mod StepLemmas
+pub mod StateSeen

@@ -6,8 +6,7 @@ use Rattle.lt_modes.specs.Serving.{answered, answer_event, is_gone, without_gone
 use Rattle.lt_modes.specs.SetMove.{answers, same_wish}
 use Rattle.lt_modes.specs.declared.ask.Ask.{Ask}
 use Rattle.lt_modes.specs.declared.event.Event.TheVariants.{Void}
-use Rattle.lt_modes.specs.Waiting.{pending_ask}
-use Rattle.lt_modes.specs.Serving.{waits}
+use Rattle.lt_modes.specs.Waiting.{pending_ask, waits}
 use Rattle.lt_core.specs.Steps.{answer_ask, grant_ask, live_ask, void_ask}
 use Rattle.lt_core.proofs.BoundLemmas.{find_some}
 use Rattle.lt_core.specs.CoreData.{wish}

@@ -9,7 +9,8 @@ use Rattle.lt_modes.specs.State.{SetState, Desk, FreezeBody, Made, post_of, Park
 use Rattle.lt_modes.specs.declared.stamp.Stamp.{Stamp}
 use Rattle.lt_modes.specs.declared.event.Event.TheVariants.{Freeze}
 use Rattle.lt_modes.specs.Freezing.{freeze, freeze_with, cons_if}
-use Rattle.lt_modes.specs.Serving.{next_draw, queue_of, queue_of_desk, put_queue, served, owed_at, next_service, ask_at, serve, serve_one, serve_local, serve_copy, serve_up_to}
+use Rattle.lt_modes.specs.Serving.{queue_of, queue_of_desk, put_queue, served, owed_at, next_service, ask_at, serve, serve_one, serve_local, serve_copy, serve_up_to}
+use Rattle.lt_modes.specs.HandingOver.{next_draw}
 use Rattle.lt_modes.specs.declared.ask.Ask.{Ask}
 use Rattle.lt_modes.specs.Fits.{Numbers}
 use Rattle.lt_modes.specs.Sound.{SoundDesk}

@@ -3,7 +3,7 @@ use Rattle.std.proofs.Common.{◌≡◌, ◌∙◌, refl, ℕ, ◌+◌, ◌≤�
 use Rattle.lt_modes.specs.Modes.{excludes_itself}
 use Rattle.lt_modes.specs.State.{Parked, ParkedAsk, ParkedTell, Post}
 use Rattle.lt_modes.specs.Fits.{ask_if}
-use Rattle.lt_modes.specs.SetMove.{reversed}
+use Rattle.lt_modes.specs.Routing.{reversed}
 use Rattle.lt_modes.specs.declared.event.Event.{Event}
 use Rattle.lt_modes.specs.declared.parts.Hoped.{Hoped}
 use Rattle.lt_desk.specs.DeskData.{DeskData, OutData}

@@ -3,7 +3,8 @@ use Rattle.std.specs.Prelude.{ℕ, ◌+◌, ◌≤◌, Option, Some, None, lengt
 use Rattle.std.specs.Int.{bit_at}
 use Rattle.lt_modes.specs.declared.stamp.Stamp.{Stamp}
 use Rattle.lt_modes.specs.State.{SetState, Desk, Letter, Body, AskBody, TellBody, CopyBody, TokenBody, FreezeBody, Made, post_of}
-use Rattle.lt_modes.specs.SetMove.{take, finish}
+use Rattle.lt_modes.specs.SetMove.{finish}
+use Rattle.lt_modes.specs.Taking.{take}
 use Rattle.lt_modes.specs.Freezing.{cons_if}
 use Rattle.lt_modes.specs.declared.event.Event.TheVariants.{Freeze}
 use Rattle.lt_modes.specs.Modes.{Modes}

@@ -2,14 +2,14 @@
 use Rattle.std.specs.Prelude.{◌≡◌, ℕ, ◌+◌, ◌≤◌, ◌<◌, length, min, List, Option, Some, None, false, ◌==◌, if◌then◌else◌}
 use Rattle.lt_modes.specs.State.{SetState, Desk, Made, silent, no_ask}
 use Rattle.lt_modes.specs.Modes.{locks_in, count_of, locks_of}
-use Rattle.lt_modes.specs.Serving.{queue_of, is_gone, waits}
-use Rattle.lt_modes.specs.Waiting.{pending_ask}
+use Rattle.lt_modes.specs.Serving.{queue_of, is_gone}
+use Rattle.lt_modes.specs.Waiting.{waits, pending_ask}
 use Rattle.lt_modes.specs.declared.ask.Ask.{Ask as RulesAsk}
 use Rattle.lt_modes.specs.declared.mode.Mode.{Mode}
 use Rattle.lt_modes.specs.Fits.{parked_asks, Numbers}
 use Rattle.lt_modes.specs.Sound.{SoundSet}
 use Rattle.lt_modes.specs.declared.stamp.Stamp.{Stamp}
-use Rattle.lt_modes.specs.Freezing.{can_grant}
+use Rattle.lt_modes.specs.Granting.{can_grant}
 use Rattle.lt_modes.specs.SetMove as rules
 use Rattle.lt_held.specs.HeldData.{most_locks}
 use Rattle.lt_desk.specs.DeskData.{DeskData, OutData, out_after}

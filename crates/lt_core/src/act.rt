@@ -1,6 +1,7 @@
+// What each command of a client does in the set; the end of the move, in finish.rt, follows it.
 ghost use Rattle.std.specs.Prelude.{◌≡◌, ◌+◌, ◌≤◌, ◌<◌, ◌==◌, ℕ, if◌then◌else◌, length, None, Some};
 ghost use Rattle.lt_modes.specs.Modes.{locks_in, locks_of, count_of};
-ghost use Rattle.lt_modes.specs.Freezing.{can_grant};
+ghost use Rattle.lt_modes.specs.Granting.{can_grant};
 ghost use Rattle.lt_modes.specs.SetMove.{given, ask_of, asked, asked_or_not, locked, tried, unlocked, changed, change_held, dropped};
 ghost use Rattle.lt_held.specs.HeldData.{most_locks};
 ghost use Rattle.lt_desk.specs.DeskData.{FitsOut};

@@ -1,3 +1,4 @@
+// Which letters a node can be sent for the set: the test before one is taken.
 ghost use Rattle.std.specs.Prelude.{◌≡◌, ◌+◌, ◌<◌, ◌^◌, ◌++◌, nat_lt, map, filter_map, drop, length, slice_index_or};
 ghost use Rattle.std.specs.List.{list_all};
 ghost use Rattle.lt_modes.specs.State.{no_ask, ParkedAsk};

@@ -1,6 +1,7 @@
+// Granting at once: whether a client can have a lock of a mode without an ask.
 ghost use Rattle.std.specs.Prelude.{◌≡◌, ◌&&◌, not};
 ghost use Rattle.lt_modes.specs.Modes.{has, covers};
-ghost use Rattle.lt_modes.specs.Freezing.{can_grant};
+ghost use Rattle.lt_modes.specs.Granting.{can_grant};
 ghost use Rattle.lt_desk.specs.Sights.{joins_at_desk};
 
 use crate::one_set::Core;

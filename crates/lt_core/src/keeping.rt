@@ -1,3 +1,4 @@
+// How much the core keeps, and that it is within the bounds of a move.
 ghost use Rattle.std.specs.Prelude.{◌≡◌, ◌+◌, ◌<◌, ◌≤◌, ◌^◌, ◌&&◌, nat_le, length, map, filter_map};
 ghost use Rattle.lt_modes.specs.Modes.{locks_in};
 ghost use Rattle.lt_modes.specs.Fits.{asks_here, ask_if};

@@ -1,3 +1,4 @@
+// The laws on room: how many letters and lines a move makes at most, and what suffices for a move.
 ghost use Rattle.lt_core.specs.Bound.{EndsFit, CommandsFit, TakesFit};
 ghost use Rattle.lt_core.specs.CoreData.{MovesHaveRoom};
 

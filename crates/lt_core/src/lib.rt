@@ -2,7 +2,9 @@
 #![tactic(auto)]
 
 mod act;
+mod finish;
 mod fits;
+mod freezing;
 mod granting;
 mod handing;
 mod keeping;

@@ -1,3 +1,4 @@
+// The marks of clients whose unanswered ask was given up.
 ghost use Rattle.std.specs.Prelude.{◌≡◌, ◌≤◌, ◌==◌, ◌∷◌, [], OnOk, IsOk};
 ghost use Rattle.std.specs.List.{list_any};
 ghost use Rattle.lt_modes.specs.Serving.{without_gone};

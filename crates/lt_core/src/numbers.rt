@@ -1,3 +1,4 @@
+// The numbers of a script by which a letter is tested.
 ghost use Rattle.std.specs.Prelude.{◌≡◌};
 ghost use Rattle.lt_modes.specs.Fits.{is_at_home};
 ghost use Rattle.lt_core.specs.Steps.{rule_numbers};

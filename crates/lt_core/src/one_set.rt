@@ -1,7 +1,9 @@
+// The core: what a node keeps for one set, made at the start, with memory taken before a move.
 ghost use Rattle.std.specs.Prelude.{◌≡◌, ◌+◌, ◌≤◌, ◌<◌, ◌^◌, length, map, filter_map, IfOk, IsOk, OnOk, is_some};
 ghost use Rattle.lt_modes.specs.State.{first_state, post_of};
 ghost use Rattle.lt_modes.specs.Modes.{locks_of};
-ghost use Rattle.lt_modes.specs.Serving.{queue_of, waits};
+ghost use Rattle.lt_modes.specs.Serving.{queue_of};
+ghost use Rattle.lt_modes.specs.Waiting.{waits};
 ghost use Rattle.lt_modes.specs.Fits.{has_client, parked_asks, ask_if};
 ghost use Rattle.lt_desk.specs.LetterSeen.{letter_seen, post_seen, body_seen, parked_seen, asks_in, RoomIn, places_in, body_spare};
 ghost use Rattle.lt_core.specs.CoreData.{HasMemory, KeepsRoom, waiting_here, tells_by};

@@ -1,5 +1,6 @@
+// Routing: the way of asks and tells to the desk, and the links that they leave.
 ghost use Rattle.std.specs.Prelude.{◌≡◌, ◌+◌, ◌≤◌, ◌<◌, ℕ, length, None};
-ghost use Rattle.lt_modes.specs.SetMove.{route, sent_on, Goes, reversed, way, learn, dealt};
+ghost use Rattle.lt_modes.specs.Routing.{route, sent_on, Goes, reversed, way, learn, dealt};
 ghost use Rattle.lt_desk.specs.LetterSeen.{parked_seen};
 ghost use Rattle.lt_desk.specs.DeskData.{FitsOut};
 ghost use Rattle.lt_link.specs.Routes.{way_of};

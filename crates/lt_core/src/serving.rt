@@ -1,6 +1,8 @@
+// Serving: how the desk's node serves the asks in its queue, one after the other.
 ghost use Rattle.std.specs.Prelude.{◌≡◌, ◌+◌, ◌≤◌, ◌<◌, length, remove};
 ghost use Rattle.lt_modes.specs.Modes.{add_lock, locks_in};
-ghost use Rattle.lt_modes.specs.Serving.{queue_of, put_queue, next_draw, ask_at, answer_event, serve_one, serve_copy, serve, give_up};
+ghost use Rattle.lt_modes.specs.Serving.{queue_of, put_queue, ask_at, answer_event, serve_one, serve_copy, serve, give_up};
+ghost use Rattle.lt_modes.specs.HandingOver.{next_draw};
 ghost use Rattle.lt_held.specs.HeldData.{most_locks};
 ghost use Rattle.lt_desk.specs.Picks.{picked, IsInQueue};
 ghost use Rattle.lt_desk.specs.DeskData.{FitsOut};

@@ -1,3 +1,4 @@
+// A client's command in one set, and its answer.
 use lt_modes::Mode;
 
 /// What a client's command does in the set of a core.

@@ -1,7 +1,9 @@
+// Taking: what a letter does at the node that takes it.
 ghost use Rattle.std.specs.Prelude.{◌≡◌, ◌+◌, ◌≤◌, [], length, map, filter_map, fold};
 ghost use Rattle.std.specs.VecDeque.{deque_capacity};
 ghost use Rattle.lt_modes.specs.Fits.{ask_if};
-ghost use Rattle.lt_modes.specs.SetMove.{dealt, take_token, take_copy, take_freeze, arrive, take};
+ghost use Rattle.lt_modes.specs.Routing.{dealt};
+ghost use Rattle.lt_modes.specs.Taking.{take_token, take_copy, take_freeze, arrive, take};
 ghost use Rattle.lt_desk.specs.LetterSeen.{parked_seen, letter_seen};
 ghost use Rattle.lt_desk.specs.DeskData.{FitsOut};
 ghost use Rattle.lt_core.specs.CoreData.{Does, HasRoom, RoomForDesk, RoomForBody};

@@ -1,6 +1,7 @@
+// Telling: a node without the desk tells it what it holds, where its held modes bar others than it told.
 ghost use Rattle.std.specs.Prelude.{◌≡◌};
 ghost use Rattle.lt_modes.specs.Modes.{bars, held_modes, same_modes};
-ghost use Rattle.lt_modes.specs.SetMove.{make_tell, tell, attend, finish};
+ghost use Rattle.lt_modes.specs.SetMove.{make_tell, tell};
 ghost use Rattle.lt_desk.specs.DeskData.{FitsOut};
 ghost use Rattle.lt_core.specs.CoreData.{Does, HasRoom};
 
@@ -9,36 +10,9 @@ use lt_desk::{Out, Parked, Tell};
 use lt_modes::Stamp;
 
 impl Core {
-    /// The end of a move: the desk's turn where it is here, else a tell where one is due.
-    #[inline(always)]
-    pub fn finish(&mut self, stamp: Stamp, out: &mut Out)
-        requires node { stamp.node ≡ self.old.node }
-        requires room { HasRoom 1 stamp.clock self.old }
-        requires fits { FitsOut (finish self.old.set stamp self.old.state) out.old }
-        ensures does { Does (finish self.old.set stamp self.old.state) self.old out.old self.new out.new }
-    {
-        if self.desk.is_some() {
-            self.attend(stamp, out);
-        } else {
-            self.tell(stamp, out);
-        }
-    }
-
-    // The desk's turn: services, then freezes, then the token.
-    fn attend(&mut self, stamp: Stamp, out: &mut Out)
-        requires node { stamp.node ≡ self.old.node }
-        requires room { HasRoom 0 stamp.clock self.old }
-        requires fits { FitsOut (attend self.old.set stamp self.old.state) out.old }
-        ensures does { Does (attend self.old.set stamp self.old.state) self.old out.old self.new out.new }
-    {
-        let draw = self.serve(stamp, out);
-        self.freeze(stamp, out);
-        self.hand_over(draw, stamp, out);
-    }
-
     // A tell where the held modes bar other modes than the charge does.
     #[inline(always)]
-    fn tell(&mut self, stamp: Stamp, out: &mut Out)
+    pub(crate) fn tell(&mut self, stamp: Stamp, out: &mut Out)
         requires node { stamp.node ≡ self.old.node }
         requires room { HasRoom 1 stamp.clock self.old }
         requires fits { FitsOut (tell self.old.set stamp self.old.state) out.old }

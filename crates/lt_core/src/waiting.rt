@@ -1,8 +1,10 @@
+// Who waits here, and which asks stand before a client's ask.
 ghost use Rattle.std.specs.Prelude.{◌≡◌, ◌<◌, ◌==◌, ◌&&◌, is_some, length, slice_index_or};
 ghost use Rattle.lt_modes.specs.Modes.{count_of, excludes_itself};
 ghost use Rattle.lt_modes.specs.State.{no_ask, ParkedAsk};
-ghost use Rattle.lt_modes.specs.Serving.{waits, queue_of, ask_at, is_newer};
-ghost use Rattle.lt_modes.specs.Waiting.{pending_ask, is_before, stands_before, has_older, parked_behind};
+ghost use Rattle.lt_modes.specs.Serving.{queue_of, ask_at};
+ghost use Rattle.lt_modes.specs.Waiting.{waits, pending_ask, is_before, stands_before, has_older, parked_behind};
+ghost use Rattle.lt_modes.specs.Telling.{is_newer};
 ghost use Rattle.lt_core.specs.Behind.{is_behind_older};
 ghost use Rattle.lt_core.specs.Steps.{live_ask};
 

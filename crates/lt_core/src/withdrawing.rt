@@ -1,8 +1,8 @@
 // A wait that is given up, and an ask that was given up and is wanted again.
 ghost use Rattle.std.specs.Prelude.{◌≡◌, ◌≤◌, true, if◌then◌else◌, OnOk, IsOk};
-ghost use Rattle.lt_modes.specs.Serving.{is_gone, waits};
+ghost use Rattle.lt_modes.specs.Serving.{is_gone};
+ghost use Rattle.lt_modes.specs.Waiting.{waits, pending_ask};
 ghost use Rattle.lt_modes.specs.SetMove.{ask_of, given_up, retaken, same_wish, withdrawn};
-ghost use Rattle.lt_modes.specs.Waiting.{pending_ask};
 ghost use Rattle.lt_desk.specs.DeskData.{FitsOut};
 ghost use Rattle.lt_core.specs.declared.set_command.Answer.TheVariants.{True, False};
 ghost use Rattle.lt_core.specs.CoreData.{Does, HasRoom, KeepsRoom, RoomToMark, told_to_wait, wish};

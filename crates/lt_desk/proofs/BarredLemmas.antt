@@ -7,7 +7,8 @@ use Rattle.lt_modes.specs.declared.mode.Mode.{Mode}
 use Rattle.lt_modes.specs.declared.ask.Ask.{Ask}
 use Rattle.lt_modes.specs.Modes.{Modes, has, bars, union, one, no_modes, with_mode, is_within, same_mode}
 use Rattle.lt_modes.specs.State.{SetState, Desk, others, modes_of_asks, no_ask}
-use Rattle.lt_modes.specs.Serving.{is_local, is_copy, is_clear_at_home, is_free, next_from, draw_from, is_void}
+use Rattle.lt_modes.specs.Serving.{is_local, is_copy, is_clear_at_home, is_free, next_from, is_void}
+use Rattle.lt_modes.specs.HandingOver.{draw_from}
 use Rattle.lt_modes.proofs.ModeAlgebra.{has-union, has-modes_by, has-itself, every_mode-at, same_members}
 use Rattle.lt_desk.proofs.BarsLemmas.{bars_union}
 

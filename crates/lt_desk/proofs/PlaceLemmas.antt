@@ -3,7 +3,8 @@ use Rattle.std.proofs.Common.{◌≡◌, ◌∙◌, ℕ, ◌+◌, ◌<◌, ◌�
 use Rattle.lt_modes.specs.declared.ask.Ask.{Ask}
 use Rattle.lt_modes.specs.Modes.{Modes, with_mode}
 use Rattle.lt_modes.specs.State.{no_ask, SetState, Desk}
-use Rattle.lt_modes.specs.Serving.{is_served, may_draw, next_from, draw_from}
+use Rattle.lt_modes.specs.Serving.{is_served, next_from}
+use Rattle.lt_modes.specs.HandingOver.{may_draw, draw_from}
 use Rattle.std.proofs.lemmas.List.{drop_all}
 use Rattle.lt_desk.specs.Picks.{first_of, hand_over_or_none, IsInQueue}
 use Rattle.lt_desk.specs.declared.pick.Pick.TheVariants.{Local, Copy}

@@ -4,7 +4,8 @@ use Rattle.std.proofs.lemmas.Bool.{or_left, or_right}
 use Rattle.lt_modes.specs.declared.ask.Ask.{Ask}
 use Rattle.lt_modes.specs.Modes.{Modes, has, bars, union, covers, other_modes}
 use Rattle.lt_modes.specs.State.{SetState, Desk, own_owed, others, no_ask}
-use Rattle.lt_modes.specs.Serving.{is_served, may_draw, is_clear_at_home, next_service, next_draw, queue_of, is_void, is_ready}
+use Rattle.lt_modes.specs.Serving.{is_served, is_clear_at_home, next_service, queue_of, is_void, is_ready}
+use Rattle.lt_modes.specs.HandingOver.{may_draw, next_draw}
 use Rattle.lt_desk.specs.Picks.{picked, picked_by, hand_over_or_none, first_of, turn_by, is_service, is_draw}
 use Rattle.lt_desk.specs.declared.pick.Pick.TheVariants.{Local, Copy}
 use Rattle.lt_desk.specs.declared.pick.Turn.{Turn}

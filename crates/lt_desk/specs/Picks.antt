@@ -2,7 +2,8 @@
 use Rattle.std.specs.Prelude.{Bool, true, false, ℕ, ◌<◌, ◌==◌, List, Option, Some, None, if◌then◌else◌, slice_index_or}
 use Rattle.lt_modes.specs.declared.ask.Ask.{Ask}
 use Rattle.lt_modes.specs.State.{SetState, no_ask}
-use Rattle.lt_modes.specs.Serving.{queue_of, next_service, next_draw}
+use Rattle.lt_modes.specs.Serving.{queue_of, next_service}
+use Rattle.lt_modes.specs.HandingOver.{next_draw}
 use Rattle.lt_desk.specs.declared.pick.Pick.{Pick}
 use Rattle.lt_desk.specs.declared.pick.Turn.{Turn}
 use Rattle.lt_desk.specs.declared.pick.Turn.TheVariants.{Served, Draws, Later}

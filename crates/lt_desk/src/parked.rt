@@ -1,5 +1,5 @@
 ghost use Rattle.std.specs.Prelude.{◌≡◌};
-ghost use Rattle.lt_modes.specs.SetMove.{body_of};
+ghost use Rattle.lt_modes.specs.Routing.{body_of};
 ghost use Rattle.lt_desk.specs.LetterSeen.{parked_seen, body_seen};
 
 use crate::letter::Body;

@@ -1,7 +1,8 @@
 ghost use Rattle.std.specs.Prelude.{◌≡◌, ◌≢◌, ◌==◌, ◌&&◌, ◌||◌, length, Some, None, true, false, [], if◌then◌else◌};
 ghost use Rattle.lt_modes.specs.Modes.{Modes, bars, is_within};
 ghost use Rattle.lt_modes.specs.State.{own_part};
-ghost use Rattle.lt_modes.specs.Serving.{is_served, is_void, is_gone, may_draw, is_clear_at_home};
+ghost use Rattle.lt_modes.specs.Serving.{is_served, is_void, is_gone, is_clear_at_home};
+ghost use Rattle.lt_modes.specs.HandingOver.{may_draw};
 ghost use Rattle.lt_desk.specs.Picks.{picked, first_of, hand_over_or_none, IsInQueue, turn_by, is_draw};
 ghost use Rattle.lt_desk.specs.declared.pick.Pick.TheVariants.{Local, Copy};
 ghost use Rattle.lt_desk.specs.Sights.{sight_state, desk_of};
@@ -55,7 +56,16 @@ impl Sight<'_> {
     }
 
     // Whether the client's unanswered ask was given up.
+    #[inline(always)]
     fn is_gone(&self, client: u16) -> bool
+        ensures { result ≡ is_gone (sight_state self.now) client }
+    {
+        !self.gone.is_empty() && self.finds(client)
+    }
+
+    // The same where some ask was given up.
+    #[inline(never)]
+    fn finds(&self, client: u16) -> bool
         ensures { result ≡ is_gone (sight_state self.now) client }
     {
         self.gone.iter().any(|other| *other == client)

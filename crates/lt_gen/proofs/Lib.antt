@@ -1,3 +1,4 @@
 pub mod Generated
 pub mod SizeLemmas
 pub mod GroupLemmas
+pub mod MadeScript

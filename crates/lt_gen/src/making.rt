@@ -1,39 +1,59 @@
-ghost use Rattle.std.specs.Prelude.{◌≡◌, ◌<◌, ◌≤◌, ◌*◌, ◌+◌, ◌++◌, ◌∷◌, [], map, length, All, IfOk, OnOk, IsTrue};
-ghost use Rattle.lt_spec.specs.Script.{IsScript, IsShort, IsRequest, IsOfVersion};
-ghost use Rattle.lt_spec.specs.declared.limits.TheConstants.{MAX_CLIENTS_OF_FIRST, MAX_CLIENTS_OF_NODE, MAX_COMMANDS};
+ghost use Rattle.std.specs.Prelude.{◌≡◌, ◌<◌, ◌≤◌, ◌*◌, ◌+◌, ◌++◌, ◌∷◌, ◌⊎◌, [], map, length, All, IfOk, OnOk, IsTrue};
+ghost use Rattle.lt_spec.specs.Script.{IsScript, IsShort, IsRequest, IsOfVersion, most_nodes, most_clients};
+ghost use Rattle.lt_spec.specs.declared.limits.TheConstants.{MAX_CLIENTS_OF_NODE, MAX_COMMANDS};
 ghost use Rattle.lt_gen.specs.Sizes.{can_make};
 ghost use Rattle.lt_gen.specs.Generator.{four_sets, drawn_client, clients_of, requests_in, script_of, HasSizes};
 
 use crate::draws::Draws;
-use crate::group::Group;
+use crate::group::{Group, Sizes};
 use lt_modes::Command;
 use lt_script::Script;
 use lt_text::push_number;
 use std::alloc::{AllocError, Global};
 
-/// A script with four sets and so many nodes, clients and commands, the same one from the same seed.
+/// A script of this version with four sets and so many nodes, clients and commands, the same one from the same seed.
 ///
 /// Client `cI` is on node I modulo `nodes`. The clients take turns: each makes a few commands that take one lock and
-/// give it up.
+/// give it up. In version 3 a client sometimes gives up what it waits for, or what a client of its node does.
 pub fn script(
     alloc: Global,
+    version: u8,
     nodes: u8,
     clients: u16,
     commands: u32,
     seed: u64,
 ) -> Result<Script, AllocError>
-    requires { IsTrue (can_make nodes clients commands) }
-    ensures made { IfOk result (λ s. s ≡ script_of nodes clients commands seed) }
+    requires { IsTrue (can_make version nodes clients commands) }
+    ensures made { IfOk result (λ s. s ≡ script_of version nodes clients commands seed) }
     ensures sizes { IfOk result (HasSizes nodes 4 clients commands) }
     ensures kept { IfOk result IsScript }
     ensures short { IfOk result IsShort }
 {
-    let mut script = Script::new(alloc, nodes)?;
+    let mut script = without_sets(alloc, version, nodes)?;
     add_sets(&mut script)?;
     add_clients(alloc, &mut script, clients)?;
-    add_commands(alloc, &mut script, clients, commands, Draws::new(seed))?;
+    let sizes = Sizes {
+        version,
+        nodes,
+        clients,
+    };
+    add_commands(alloc, &mut script, sizes, commands, Draws::new(seed))?;
     keeps(&script);
     Ok(script)
+}
+
+fn without_sets(alloc: Global, version: u8, nodes: u8) -> Result<Script, AllocError>
+    requires version { (version ≡ 1) ⊎ ((version ≡ 2) ⊎ (version ≡ 3)) }
+    requires some_node { 0 < nodes }
+    requires few_nodes { nodes ≤ most_nodes version }
+    ensures { IfOk result
+        (λ s. s ≡ record { version = version; nodes = nodes; sets = []; clients = []; commands = [] }) }
+{
+    match version {
+        1 => Script::new(alloc, nodes),
+        2 => Script::new_v2(alloc, nodes),
+        _ => Script::new_v3(alloc, nodes),
+    }
 }
 
 // What a script keeps.
@@ -55,8 +75,7 @@ fn add_sets(script: &mut Script) -> Result<(), AllocError>
 }
 
 fn add_clients(alloc: Global, script: &mut Script, clients: u16) -> Result<(), AllocError>
-    requires version { script.old.version ≡ 1 }
-    requires few { clients ≤ MAX_CLIENTS_OF_FIRST }
+    requires few { clients ≤ most_clients script.old.version }
     requires on_nodes { clients ≤ script.old.nodes * MAX_CLIENTS_OF_NODE }
     requires sets { script.old.sets ≡ four_sets }
     requires none { script.old.clients ≡ [] }
@@ -82,23 +101,25 @@ fn client_name(alloc: Global, client: u16) -> Result<Vec<u8>, AllocError>
 fn add_commands(
     alloc: Global,
     script: &mut Script,
-    clients: u16,
+    sizes: Sizes,
     commands: u32,
     mut draws: Draws,
 ) -> Result<(), AllocError>
     requires few { commands ≤ MAX_COMMANDS }
-    requires some_client { 0 < clients }
-    requires clients { length script.old.clients ≡ clients }
+    requires some_node { 0 < sizes.nodes }
+    requires some_client { 0 < sizes.clients }
+    requires version { script.old.version ≡ sizes.version }
+    requires clients { script.old.clients ≡ clients_of sizes.nodes sizes.clients }
     requires sets { script.old.sets ≡ four_sets }
     requires none { script.old.commands ≡ [] }
     ensures { OnOk result (script.new
-        ≡ record script.old { commands = requests_in commands clients commands 0 draws }) }
+        ≡ record script.old { commands = requests_in commands sizes commands 0 draws }) }
 {
     let mut left = commands;
     let mut turn: u32 = 0;
     while left > 0 {
-        let client = (turn % u32::from(clients)) as u16;
-        let group = Group::drawn(&mut draws, left);
+        let client = (turn % u32::from(sizes.clients)) as u16;
+        let group = Group::drawn(&mut draws, sizes, client, left);
         let made = group.commands(alloc)?;
         add_turn(script, client, &made)?;
         left -= made.len() as u32;

@@ -6,7 +6,7 @@ use Rattle.lt_modes.specs.declared.ask.Ask.{Ask}
 use Rattle.lt_modes.specs.declared.parts.Owed.{Owed}
 use Rattle.lt_modes.specs.Modes.{Modes, has, held_modes, conflicts}
 use Rattle.lt_modes.specs.State.{Entry, Tell, record_of, modes_of_owed, still_owed, modes_of_asks, is_unanswered}
-use Rattle.lt_modes.specs.Serving.{is_newer, is_open, left_owed, told, stamps_of}
+use Rattle.lt_modes.specs.Telling.{is_newer, is_open, left_owed, told, stamps_of}
 use Rattle.lt_modes.proofs.StampOrder.{newer_in_turn, newer_one_way, newer_not_before}
 use Rattle.lt_modes.proofs.ModeAlgebra.{conflicts-sym, union_below, clear_below, clear_both_ways}
 use Rattle.lt_lists.proofs.Members.{contains_filter, contains_filtered, contains_map}

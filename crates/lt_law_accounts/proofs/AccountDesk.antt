@@ -7,7 +7,8 @@ use Rattle.lt_modes.specs.declared.ask.Ask.{Ask}
 use Rattle.lt_modes.specs.declared.parts.Owed.{Owed}
 use Rattle.lt_modes.specs.Modes.{Modes, conflicts, has, with_mode, bars, held_modes}
 use Rattle.lt_modes.specs.State.{Entry, Tell, modes_of_asks, record_of, modes_of_owed}
-use Rattle.lt_modes.specs.Serving.{is_open, left_owed, owing}
+use Rattle.lt_modes.specs.Serving.{owing}
+use Rattle.lt_modes.specs.Telling.{is_open, left_owed}
 use Rattle.lt_modes.specs.Sound.{IsNoLater}
 use Rattle.lt_modes.proofs.ModeAlgebra.{conflicts-sym, covers_by_table, copy_is_not_taking}
 use Rattle.lt_law_accounts.specs.Account.{AsksKnown, Covers, Bars, IsBelow, left_after, now_modes, own_of}

@@ -9,7 +9,7 @@ use Rattle.lt_modes.specs.declared.stamp.Stamp.{Stamp}
 use Rattle.lt_modes.specs.declared.ask.Ask.{Ask}
 use Rattle.lt_modes.specs.declared.parts.Owed.{Owed}
 use Rattle.lt_modes.specs.State.{Tell, has_stamp, modes_of_asks, record_of, modes_of_owed, is_unanswered, still_owed}
-use Rattle.lt_modes.specs.Serving.{is_newer, is_open, is_listed, same_stamp, left_owed}
+use Rattle.lt_modes.specs.Telling.{is_newer, is_open, is_listed, same_stamp, left_owed}
 use Rattle.lt_modes.specs.Sound.{IsNoLater, ChargeKept}
 use Rattle.lt_lists.proofs.Members.{contains_first, contains_later, contains_cases, contains_filter, contains_filtered, list_any-at, list_any-which}
 use Rattle.lt_law_accounts.specs.Account.{Account, AccountKept, CopiesOwed, Bars, IsBelow, owed_and_waiting, now_modes}

@@ -5,7 +5,7 @@ use Rattle.lt_modes.specs.declared.mode.Mode.{Mode}
 use Rattle.lt_modes.specs.declared.parts.Owed.{Owed}
 use Rattle.lt_modes.specs.Modes.{Modes, conflicts, has, no_modes, with_mode, held_modes}
 use Rattle.lt_modes.specs.State.{modes_of_asks, Tell}
-use Rattle.lt_modes.specs.Serving.{is_newer, is_open, left_owed}
+use Rattle.lt_modes.specs.Telling.{is_newer, is_open, left_owed}
 use Rattle.lt_modes.proofs.ModeAlgebra.{conflicts-sym, union_bars_both, clear_below, clear_both_ways, none_in_none}
 use Rattle.lt_modes.proofs.StampOrder.{newer_in_turn}
 use Rattle.lt_modes.specs.declared.ask.Ask.{Ask}

@@ -6,7 +6,7 @@ use Rattle.lt_modes.specs.declared.ask.Ask.{Ask}
 use Rattle.lt_modes.specs.declared.parts.Owed.{Owed}
 use Rattle.lt_modes.specs.Modes.{conflicts, has, held_modes, no_modes}
 use Rattle.lt_modes.specs.State.{Entry, Tell, modes_of_asks, record_of, modes_of_owed, first_entry}
-use Rattle.lt_modes.specs.Serving.{is_newer, is_open, left_owed, stamps_of}
+use Rattle.lt_modes.specs.Telling.{is_newer, is_open, left_owed, stamps_of}
 use Rattle.lt_modes.proofs.ModeAlgebra.{union_bars_both}
 use Rattle.lt_modes.proofs.StampOrder.{newer_by_clock, newer_not_before, not_after_itself}
 use Rattle.lt_lists.proofs.Members.{contains_map, contains_mapped, none_in}

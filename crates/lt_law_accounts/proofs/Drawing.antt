@@ -6,7 +6,8 @@ use Rattle.lt_modes.specs.declared.mode.Mode.{Mode}
 use Rattle.lt_modes.specs.declared.ask.Ask.{Ask}
 use Rattle.lt_modes.specs.Modes.{Modes, no_modes, has, union, bars, with_mode, conflicts}
 use Rattle.lt_modes.specs.State.{SetState, Desk, no_ask, modes_of_asks, others, modes_at}
-use Rattle.lt_modes.specs.Serving.{is_free, is_clear_at_home, may_draw, draw_from, move_at}
+use Rattle.lt_modes.specs.Serving.{is_free, is_clear_at_home}
+use Rattle.lt_modes.specs.HandingOver.{may_draw, draw_from, move_at}
 use Rattle.lt_modes.proofs.ModeAlgebra.{bars_by_table}
 use Rattle.lt_law_accounts.proofs.AccountFacts.{has-union, has-left, has-right, mode_which, mode_at}
 use Rattle.lt_law_accounts.specs.Account.{AgreesWith, MayDraw, DrawsAt, IsFirstDrawing, DrawnByFirst}

@@ -5,8 +5,8 @@ use Rattle.lt_modes.specs.declared.ask.Ask.{Ask}
 use Rattle.lt_modes.specs.declared.parts.Hoped.{Hoped}
 use Rattle.lt_modes.specs.Modes.{excludes_itself}
 use Rattle.lt_modes.specs.State.{SetState, Parked, ParkedAsk, ParkedTell}
-use Rattle.lt_modes.specs.SetMove.{Parks, Goes, way, way_onward, hoped_way, is_behind}
-use Rattle.lt_modes.specs.Serving.{is_newer}
+use Rattle.lt_modes.specs.Routing.{Parks, Goes, way, way_onward, hoped_way, is_behind}
+use Rattle.lt_modes.specs.Telling.{is_newer}
 use Rattle.lt_lists.proofs.Members.{list_any-at, list_any-which}
 use Rattle.lt_law_accounts.specs.Account.{IsBehindTaking, IsMarkedBehind, ParksBehindTakingAsk, KeepsFreezeOfSameNumber, TakesLaterFreeze}
 

@@ -9,9 +9,11 @@ use Rattle.lt_modes.specs.declared.parts.Owed.{Owed}
 use Rattle.lt_modes.specs.Modes.{Modes, conflicts, has, union, bars, held_modes, excludes_itself}
 use Rattle.lt_modes.specs.ModeLaws.{BarsBy, IsBelowBy, AreClearBy}
 use Rattle.lt_modes.specs.State.{Entry, Tell, modes_of_asks, modes_of_owed, record_of, still_owed, SetState, Desk, Parked, ParkedAsk, no_ask, entered, others, modes_at}
-use Rattle.lt_modes.specs.Serving.{is_newer, is_open, left_owed, next_draw}
+use Rattle.lt_modes.specs.Telling.{is_newer, is_open, left_owed}
+use Rattle.lt_modes.specs.HandingOver.{next_draw}
 use Rattle.lt_modes.specs.Sound.{IsNoLater, ChargeKept}
-use Rattle.lt_modes.specs.SetMove.{Parks, way, take_freeze}
+use Rattle.lt_modes.specs.Routing.{Parks, way}
+use Rattle.lt_modes.specs.Taking.{take_freeze}
 
 -- a mode of the set conflicts with this one
 abbrev pub Bars : Modes → Mode → Type 0

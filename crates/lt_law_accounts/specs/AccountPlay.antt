@@ -5,7 +5,7 @@ use Rattle.lt_modes.specs.declared.stamp.Stamp.{Stamp}
 use Rattle.lt_modes.specs.declared.ask.Ask.{Ask}
 use Rattle.lt_modes.specs.Modes.{Modes, with_mode, held_modes, conflicts, no_modes, union}
 use Rattle.lt_modes.specs.State.{Tell, first_entry}
-use Rattle.lt_modes.specs.Serving.{is_newer}
+use Rattle.lt_modes.specs.Telling.{is_newer}
 use Rattle.lt_modes.specs.declared.parts.Row.{Row}
 use Rattle.lt_lists.specs.Below.{put}
 use Rattle.lt_law_accounts.specs.Account.{Account, AccountKept, Bars, IsBelow, AreClear, counted}

@@ -6,7 +6,8 @@ use Rattle.lt_modes.specs.declared.stamp.Stamp.{Stamp}
 use Rattle.lt_modes.specs.declared.ask.Ask.{Ask}
 use Rattle.lt_modes.specs.Modes.{Modes, has, union, bars, covers, with_mode, add_lock, take_lock, without_client, own_modes, other_modes, held_modes}
 use Rattle.lt_modes.specs.State.{Tell, without, record_of, still_owed}
-use Rattle.lt_modes.specs.Serving.{told, give_up, answered, owing, stamps_of}
+use Rattle.lt_modes.specs.Serving.{give_up, answered, owing}
+use Rattle.lt_modes.specs.Telling.{told, stamps_of}
 use Rattle.lt_law_accounts.specs.Account.{Account, owed_and_waiting}
 
 -- the later list has the item and all that the former has, and nothing else

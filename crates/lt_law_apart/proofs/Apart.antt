@@ -16,7 +16,7 @@ use Rattle.lt_spec.specs.NodeMove.{with_commands, SameAt, AreAt, share_of, home}
 use Rattle.lt_spec.specs.Holdings.{lines_of}
 use Rattle.lt_spec.specs.Script.{IsScript, IsRequest, IsOfVersion}
 use Rattle.lt_spec.specs.World.{start, replies_of}
-use Rattle.lt_spec.specs.FixedOrder.{Plays}
+use Rattle.lt_spec.specs.Plays.{Plays}
 use Rattle.lt_spec.specs.declared.limits.TheConstants.{MAX_COMMANDS_OF_SERVICE}
 use Rattle.lt_law_invariant.proofs.FewAsks.{whole}
 use Rattle.lt_law_own_lines.proofs.OwnRuns.{replies_of_log}

@@ -9,7 +9,7 @@ use Rattle.lt_spec.specs.NodeMove.{with_commands, AreAt, commands_of, home}
 use Rattle.lt_spec.specs.Holdings.{lines_of}
 use Rattle.lt_spec.specs.Script.{IsScript}
 use Rattle.lt_spec.specs.World.{Logged, start, is_of_node, IsRun, replies_of}
-use Rattle.lt_spec.specs.FixedOrder.{Plays}
+use Rattle.lt_spec.specs.Plays.{Plays}
 use Rattle.lt_spec.specs.declared.limits.TheConstants.{MAX_COMMANDS_OF_SERVICE}
 use Rattle.lt_merge.specs.Merging.{AreRising}
 use Rattle.lt_law_plays.specs.Merged.{Part, Joined, logs_of, merged}

@@ -7,7 +7,8 @@ use Rattle.lt_modes.specs.declared.moves.Step.{Step}
 use Rattle.lt_modes.specs.declared.moves.Step.TheVariants.{Act, Take}
 use Rattle.lt_modes.specs.Script.{ScriptData}
 use Rattle.lt_modes.specs.State.{Letter}
-use Rattle.lt_modes.specs.Serving.{waits, is_gone}
+use Rattle.lt_modes.specs.Serving.{is_gone}
+use Rattle.lt_modes.specs.Waiting.{waits}
 use Rattle.lt_spec.specs.NodeMove.{home, commands_of, node_waits, has_command, next_command, withdraws_itself, is_free_at}
 use Rattle.lt_spec.specs.World.{World, made_by, is_waiting, is_runnable, is_some_letter, has_mail, is_enabled, is_at_rest, is_free_to_act}
 use Rattle.lt_spec.specs.FixedOrder.{Turn, act_turn, takes, next_act, act_after, acts_before, count_turns}

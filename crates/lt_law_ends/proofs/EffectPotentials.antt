@@ -6,9 +6,12 @@ use Rattle.lt_modes.specs.declared.stamp.Stamp.{Stamp}
 use Rattle.lt_modes.specs.declared.ask.Ask.{Ask}
 use Rattle.lt_modes.specs.Modes.{Modes, no_modes, excludes_itself, bars, same_modes, held_modes}
 use Rattle.lt_modes.specs.State.{SetState, Desk, Body, CopyBody, TokenBody, FreezeBody, Letter, Parked, ParkedAsk, ParkedTell, Made, Post, silent, post_of, place, no_ask, entry_of}
-use Rattle.lt_modes.specs.Serving.{queue_of, queue_of_desk, put_queue, owed_at, owing, ask_at, next_service, draw_from, move_at, next_draw, served, serve_one, serve_local, serve_copy, hand_over_to, leaving}
+use Rattle.lt_modes.specs.Serving.{queue_of, queue_of_desk, put_queue, owed_at, owing, ask_at, next_service, served, serve_one, serve_local, serve_copy}
+use Rattle.lt_modes.specs.HandingOver.{draw_from, move_at, next_draw, hand_over_to, leaving}
 use Rattle.lt_modes.specs.Freezing.{freeze, freeze_at, frozen_by, targets, number_after}
-use Rattle.lt_modes.specs.SetMove.{Way, Parks, Goes, dealt, body_of, reversed, sent_on, route, tell_of, make_tell, asked}
+use Rattle.lt_modes.specs.SetMove.{make_tell, asked}
+use Rattle.lt_modes.specs.Routing.{Way, Parks, Goes, dealt, body_of, reversed, sent_on, route}
+use Rattle.lt_modes.specs.Telling.{tell_of}
 use Rattle.lt_spec.specs.Facts.{tokens_in}
 use Rattle.lt_model.specs.PathEffects.{posts_weight}
 use Rattle.lt_model.proofs.Effects.{Fact, HoldsOf, route_ways}

@@ -9,7 +9,8 @@ use Rattle.lt_modes.specs.declared.ask.Ask.{Ask}
 use Rattle.lt_modes.specs.Modes.{Modes, has, bars, has_none, is_within, same_modes, held_modes}
 use Rattle.lt_modes.specs.State.{SetState, Desk, Entry, FreezeBody, Made, Post, post_of, no_ask, record_of, entry_of}
 use Rattle.lt_modes.specs.Freezing.{cons_if, places_from, map_from, freeze, freeze_at, frozen_by, is_target, targets, frozen_entry, number_after}
-use Rattle.lt_modes.specs.Serving.{queue_of, queue_of_desk, put_queue, owed_at, owing, ask_at, served, serve_one, serve_local, serve_copy, hand_over_to, settled}
+use Rattle.lt_modes.specs.Serving.{queue_of, queue_of_desk, put_queue, owed_at, owing, ask_at, served, serve_one, serve_local, serve_copy}
+use Rattle.lt_modes.specs.HandingOver.{hand_over_to, settled}
 use Rattle.lt_model.specs.PathEffects.{posts_weight}
 use Rattle.lt_law_ends.specs.Weights.{queued_weight, is_untold, untold, letter_weight, due_weight, here_weight, state_weight}
 

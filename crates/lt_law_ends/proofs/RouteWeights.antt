@@ -6,8 +6,9 @@ use Rattle.lt_modes.specs.declared.ask.Ask.{Ask}
 use Rattle.lt_modes.specs.Modes.{excludes_itself, bars, same_modes, held_modes}
 use Rattle.lt_modes.specs.State.{SetState, Desk, Parked, ParkedAsk, ParkedTell, silent, place, entry_of}
 use Rattle.lt_modes.specs.Freezing.{frozen_by}
-use Rattle.lt_modes.specs.Serving.{told}
-use Rattle.lt_modes.specs.SetMove.{Way, Parks, Goes, dealt, body_of, reversed, sent_on, route, way, way_onward, tell_of, make_tell, asked}
+use Rattle.lt_modes.specs.Telling.{told, tell_of}
+use Rattle.lt_modes.specs.SetMove.{make_tell, asked}
+use Rattle.lt_modes.specs.Routing.{Way, Parks, Goes, dealt, body_of, reversed, sent_on, route, way, way_onward}
 use Rattle.lt_model.proofs.Effects.{route_ways}
 use Rattle.lt_law_ends.specs.Weights.{tell_weight, queued_weight, ask_weight, is_untold, desk_weight, parked_weight, body_weight, due_weight, here_weight, state_weight}
 use Rattle.lt_law_ends.proofs.EffectWeights.{IsDeskFit, IsFit, Weighs, count-set, few_untold, same_itself}

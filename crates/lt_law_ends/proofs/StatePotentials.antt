@@ -7,9 +7,12 @@ use Rattle.lt_modes.specs.declared.parts.Link.{Link}
 use Rattle.lt_modes.specs.declared.parts.Row.{Row}
 use Rattle.lt_modes.specs.Modes.{Modes, no_modes, bars, same_modes, held_modes, take_lock}
 use Rattle.lt_modes.specs.State.{SetState, Desk, Body, AskBody, TellBody, CopyBody, TokenBody, FreezeBody, Letter, Parked, ParkedAsk, ParkedTell, Post, silent}
-use Rattle.lt_modes.specs.Serving.{queue_of, ask_at, next_at, next_service, serve_one, hand_over_to}
+use Rattle.lt_modes.specs.Serving.{queue_of, ask_at, next_at, next_service, serve_one}
+use Rattle.lt_modes.specs.HandingOver.{hand_over_to}
 use Rattle.lt_modes.specs.Freezing.{freeze}
-use Rattle.lt_modes.specs.SetMove.{learn, dealt, make_tell, take_body, take_copy, take_token, arrive, ask_of, asked, given, dropped, take}
+use Rattle.lt_modes.specs.SetMove.{make_tell, ask_of, asked, given, dropped}
+use Rattle.lt_modes.specs.Routing.{learn, dealt}
+use Rattle.lt_modes.specs.Taking.{take_body, take_copy, take_token, arrive, take}
 use Rattle.lt_model.specs.PathEffects.{posts_weight}
 use Rattle.lt_model.proofs.Effects.{HoldsOf, EndEffects, ActEffects, ByEffects, next_service-within, acts_by_effects, take_by_effects}
 use Rattle.lt_model.proofs.NodeEffects.{IsOfSet}

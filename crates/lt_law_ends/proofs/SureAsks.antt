@@ -6,7 +6,8 @@ use Rattle.lt_modes.specs.declared.stamp.Stamp.{Stamp}
 use Rattle.lt_modes.specs.declared.ask.Ask.{Ask}
 use Rattle.lt_modes.specs.Modes.{Modes, no_modes, has, union, with_mode, bars, held_modes, other_modes}
 use Rattle.lt_modes.specs.State.{SetState, Desk, first_entry, no_ask, record_of, entry_of, own_owed, own_part, modes_at, others_below, others}
-use Rattle.lt_modes.specs.Serving.{is_free, is_local, is_copy, is_clear_at_home, is_served, next_from, may_draw, draw_from, leaving, settled, is_void, is_ready}
+use Rattle.lt_modes.specs.Serving.{is_free, is_local, is_copy, is_clear_at_home, is_served, next_from, is_void, is_ready}
+use Rattle.lt_modes.specs.HandingOver.{may_draw, draw_from, leaving, settled}
 use Rattle.lt_law_accounts.specs.Account.{IsBelow}
 use Rattle.lt_law_accounts.proofs.AccountFacts.{bars_not, not_bars, below_by_members, has-union, has-left, has-right}
 use Rattle.lt_law_accounts.proofs.Rows.{other-which, held-at}

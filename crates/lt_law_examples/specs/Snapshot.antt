@@ -1,16 +1,17 @@
 -- A moment of a worked run: the whole world after so many of its moves, as plain data.
-use Rattle.std.specs.Prelude.{◌≡◌, Bool, true, false, ◌||◌, ◌==◌, ◌&&◌, ℕ, ◌+◌, List, [], ◌∷◌, ◌++◌, Option, Some, None, length, map, take, if◌then◌else◌, not}
+use Rattle.std.specs.Prelude.{◌≡◌, Bool, true, false, ◌||◌, ◌==◌, ◌&&◌, ℕ, ◌+◌, List, [], ◌∷◌, ◌++◌, replicate, Option, Some, None, length, map, take, if◌then◌else◌, not}
 use Rattle.std.specs.List.{range_with_len}
 use Rattle.lt_modes.specs.declared.mode.Mode.{Mode}
 use Rattle.lt_modes.specs.declared.stamp.Stamp.{Stamp}
 use Rattle.lt_modes.specs.declared.ask.Ask.{Ask}
 use Rattle.lt_modes.specs.declared.moves.Step.{Step}
 use Rattle.lt_modes.specs.declared.moves.Step.TheVariants.{Act, Take}
+use Rattle.lt_modes.specs.declared.parts.Link.{Link}
 use Rattle.lt_modes.specs.declared.parts.Row.{Row}
 use Rattle.lt_modes.specs.declared.parts.Hoped.{Hoped}
 use Rattle.lt_modes.specs.declared.parts.Owed.{Owed}
 use Rattle.lt_modes.specs.Modes.{Modes, no_modes}
-use Rattle.lt_modes.specs.State.{SetState, Letter, Entry}
+use Rattle.lt_modes.specs.State.{SetState, Desk, Letter, Body, TellBody, Post, Entry}
 use Rattle.lt_modes.specs.Script.{ScriptData}
 use Rattle.lt_spec.specs.NodeMove.{NodeState}
 use Rattle.lt_spec.specs.World.{World, world_after, is_enabled, is_waiting, is_at_rest, anyone_waits}
@@ -23,20 +24,14 @@ pub record NodeSnapshot : Type 0 where
   pub made : List ℕ
   pub sets : List SetState
 
--- letters on their way from one node to another, the oldest first
-pub record SnapshotMail : Type 0 where
-  pub sender : ℕ
-  pub receiver : ℕ
-  pub letters : List Letter
-
--- after this many moves of the run: the nodes by number; the letters of each pair of nodes that has some;
--- for each set the nodes that had its token; the enabled moves in the fixed order; the clients that wait;
--- and whether the world is at rest
+-- after this many moves of the run: the nodes by number; the letters on their way, those of one pair of nodes
+-- with the oldest first; for each set the nodes that had its token; the enabled moves in the fixed order; the
+-- clients that wait; and whether the world is at rest
 pub record Snapshot : Type 0 where
   pub row : Worked
   pub moves : ℕ
   pub nodes : List NodeSnapshot
-  pub mail : List SnapshotMail
+  pub mail : List Post
   pub went : List (List ℕ)
   pub turns : List Turn
   pub waiting : List ℕ
@@ -47,13 +42,7 @@ stamp clock node = record { clock = clock; node = node }
 
 -- what the desk knows of a node of which it was told nothing
 abbrev pub blank : Entry
-blank = record {
-  reported = no_modes;
-  owed = [];
-  told_at = stamp 0 0;
-  pending = [];
-  frozen_told = no_modes;
-}
+blank = record { reported = no_modes; owed = []; told_at = stamp 0 0; pending = []; frozen_told = no_modes }
 
 -- what a node without the desk keeps for a set that nothing has touched there
 abbrev pub untouched_set : SetState
@@ -65,10 +54,22 @@ untouched_set = record {
   firm = record { node = 0; epoch = 0 };
   hoped = None;
   pending = [];
-  gone = [];
   parked = [];
   desk = None;
+  gone = [];
 }
+
+-- the desk of a set that nothing has touched, with an entry for each of so many nodes
+abbrev pub untouched_desk : ℕ → Desk
+untouched_desk nodes = record { epoch = 0; number = 0; queue = []; entries = replicate nodes blank }
+
+-- what the node with the desk keeps for such a set
+abbrev pub untouched_at_desk : ℕ → SetState
+untouched_at_desk nodes = record untouched_set { desk = Some (untouched_desk nodes) }
+
+-- a node at which nothing was done, of a script with so many clients and sets
+abbrev pub untouched_node : ℕ → ℕ → NodeSnapshot
+untouched_node clients sets = record { clock = 0; made = replicate clients 0; sets = replicate sets untouched_set }
 
 abbrev pub held_row : ℕ → Mode → ℕ → Row
 held_row client mode count = record { client = client; mode = mode; count = count }
@@ -110,6 +111,15 @@ holder_ask client mode gives_up stamp = record {
   stamp = stamp;
 }
 
+-- a letter to this node: its stamp, its set, the firm link of its sender, and what it says
+abbrev pub mailed : ℕ → Stamp → ℕ → Link → Body → Post
+mailed to stamp set link body =
+    record { to = to; letter = record { stamp = stamp; set = set; link = link; body = body } }
+
+-- what a node tells at this stamp: its held modes and its unanswered asks
+abbrev pub tell_body : Modes → List Stamp → Stamp → Body
+tell_body modes pending stamp = TellBody (record { node = stamp.node; modes = modes; pending = pending; stamp = stamp })
+
 abbrev pub turn : ℕ → Step → Turn
 turn node step = record { node = node; step = step }
 
@@ -124,10 +134,11 @@ node_data script node = record {
   sets = at_each (length script.sets) node.set;
 }
 
--- the letters that are listed from p to q
-abbrev pub listed_mail : List SnapshotMail → ℕ → ℕ → List Letter
+-- the letters that are listed from p to q: the node of a letter's stamp sent it
+abbrev pub listed_mail : List Post → ℕ → ℕ → List Letter
 listed_mail [] p q = []
-listed_mail (m ∷ rest) p q = if m.sender == p && m.receiver == q then m.letters else listed_mail rest p q
+listed_mail (m ∷ rest) p q =
+    if m.letter.stamp.node == p && m.to == q then m.letter ∷ listed_mail rest p q else listed_mail rest p q
 
 abbrev pub same_step : Step → Step → Bool
 same_step (Act a) (Act b) = a == b

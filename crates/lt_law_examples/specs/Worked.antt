@@ -37,6 +37,11 @@ declared_set name family = record { name = name; family = family }
 abbrev pub declared_client : List ℕ → ℕ → ClientData
 declared_client name node = record { name = name; node = node }
 
+-- a script of version 1 with one set, and neither a client nor a command yet
+abbrev pub one_set : ℕ → List ℕ → ScriptData
+one_set nodes name =
+    record { version = 1; nodes = nodes; sets = declared_set name 0 ∷ []; clients = []; commands = [] }
+
 -- at this clock the node makes the next command of the client
 abbrev pub act : ℕ → ℕ → ℕ → List Event → Logged
 act clock node client events =
@@ -109,11 +114,7 @@ whole_read_beside_intention_read = record {
     version = 2;
     nodes = 2;
     sets = declared_set (codes "s") 0 ∷ [];
-    clients =
-        declared_client (codes "a") 0 ∷
-        declared_client (codes "b") 1 ∷
-        declared_client (codes "c") 1 ∷
-        [];
+    clients = declared_client (codes "a") 0 ∷ declared_client (codes "b") 1 ∷ declared_client (codes "c") 1 ∷ [];
     commands =
         (0, Lock 0 ReadIntentionWrite) ∷
         (1, Lock 0 IntentionRead) ∷
@@ -148,11 +149,7 @@ upgrade_to_sixth = record {
     version = 2;
     nodes = 2;
     sets = declared_set (codes "s") 0 ∷ [];
-    clients =
-        declared_client (codes "a") 0 ∷
-        declared_client (codes "b") 1 ∷
-        declared_client (codes "c") 0 ∷
-        [];
+    clients = declared_client (codes "a") 0 ∷ declared_client (codes "b") 1 ∷ declared_client (codes "c") 0 ∷ [];
     commands =
         (0, Lock 0 Upgrade) ∷
         (1, Lock 0 Read) ∷

@@ -5,22 +5,15 @@ use Rattle.lt_modes.specs.declared.command.Command.TheVariants.{Lock, Try, Unloc
 use Rattle.lt_modes.specs.declared.event.Event.TheVariants.{Grant, Wait, Try as Tried, Unlock as Unlocked, NotHeld, Change as Changed, DropAll as Dropped, Copy, Freeze, Token}
 use Rattle.lt_modes.specs.Modes.{no_modes, all_modes, modes_in}
 use Rattle.lt_spec.specs.Holdings.{holding}
-use Rattle.lt_law_examples.specs.Worked.{Worked, declared_set, declared_client, act, taken_at, holds, owner}
+use Rattle.lt_law_examples.specs.Worked.{Worked, declared_set, declared_client, act, taken_at, holds, owner, one_set}
 
 -- Freezes of two desks are taken in reverse order: the older ones change nothing.
 abbrev pub freezes_overtake : Worked
 freezes_overtake = record {
-  script = record {
-    version = 1;
-    nodes = 3;
-    sets = declared_set (codes "s0") 0 ∷ [];
+  script = record (one_set 3 (codes "s0")) {
     clients =
-        declared_client (codes "c1") 0 ∷
-        declared_client (codes "c3") 1 ∷
-        declared_client (codes "c4") 0 ∷
-        declared_client (codes "c6") 0 ∷
-        declared_client (codes "c7") 2 ∷
-        [];
+        declared_client (codes "c1") 0 ∷ declared_client (codes "c3") 1 ∷ declared_client (codes "c4") 0 ∷
+        declared_client (codes "c6") 0 ∷ declared_client (codes "c7") 2 ∷ [];
     commands =
         (0, DropAll 0 0) ∷
         (0, Lock 0 Write) ∷
@@ -64,19 +57,12 @@ freezes_overtake = record {
 -- Two copies to one node from two desks, with a freeze for each change of the queue.
 abbrev pub copies_and_freezes : Worked
 copies_and_freezes = record {
-  script = record {
-    version = 1;
-    nodes = 4;
-    sets = declared_set (codes "s0") 0 ∷ [];
+  script = record (one_set 4 (codes "s0")) {
     clients = declared_client (codes "c0") 0 ∷ declared_client (codes "c1") 3 ∷ declared_client (codes "c2") 2 ∷ [];
     commands =
-        (0, Lock 0 Read) ∷
-        (0, Unlock 0 Read) ∷
-        (0, Lock 0 Read) ∷
+        (0, Lock 0 Read) ∷ (0, Unlock 0 Read) ∷ (0, Lock 0 Read) ∷
         (1, Lock 0 Read) ∷
-        (2, Lock 0 Upgrade) ∷
-        (2, Try 0 IntentionRead) ∷
-        (2, Change 0 IntentionRead IntentionWrite) ∷
+        (2, Lock 0 Upgrade) ∷ (2, Try 0 IntentionRead) ∷ (2, Change 0 IntentionRead IntentionWrite) ∷
         [];
   };
   run =
@@ -113,30 +99,16 @@ copies_and_freezes = record {
 -- The token goes from node to node and comes back.
 abbrev pub token_goes_round : Worked
 token_goes_round = record {
-  script = record {
-    version = 1;
-    nodes = 3;
-    sets = declared_set (codes "s0") 0 ∷ [];
+  script = record (one_set 3 (codes "s0")) {
     clients =
-        declared_client (codes "c0") 2 ∷
-        declared_client (codes "c1") 0 ∷
-        declared_client (codes "c2") 2 ∷
-        declared_client (codes "c3") 0 ∷
-        declared_client (codes "c5") 1 ∷
-        [];
+        declared_client (codes "c0") 2 ∷ declared_client (codes "c1") 0 ∷ declared_client (codes "c2") 2 ∷
+        declared_client (codes "c3") 0 ∷ declared_client (codes "c5") 1 ∷ [];
     commands =
-        (0, Unlock 0 Read) ∷
-        (0, Lock 0 IntentionRead) ∷
-        (1, Lock 0 Read) ∷
-        (1, Unlock 0 Read) ∷
-        (1, Try 0 Read) ∷
-        (1, Lock 0 Write) ∷
-        (2, Lock 0 Read) ∷
-        (2, Unlock 0 Read) ∷
-        (3, Try 0 Write) ∷
-        (3, Lock 0 Write) ∷
-        (4, Lock 0 Write) ∷
-        (4, Unlock 0 Write) ∷
+        (0, Unlock 0 Read) ∷ (0, Lock 0 IntentionRead) ∷
+        (1, Lock 0 Read) ∷ (1, Unlock 0 Read) ∷ (1, Try 0 Read) ∷ (1, Lock 0 Write) ∷
+        (2, Lock 0 Read) ∷ (2, Unlock 0 Read) ∷
+        (3, Try 0 Write) ∷ (3, Lock 0 Write) ∷
+        (4, Lock 0 Write) ∷ (4, Unlock 0 Write) ∷
         [];
   };
   run =
@@ -172,23 +144,14 @@ token_goes_round = record {
 -- The token goes and comes back, and an older tell changes nothing.
 abbrev pub token_comes_back : Worked
 token_comes_back = record {
-  script = record {
-    version = 1;
-    nodes = 2;
-    sets = declared_set (codes "s0") 0 ∷ [];
+  script = record (one_set 2 (codes "s0")) {
     clients =
-        declared_client (codes "c1") 0 ∷
-        declared_client (codes "c5") 1 ∷
-        declared_client (codes "c6") 1 ∷
-        declared_client (codes "c7") 1 ∷
-        [];
+        declared_client (codes "c1") 0 ∷ declared_client (codes "c5") 1 ∷ declared_client (codes "c6") 1 ∷
+        declared_client (codes "c7") 1 ∷ [];
     commands =
-        (0, Lock 0 IntentionWrite) ∷
-        (0, Unlock 0 IntentionWrite) ∷
-        (0, Lock 0 IntentionWrite) ∷
+        (0, Lock 0 IntentionWrite) ∷ (0, Unlock 0 IntentionWrite) ∷ (0, Lock 0 IntentionWrite) ∷
         (1, Lock 0 IntentionRead) ∷
-        (2, Lock 0 IntentionWrite) ∷
-        (2, Unlock 0 IntentionWrite) ∷
+        (2, Lock 0 IntentionWrite) ∷ (2, Unlock 0 IntentionWrite) ∷
         (3, Lock 0 Write) ∷
         [];
   };
@@ -227,25 +190,14 @@ three_sets = record {
     nodes = 4;
     sets = declared_set (codes "s0") 0 ∷ declared_set (codes "s1") 0 ∷ declared_set (codes "s2") 2 ∷ [];
     clients =
-        declared_client (codes "c0") 2 ∷
-        declared_client (codes "c1") 0 ∷
-        declared_client (codes "c2") 1 ∷
-        declared_client (codes "c3") 3 ∷
-        declared_client (codes "c4") 1 ∷
-        [];
+        declared_client (codes "c0") 2 ∷ declared_client (codes "c1") 0 ∷ declared_client (codes "c2") 1 ∷
+        declared_client (codes "c3") 3 ∷ declared_client (codes "c4") 1 ∷ [];
     commands =
-        (0, Lock 2 Upgrade) ∷
-        (0, Unlock 2 Upgrade) ∷
-        (0, Lock 2 Write) ∷
-        (1, Lock 0 Upgrade) ∷
-        (1, Unlock 0 Upgrade) ∷
-        (1, Lock 2 Write) ∷
-        (1, Unlock 2 Write) ∷
-        (2, Lock 0 Write) ∷
-        (2, Lock 2 Read) ∷
+        (0, Lock 2 Upgrade) ∷ (0, Unlock 2 Upgrade) ∷ (0, Lock 2 Write) ∷
+        (1, Lock 0 Upgrade) ∷ (1, Unlock 0 Upgrade) ∷ (1, Lock 2 Write) ∷ (1, Unlock 2 Write) ∷
+        (2, Lock 0 Write) ∷ (2, Lock 2 Read) ∷
         (3, Lock 2 Write) ∷
-        (4, Lock 2 Write) ∷
-        (4, Unlock 2 Write) ∷
+        (4, Lock 2 Write) ∷ (4, Unlock 2 Write) ∷
         [];
   };
   run =
@@ -288,32 +240,16 @@ three_sets = record {
 -- A write becomes an upgrade, and a reader of another node gets a copy.
 abbrev pub upgrade_from_write : Worked
 upgrade_from_write = record {
-  script = record {
-    version = 1;
-    nodes = 4;
-    sets = declared_set (codes "s0") 0 ∷ [];
+  script = record (one_set 4 (codes "s0")) {
     clients =
-        declared_client (codes "c0") 0 ∷
-        declared_client (codes "c1") 0 ∷
-        declared_client (codes "c3") 3 ∷
-        declared_client (codes "c4") 1 ∷
-        [];
+        declared_client (codes "c0") 0 ∷ declared_client (codes "c1") 0 ∷ declared_client (codes "c3") 3 ∷
+        declared_client (codes "c4") 1 ∷ [];
     commands =
-        (0, Lock 0 Read) ∷
-        (0, Unlock 0 Read) ∷
-        (0, Unlock 0 Upgrade) ∷
-        (0, Lock 0 Read) ∷
-        (1, Unlock 0 IntentionRead) ∷
-        (1, Lock 0 Upgrade) ∷
+        (0, Lock 0 Read) ∷ (0, Unlock 0 Read) ∷ (0, Unlock 0 Upgrade) ∷ (0, Lock 0 Read) ∷
+        (1, Unlock 0 IntentionRead) ∷ (1, Lock 0 Upgrade) ∷ (1, Unlock 0 Upgrade) ∷ (1, Lock 0 Upgrade) ∷
         (1, Unlock 0 Upgrade) ∷
-        (1, Lock 0 Upgrade) ∷
-        (1, Unlock 0 Upgrade) ∷
-        (2, Lock 0 Upgrade) ∷
-        (2, Unlock 0 Upgrade) ∷
-        (2, Lock 0 Upgrade) ∷
-        (3, Lock 0 Write) ∷
-        (3, Change 0 Write Upgrade) ∷
-        (3, Unlock 0 Upgrade) ∷
+        (2, Lock 0 Upgrade) ∷ (2, Unlock 0 Upgrade) ∷ (2, Lock 0 Upgrade) ∷
+        (3, Lock 0 Write) ∷ (3, Change 0 Write Upgrade) ∷ (3, Unlock 0 Upgrade) ∷
         [];
   };
   run =
@@ -352,29 +288,16 @@ upgrade_from_write = record {
 -- Two copies go to one node; the first is answered before the second comes.
 abbrev pub copies_stay_owed : Worked
 copies_stay_owed = record {
-  script = record {
-    version = 1;
-    nodes = 3;
-    sets = declared_set (codes "s0") 0 ∷ [];
+  script = record (one_set 3 (codes "s0")) {
     clients =
-        declared_client (codes "c0") 2 ∷
-        declared_client (codes "c1") 2 ∷
-        declared_client (codes "c2") 1 ∷
-        declared_client (codes "c4") 0 ∷
-        declared_client (codes "c6") 0 ∷
-        [];
+        declared_client (codes "c0") 2 ∷ declared_client (codes "c1") 2 ∷ declared_client (codes "c2") 1 ∷
+        declared_client (codes "c4") 0 ∷ declared_client (codes "c6") 0 ∷ [];
     commands =
         (0, Lock 0 Read) ∷
-        (1, Lock 0 IntentionRead) ∷
-        (1, Unlock 0 IntentionRead) ∷
-        (1, Lock 0 IntentionRead) ∷
-        (2, Lock 0 Upgrade) ∷
-        (2, Unlock 0 Upgrade) ∷
-        (3, Lock 0 IntentionWrite) ∷
-        (3, Unlock 0 IntentionWrite) ∷
-        (3, Lock 0 IntentionWrite) ∷
-        (4, Lock 0 Read) ∷
-        (4, Unlock 0 Read) ∷
+        (1, Lock 0 IntentionRead) ∷ (1, Unlock 0 IntentionRead) ∷ (1, Lock 0 IntentionRead) ∷
+        (2, Lock 0 Upgrade) ∷ (2, Unlock 0 Upgrade) ∷
+        (3, Lock 0 IntentionWrite) ∷ (3, Unlock 0 IntentionWrite) ∷ (3, Lock 0 IntentionWrite) ∷
+        (4, Lock 0 Read) ∷ (4, Unlock 0 Read) ∷
         [];
   };
   run =
@@ -415,26 +338,15 @@ copies_stay_owed = record {
 -- Copies are owed until a tell that knows of them comes.
 abbrev pub owed_until_told : Worked
 owed_until_told = record {
-  script = record {
-    version = 1;
-    nodes = 2;
-    sets = declared_set (codes "s0") 0 ∷ [];
+  script = record (one_set 2 (codes "s0")) {
     clients =
-        declared_client (codes "c0") 1 ∷
-        declared_client (codes "c1") 0 ∷
-        declared_client (codes "c2") 1 ∷
-        declared_client (codes "c4") 1 ∷
-        [];
+        declared_client (codes "c0") 1 ∷ declared_client (codes "c1") 0 ∷ declared_client (codes "c2") 1 ∷
+        declared_client (codes "c4") 1 ∷ [];
     commands =
-        (0, Lock 0 Read) ∷
-        (0, Unlock 0 Read) ∷
-        (1, Lock 0 Read) ∷
-        (1, Unlock 0 Read) ∷
-        (1, Lock 0 Write) ∷
-        (2, Lock 0 Read) ∷
-        (2, Unlock 0 Read) ∷
-        (3, Lock 0 IntentionWrite) ∷
-        (3, Unlock 0 IntentionWrite) ∷
+        (0, Lock 0 Read) ∷ (0, Unlock 0 Read) ∷
+        (1, Lock 0 Read) ∷ (1, Unlock 0 Read) ∷ (1, Lock 0 Write) ∷
+        (2, Lock 0 Read) ∷ (2, Unlock 0 Read) ∷
+        (3, Lock 0 IntentionWrite) ∷ (3, Unlock 0 IntentionWrite) ∷
         [];
   };
   run =

@@ -5,15 +5,12 @@ use Rattle.lt_modes.specs.declared.command.Command.TheVariants.{Lock, Try, Unloc
 use Rattle.lt_modes.specs.declared.event.Event.TheVariants.{Grant, Wait, Try as Tried, Unlock as Unlocked, NotHeld, Change as Changed, DropAll as Dropped, Copy, Freeze, Token}
 use Rattle.lt_modes.specs.Modes.{no_modes, all_modes}
 use Rattle.lt_spec.specs.Holdings.{holding}
-use Rattle.lt_law_examples.specs.Worked.{Worked, end_of, queued_clients, parked_clients, declared_set, declared_client, act, taken_at, holds, owner}
+use Rattle.lt_law_examples.specs.Worked.{Worked, end_of, queued_clients, parked_clients, declared_set, declared_client, act, taken_at, holds, owner, one_set}
 
 -- Three nodes read: the desk sends copies.
 abbrev pub read_everywhere : Worked
 read_everywhere = record {
-  script = record {
-    version = 1;
-    nodes = 3;
-    sets = declared_set (codes "s") 0 ∷ [];
+  script = record (one_set 3 (codes "s")) {
     clients = declared_client (codes "a") 0 ∷ declared_client (codes "b") 1 ∷ declared_client (codes "c") 2 ∷ [];
     commands =
         (0, Lock 0 Read) ∷
@@ -38,10 +35,7 @@ read_everywhere = record {
 -- A read that intention_read doesn't cover draws the desk; the node left behind learns that nothing is frozen.
 abbrev pub reader_draws_desk : Worked
 reader_draws_desk = record {
-  script = record {
-    version = 1;
-    nodes = 2;
-    sets = declared_set (codes "s") 0 ∷ [];
+  script = record (one_set 2 (codes "s")) {
     clients = declared_client (codes "a") 0 ∷ declared_client (codes "b") 1 ∷ [];
     commands =
         (0, Lock 0 IntentionRead) ∷
@@ -63,10 +57,7 @@ reader_draws_desk = record {
 -- The token goes to the waiting writer once the lock is unlocked.
 abbrev pub token_to_writer : Worked
 token_to_writer = record {
-  script = record {
-    version = 1;
-    nodes = 2;
-    sets = declared_set (codes "s") 0 ∷ [];
+  script = record (one_set 2 (codes "s")) {
     clients = declared_client (codes "a") 0 ∷ declared_client (codes "b") 1 ∷ [];
     commands =
         (0, Lock 0 Write) ∷
@@ -89,16 +80,10 @@ token_to_writer = record {
 -- A read within the charge of its node waits, since a waiting write froze it.
 abbrev pub frozen_read : Worked
 frozen_read = record {
-  script = record {
-    version = 1;
-    nodes = 2;
-    sets = declared_set (codes "s") 0 ∷ [];
+  script = record (one_set 2 (codes "s")) {
     clients =
-        declared_client (codes "a") 0 ∷
-        declared_client (codes "c") 1 ∷
-        declared_client (codes "b") 0 ∷
-        declared_client (codes "d") 1 ∷
-        [];
+        declared_client (codes "a") 0 ∷ declared_client (codes "c") 1 ∷ declared_client (codes "b") 0 ∷
+        declared_client (codes "d") 1 ∷ [];
     commands =
         (0, Lock 0 Read) ∷
         (1, Lock 0 Read) ∷
@@ -124,25 +109,15 @@ frozen_read = record {
 -- A try is decided at its own node: not before a copy came, then within the charge, and not once the tell is made.
 abbrev pub try_at_home : Worked
 try_at_home = record {
-  script = record {
-    version = 1;
-    nodes = 2;
-    sets = declared_set (codes "s") 0 ∷ [];
+  script = record (one_set 2 (codes "s")) {
     clients =
-        declared_client (codes "d") 1 ∷
-        declared_client (codes "a") 0 ∷
-        declared_client (codes "c") 1 ∷
-        declared_client (codes "b") 0 ∷
-        [];
+        declared_client (codes "d") 1 ∷ declared_client (codes "a") 0 ∷ declared_client (codes "c") 1 ∷
+        declared_client (codes "b") 0 ∷ [];
     commands =
-        (0, Try 0 Read) ∷
-        (0, Try 0 Read) ∷
-        (0, Unlock 0 Read) ∷
-        (0, Try 0 Read) ∷
+        (0, Try 0 Read) ∷ (0, Try 0 Read) ∷ (0, Unlock 0 Read) ∷ (0, Try 0 Read) ∷
         (1, Lock 0 Read) ∷
         (2, Lock 0 Read) ∷
-        (3, Try 0 Write) ∷
-        (3, Lock 0 Write) ∷
+        (3, Try 0 Write) ∷ (3, Lock 0 Write) ∷
         [];
   };
   run =
@@ -166,16 +141,11 @@ try_at_home = record {
 -- An upgrade becomes a write once the reader at the other node has unlocked.
 abbrev pub change_after_reader : Worked
 change_after_reader = record {
-  script = record {
-    version = 1;
-    nodes = 2;
-    sets = declared_set (codes "s") 0 ∷ [];
+  script = record (one_set 2 (codes "s")) {
     clients = declared_client (codes "a") 0 ∷ declared_client (codes "b") 1 ∷ [];
     commands =
-        (0, Lock 0 Upgrade) ∷
-        (0, Change 0 Upgrade Write) ∷
-        (1, Lock 0 Read) ∷
-        (1, Unlock 0 Read) ∷
+        (0, Lock 0 Upgrade) ∷ (0, Change 0 Upgrade Write) ∷
+        (1, Lock 0 Read) ∷ (1, Unlock 0 Read) ∷
         [];
   };
   run =
@@ -196,16 +166,11 @@ change_after_reader = record {
 -- Two readers at two nodes both want to write: both wait.
 abbrev pub changes_from_two_nodes : Worked
 changes_from_two_nodes = record {
-  script = record {
-    version = 1;
-    nodes = 2;
-    sets = declared_set (codes "s") 0 ∷ [];
+  script = record (one_set 2 (codes "s")) {
     clients = declared_client (codes "a") 0 ∷ declared_client (codes "b") 1 ∷ [];
     commands =
-        (0, Lock 0 Read) ∷
-        (0, Change 0 Read Write) ∷
-        (1, Lock 0 Read) ∷
-        (1, Change 0 Read Write) ∷
+        (0, Lock 0 Read) ∷ (0, Change 0 Read Write) ∷
+        (1, Lock 0 Read) ∷ (1, Change 0 Read Write) ∷
         [];
   };
   run =
@@ -226,16 +191,10 @@ changes_from_two_nodes = record {
 -- Writers of four nodes: one ask waits in the queue, one is parked behind it, and one behind that.
 abbrev pub asks_park_behind : Worked
 asks_park_behind = record {
-  script = record {
-    version = 1;
-    nodes = 4;
-    sets = declared_set (codes "s") 0 ∷ [];
+  script = record (one_set 4 (codes "s")) {
     clients =
-        declared_client (codes "b") 1 ∷
-        declared_client (codes "c") 2 ∷
-        declared_client (codes "d") 3 ∷
-        declared_client (codes "a") 0 ∷
-        [];
+        declared_client (codes "b") 1 ∷ declared_client (codes "c") 2 ∷ declared_client (codes "d") 3 ∷
+        declared_client (codes "a") 0 ∷ [];
     commands =
         (0, Lock 0 Write) ∷
         (1, Lock 0 Write) ∷
@@ -271,17 +230,10 @@ TwoAsksParked =
 -- An ask that went by a hoped link is parked behind an older write of that node.
 abbrev pub marked_ask_parks : Worked
 marked_ask_parks = record {
-  script = record {
-    version = 1;
-    nodes = 4;
-    sets = declared_set (codes "s") 0 ∷ [];
+  script = record (one_set 4 (codes "s")) {
     clients =
-        declared_client (codes "a") 0 ∷
-        declared_client (codes "b") 2 ∷
-        declared_client (codes "c") 3 ∷
-        declared_client (codes "d") 3 ∷
-        declared_client (codes "e") 1 ∷
-        [];
+        declared_client (codes "a") 0 ∷ declared_client (codes "b") 2 ∷ declared_client (codes "c") 3 ∷
+        declared_client (codes "d") 3 ∷ declared_client (codes "e") 1 ∷ [];
     commands =
         (0, Lock 0 IntentionRead) ∷
         (1, Lock 0 Read) ∷
@@ -322,16 +274,10 @@ marked_ask_parks = record {
 -- The node of an upgrade sends a reader a copy and freezes it for a write.
 abbrev pub upgrade_with_readers : Worked
 upgrade_with_readers = record {
-  script = record {
-    version = 1;
-    nodes = 2;
-    sets = declared_set (codes "s") 0 ∷ [];
+  script = record (one_set 2 (codes "s")) {
     clients =
-        declared_client (codes "a") 1 ∷
-        declared_client (codes "b") 0 ∷
-        declared_client (codes "c") 1 ∷
-        declared_client (codes "d") 0 ∷
-        [];
+        declared_client (codes "a") 1 ∷ declared_client (codes "b") 0 ∷ declared_client (codes "c") 1 ∷
+        declared_client (codes "d") 0 ∷ [];
     commands =
         (0, Lock 0 Upgrade) ∷
         (1, Lock 0 Read) ∷
@@ -375,16 +321,10 @@ upgrade_with_readers = record {
 -- A holder changes its mode, though a write waits at its desk.
 abbrev pub change_before_writer : Worked
 change_before_writer = record {
-  script = record {
-    version = 1;
-    nodes = 3;
-    sets = declared_set (codes "s") 0 ∷ [];
+  script = record (one_set 3 (codes "s")) {
     clients =
-        declared_client (codes "a") 1 ∷
-        declared_client (codes "b") 1 ∷
-        declared_client (codes "c") 2 ∷
-        declared_client (codes "d") 2 ∷
-        [];
+        declared_client (codes "a") 1 ∷ declared_client (codes "b") 1 ∷ declared_client (codes "c") 2 ∷
+        declared_client (codes "d") 2 ∷ [];
     commands =
         (0, Lock 0 IntentionRead) ∷
         (3, Lock 0 Write) ∷
@@ -421,9 +361,7 @@ drop_without_waiting = record {
     sets = declared_set (codes "s") 0 ∷ declared_set (codes "t") 0 ∷ [];
     clients = declared_client (codes "a") 2 ∷ declared_client (codes "b") 0 ∷ [];
     commands =
-        (1, Try 1 Read) ∷
-        (1, DropAll 1 0) ∷
-        (1, Unlock 1 Read) ∷
+        (1, Try 1 Read) ∷ (1, DropAll 1 0) ∷ (1, Unlock 1 Read) ∷
         (0, Lock 0 Read) ∷
         [];
   };
@@ -443,18 +381,10 @@ drop_without_waiting = record {
 -- The desk goes to an upgrade, and both nodes still grant what it doesn't bar.
 abbrev pub shared_with_upgrade : Worked
 shared_with_upgrade = record {
-  script = record {
-    version = 1;
-    nodes = 2;
-    sets = declared_set (codes "s") 0 ∷ [];
+  script = record (one_set 2 (codes "s")) {
     clients =
-        declared_client (codes "a") 0 ∷
-        declared_client (codes "b") 1 ∷
-        declared_client (codes "c") 1 ∷
-        declared_client (codes "d") 0 ∷
-        declared_client (codes "e") 1 ∷
-        declared_client (codes "f") 0 ∷
-        [];
+        declared_client (codes "a") 0 ∷ declared_client (codes "b") 1 ∷ declared_client (codes "c") 1 ∷
+        declared_client (codes "d") 0 ∷ declared_client (codes "e") 1 ∷ declared_client (codes "f") 0 ∷ [];
     commands =
         (0, Try 0 Read) ∷
         (1, Lock 0 Upgrade) ∷

@@ -4,20 +4,14 @@ use Rattle.lt_modes.specs.declared.mode.Mode.TheVariants.{IntentionRead, Read, U
 use Rattle.lt_modes.specs.declared.command.Command.TheVariants.{Lock, Try, Unlock, Change, DropAll}
 use Rattle.lt_modes.specs.declared.event.Event.TheVariants.{Grant, Wait, Try as Tried, Unlock as Unlocked, NotHeld, Change as Changed, DropAll as Dropped, Busy}
 use Rattle.lt_spec.specs.Holdings.{holding}
-use Rattle.lt_law_examples.specs.Worked.{Worked, declared_set, declared_client, act, holds, owner}
+use Rattle.lt_law_examples.specs.Worked.{Worked, declared_set, declared_client, act, holds, owner, one_set}
 
 -- A client locks and unlocks.
 abbrev pub lock_then_unlock : Worked
 lock_then_unlock = record {
-  script = record {
-    version = 1;
-    nodes = 1;
-    sets = declared_set (codes "s") 0 ∷ [];
+  script = record (one_set 1 (codes "s")) {
     clients = declared_client (codes "a") 0 ∷ [];
-    commands =
-        (0, Lock 0 Write) ∷
-        (0, Unlock 0 Write) ∷
-        [];
+    commands = (0, Lock 0 Write) ∷ (0, Unlock 0 Write) ∷ [];
   };
   run =
       act 1 0 0 (Grant 0 0 Write ∷ []) ∷
@@ -31,16 +25,11 @@ lock_then_unlock = record {
 -- The second of two writers waits until the first unlocks.
 abbrev pub write_in_turn : Worked
 write_in_turn = record {
-  script = record {
-    version = 1;
-    nodes = 1;
-    sets = declared_set (codes "s") 0 ∷ [];
+  script = record (one_set 1 (codes "s")) {
     clients = declared_client (codes "a") 0 ∷ declared_client (codes "b") 0 ∷ [];
     commands =
-        (0, Lock 0 Write) ∷
-        (0, Unlock 0 Write) ∷
-        (1, Lock 0 Write) ∷
-        (1, Unlock 0 Write) ∷
+        (0, Lock 0 Write) ∷ (0, Unlock 0 Write) ∷
+        (1, Lock 0 Write) ∷ (1, Unlock 0 Write) ∷
         [];
   };
   run =
@@ -57,10 +46,7 @@ write_in_turn = record {
 -- The first of two writers never unlocks: the second waits at the end.
 abbrev pub write_kept : Worked
 write_kept = record {
-  script = record {
-    version = 1;
-    nodes = 1;
-    sets = declared_set (codes "s") 0 ∷ [];
+  script = record (one_set 1 (codes "s")) {
     clients = declared_client (codes "a") 0 ∷ declared_client (codes "b") 0 ∷ [];
     commands =
         (0, Lock 0 Write) ∷
@@ -79,20 +65,11 @@ write_kept = record {
 -- One client holds several locks of two modes; another one tries a mode that goes with them and two that don't.
 abbrev pub many_locks : Worked
 many_locks = record {
-  script = record {
-    version = 1;
-    nodes = 1;
-    sets = declared_set (codes "s") 0 ∷ [];
+  script = record (one_set 1 (codes "s")) {
     clients = declared_client (codes "a") 0 ∷ declared_client (codes "b") 0 ∷ [];
     commands =
-        (0, Lock 0 Read) ∷
-        (0, Lock 0 Read) ∷
-        (0, Lock 0 IntentionWrite) ∷
-        (0, Unlock 0 Read) ∷
-        (1, Try 0 IntentionRead) ∷
-        (1, Unlock 0 IntentionRead) ∷
-        (1, Try 0 Read) ∷
-        (1, Try 0 IntentionWrite) ∷
+        (0, Lock 0 Read) ∷ (0, Lock 0 Read) ∷ (0, Lock 0 IntentionWrite) ∷ (0, Unlock 0 Read) ∷
+        (1, Try 0 IntentionRead) ∷ (1, Unlock 0 IntentionRead) ∷ (1, Try 0 Read) ∷ (1, Try 0 IntentionWrite) ∷
         [];
   };
   run =
@@ -113,15 +90,9 @@ many_locks = record {
 -- An unlock and a change of a mode that the client doesn't hold.
 abbrev pub never_held : Worked
 never_held = record {
-  script = record {
-    version = 1;
-    nodes = 1;
-    sets = declared_set (codes "s") 0 ∷ [];
+  script = record (one_set 1 (codes "s")) {
     clients = declared_client (codes "a") 0 ∷ [];
-    commands =
-        (0, Unlock 0 Read) ∷
-        (0, Change 0 Read Write) ∷
-        [];
+    commands = (0, Unlock 0 Read) ∷ (0, Change 0 Read Write) ∷ [];
   };
   run =
       act 1 0 0 (NotHeld 0 0 Read ∷ []) ∷
@@ -141,11 +112,9 @@ drop_in_family = record {
     sets = declared_set (codes "s") 0 ∷ declared_set (codes "r") 0 ∷ [];
     clients = declared_client (codes "b") 0 ∷ declared_client (codes "c") 0 ∷ declared_client (codes "a") 0 ∷ [];
     commands =
-        (0, Lock 0 Write) ∷
-        (0, Lock 1 Read) ∷
+        (0, Lock 0 Write) ∷ (0, Lock 1 Read) ∷
         (1, Lock 0 Read) ∷
-        (2, DropAll 1 0) ∷
-        (2, DropAll 0 0) ∷
+        (2, DropAll 1 0) ∷ (2, DropAll 0 0) ∷
         [];
   };
   run =
@@ -163,10 +132,7 @@ drop_in_family = record {
 -- A reader gets write at once, though another client waits for write: a holder's ask would stand before that one.
 abbrev pub holder_first : Worked
 holder_first = record {
-  script = record {
-    version = 1;
-    nodes = 1;
-    sets = declared_set (codes "s") 0 ∷ [];
+  script = record (one_set 1 (codes "s")) {
     clients = declared_client (codes "c") 0 ∷ declared_client (codes "d") 0 ∷ [];
     commands =
         (0, Lock 0 Read) ∷
@@ -187,16 +153,9 @@ holder_first = record {
 -- A write becomes a write, and then a read.
 abbrev pub change_down : Worked
 change_down = record {
-  script = record {
-    version = 1;
-    nodes = 1;
-    sets = declared_set (codes "s") 0 ∷ [];
+  script = record (one_set 1 (codes "s")) {
     clients = declared_client (codes "a") 0 ∷ [];
-    commands =
-        (0, Lock 0 Write) ∷
-        (0, Change 0 Write Write) ∷
-        (0, Change 0 Write Read) ∷
-        [];
+    commands = (0, Lock 0 Write) ∷ (0, Change 0 Write Write) ∷ (0, Change 0 Write Read) ∷ [];
   };
   run =
       act 1 0 0 (Grant 0 0 Write ∷ []) ∷
@@ -211,17 +170,11 @@ change_down = record {
 -- Two clients that share a set both want to change their mode: both wait.
 abbrev pub changes_wait : Worked
 changes_wait = record {
-  script = record {
-    version = 1;
-    nodes = 1;
-    sets = declared_set (codes "s") 0 ∷ [];
+  script = record (one_set 1 (codes "s")) {
     clients = declared_client (codes "a") 0 ∷ declared_client (codes "b") 0 ∷ [];
     commands =
-        (0, Try 0 Upgrade) ∷
-        (0, Lock 0 IntentionRead) ∷
-        (0, Unlock 0 Upgrade) ∷
-        (1, Try 0 IntentionRead) ∷
-        (1, Change 0 IntentionRead Write) ∷
+        (0, Try 0 Upgrade) ∷ (0, Lock 0 IntentionRead) ∷ (0, Unlock 0 Upgrade) ∷
+        (1, Try 0 IntentionRead) ∷ (1, Change 0 IntentionRead Write) ∷
         (0, Change 0 IntentionRead IntentionWrite) ∷
         [];
   };

@@ -5,28 +5,19 @@ use Rattle.lt_modes.specs.declared.command.Command.TheVariants.{Lock, Try, Unloc
 use Rattle.lt_modes.specs.declared.event.Event.TheVariants.{Grant, Wait, Try as Tried, Unlock as Unlocked, NotHeld, Change as Changed, DropAll as Dropped, Copy, Freeze, Token}
 use Rattle.lt_modes.specs.Modes.{no_modes, all_modes, modes_in}
 use Rattle.lt_spec.specs.Holdings.{holding}
-use Rattle.lt_law_examples.specs.Worked.{Worked, declared_set, declared_client, act, taken_at, holds, owner}
+use Rattle.lt_law_examples.specs.Worked.{Worked, declared_set, declared_client, act, taken_at, holds, owner, one_set}
 
 -- A copy of the first desk is taken after the token came by another way, and a write waits for it.
 abbrev pub late_copy : Worked
 late_copy = record {
-  script = record {
-    version = 1;
-    nodes = 3;
-    sets = declared_set (codes "s") 0 ∷ [];
+  script = record (one_set 3 (codes "s")) {
     clients =
-        declared_client (codes "a") 0 ∷
-        declared_client (codes "b") 1 ∷
-        declared_client (codes "c") 2 ∷
-        declared_client (codes "d") 2 ∷
-        [];
+        declared_client (codes "a") 0 ∷ declared_client (codes "b") 1 ∷ declared_client (codes "c") 2 ∷
+        declared_client (codes "d") 2 ∷ [];
     commands =
-        (0, Lock 0 Read) ∷
-        (0, Unlock 0 Read) ∷
-        (1, Lock 0 Upgrade) ∷
-        (1, Unlock 0 Upgrade) ∷
-        (2, Lock 0 Read) ∷
-        (2, Unlock 0 Read) ∷
+        (0, Lock 0 Read) ∷ (0, Unlock 0 Read) ∷
+        (1, Lock 0 Upgrade) ∷ (1, Unlock 0 Upgrade) ∷
+        (2, Lock 0 Read) ∷ (2, Unlock 0 Read) ∷
         (3, Lock 0 Write) ∷
         [];
   };
@@ -59,20 +50,12 @@ late_copy = record {
 -- Two tells of one node are taken in reverse order: the older one changes nothing.
 abbrev pub overtaking_tells : Worked
 overtaking_tells = record {
-  script = record {
-    version = 1;
-    nodes = 3;
-    sets = declared_set (codes "s") 0 ∷ [];
+  script = record (one_set 3 (codes "s")) {
     clients = declared_client (codes "a") 0 ∷ declared_client (codes "b") 1 ∷ declared_client (codes "c") 2 ∷ [];
     commands =
-        (0, Lock 0 Read) ∷
-        (0, Unlock 0 Read) ∷
-        (1, Lock 0 Upgrade) ∷
-        (1, Change 0 Upgrade Write) ∷
-        (2, Lock 0 Read) ∷
-        (2, Lock 0 IntentionRead) ∷
-        (2, Unlock 0 Read) ∷
-        (2, Unlock 0 IntentionRead) ∷
+        (0, Lock 0 Read) ∷ (0, Unlock 0 Read) ∷
+        (1, Lock 0 Upgrade) ∷ (1, Change 0 Upgrade Write) ∷
+        (2, Lock 0 Read) ∷ (2, Lock 0 IntentionRead) ∷ (2, Unlock 0 Read) ∷ (2, Unlock 0 IntentionRead) ∷
         [];
   };
   run =
@@ -104,10 +87,7 @@ overtaking_tells = record {
 -- A drop lets the desk move on to the waiting client of the other node.
 abbrev pub drop_at_desk : Worked
 drop_at_desk = record {
-  script = record {
-    version = 1;
-    nodes = 2;
-    sets = declared_set (codes "s") 0 ∷ [];
+  script = record (one_set 2 (codes "s")) {
     clients = declared_client (codes "a") 0 ∷ declared_client (codes "b") 1 ∷ declared_client (codes "c") 1 ∷ [];
     commands =
         (0, Lock 0 IntentionWrite) ∷
@@ -153,10 +133,7 @@ drop_at_desk = record {
 -- Two copies of intention_read go to one node that has none.
 abbrev pub several_copies : Worked
 several_copies = record {
-  script = record {
-    version = 1;
-    nodes = 4;
-    sets = declared_set (codes "s") 0 ∷ [];
+  script = record (one_set 4 (codes "s")) {
     clients = declared_client (codes "a") 2 ∷ declared_client (codes "b") 2 ∷ declared_client (codes "c") 3 ∷ [];
     commands =
         (0, Try 0 Read) ∷
@@ -200,16 +177,10 @@ several_copies = record {
 -- A node with a copy of intention_write learns that a read waits.
 abbrev pub copy_and_freeze : Worked
 copy_and_freeze = record {
-  script = record {
-    version = 1;
-    nodes = 2;
-    sets = declared_set (codes "s0") 0 ∷ [];
+  script = record (one_set 2 (codes "s0")) {
     clients =
-        declared_client (codes "c2") 1 ∷
-        declared_client (codes "c4") 0 ∷
-        declared_client (codes "c5") 0 ∷
-        declared_client (codes "c7") 1 ∷
-        [];
+        declared_client (codes "c2") 1 ∷ declared_client (codes "c4") 0 ∷ declared_client (codes "c5") 0 ∷
+        declared_client (codes "c7") 1 ∷ [];
     commands =
         (0, Lock 0 Read) ∷
         (1, Lock 0 IntentionWrite) ∷
@@ -237,10 +208,7 @@ copy_and_freeze = record {
 -- The desk moves to a node whose copy is still to be taken.
 abbrev pub desk_with_copy_out : Worked
 desk_with_copy_out = record {
-  script = record {
-    version = 1;
-    nodes = 4;
-    sets = declared_set (codes "s0") 0 ∷ [];
+  script = record (one_set 4 (codes "s0")) {
     clients = declared_client (codes "c0") 3 ∷ declared_client (codes "c2") 2 ∷ declared_client (codes "c4") 3 ∷ [];
     commands =
         (0, Lock 0 Read) ∷
@@ -272,17 +240,10 @@ desk_with_copy_out = record {
 -- The token goes to the first of two asks of one node; the second, a write, keeps a later read waiting.
 abbrev pub second_ask_bars : Worked
 second_ask_bars = record {
-  script = record {
-    version = 1;
-    nodes = 2;
-    sets = declared_set (codes "s0") 0 ∷ [];
+  script = record (one_set 2 (codes "s0")) {
     clients =
-        declared_client (codes "c1") 1 ∷
-        declared_client (codes "c2") 0 ∷
-        declared_client (codes "c3") 0 ∷
-        declared_client (codes "c4") 0 ∷
-        declared_client (codes "c5") 1 ∷
-        [];
+        declared_client (codes "c1") 1 ∷ declared_client (codes "c2") 0 ∷ declared_client (codes "c3") 0 ∷
+        declared_client (codes "c4") 0 ∷ declared_client (codes "c5") 1 ∷ [];
     commands =
         (0, Lock 0 Upgrade) ∷
         (1, Lock 0 Read) ∷
@@ -316,16 +277,10 @@ second_ask_bars = record {
 -- Asks are parked behind an older write of the node that took them, and enter the queue when the token comes.
 abbrev pub token_meets_parked : Worked
 token_meets_parked = record {
-  script = record {
-    version = 1;
-    nodes = 3;
-    sets = declared_set (codes "s0") 0 ∷ [];
+  script = record (one_set 3 (codes "s0")) {
     clients =
-        declared_client (codes "c1") 2 ∷
-        declared_client (codes "c2") 1 ∷
-        declared_client (codes "c3") 1 ∷
-        declared_client (codes "c4") 0 ∷
-        [];
+        declared_client (codes "c1") 2 ∷ declared_client (codes "c2") 1 ∷ declared_client (codes "c3") 1 ∷
+        declared_client (codes "c4") 0 ∷ [];
     commands =
         (0, Lock 0 Upgrade) ∷
         (0, Unlock 0 Upgrade) ∷
@@ -364,11 +319,8 @@ upgrades_in_turn = record {
     nodes = 2;
     sets = declared_set (codes "s0") 0 ∷ declared_set (codes "s1") 0 ∷ [];
     clients =
-        declared_client (codes "c0") 0 ∷
-        declared_client (codes "c2") 1 ∷
-        declared_client (codes "c3") 1 ∷
-        declared_client (codes "c5") 1 ∷
-        [];
+        declared_client (codes "c0") 0 ∷ declared_client (codes "c2") 1 ∷ declared_client (codes "c3") 1 ∷
+        declared_client (codes "c5") 1 ∷ [];
     commands =
         (0, Lock 0 Upgrade) ∷
         (1, Lock 0 Upgrade) ∷
@@ -403,16 +355,10 @@ upgrades_in_turn = record {
 -- The desk moves to a reader, and sends a copy to a reader of another node.
 abbrev pub copy_after_move : Worked
 copy_after_move = record {
-  script = record {
-    version = 1;
-    nodes = 4;
-    sets = declared_set (codes "s0") 0 ∷ [];
+  script = record (one_set 4 (codes "s0")) {
     clients =
-        declared_client (codes "c0") 3 ∷
-        declared_client (codes "c1") 2 ∷
-        declared_client (codes "c2") 0 ∷
-        declared_client (codes "c5") 1 ∷
-        [];
+        declared_client (codes "c0") 3 ∷ declared_client (codes "c1") 2 ∷ declared_client (codes "c2") 0 ∷
+        declared_client (codes "c5") 1 ∷ [];
     commands =
         (0, Lock 0 Write) ∷
         (1, Lock 0 Read) ∷
@@ -448,17 +394,10 @@ copy_after_move = record {
 -- A reader changes to write before the writers in its queue.
 abbrev pub change_to_write : Worked
 change_to_write = record {
-  script = record {
-    version = 1;
-    nodes = 2;
-    sets = declared_set (codes "s0") 0 ∷ [];
+  script = record (one_set 2 (codes "s0")) {
     clients =
-        declared_client (codes "c0") 1 ∷
-        declared_client (codes "c1") 0 ∷
-        declared_client (codes "c2") 1 ∷
-        declared_client (codes "c3") 0 ∷
-        declared_client (codes "c4") 1 ∷
-        [];
+        declared_client (codes "c0") 1 ∷ declared_client (codes "c1") 0 ∷ declared_client (codes "c2") 1 ∷
+        declared_client (codes "c3") 0 ∷ declared_client (codes "c4") 1 ∷ [];
     commands =
         (0, Lock 0 Write) ∷
         (0, Unlock 0 Write) ∷
@@ -499,16 +438,10 @@ change_to_write = record {
 -- A node takes the token, and then a copy and a freeze that are older.
 abbrev pub old_freeze : Worked
 old_freeze = record {
-  script = record {
-    version = 1;
-    nodes = 3;
-    sets = declared_set (codes "s0") 0 ∷ [];
+  script = record (one_set 3 (codes "s0")) {
     clients =
-        declared_client (codes "c0") 2 ∷
-        declared_client (codes "c1") 2 ∷
-        declared_client (codes "c3") 1 ∷
-        declared_client (codes "c5") 0 ∷
-        [];
+        declared_client (codes "c0") 2 ∷ declared_client (codes "c1") 2 ∷ declared_client (codes "c3") 1 ∷
+        declared_client (codes "c5") 0 ∷ [];
     commands =
         (0, Lock 0 Write) ∷
         (1, Lock 0 Read) ∷
@@ -545,17 +478,10 @@ old_freeze = record {
 -- A tell that was sent on is older than the entry of its node, and changes nothing.
 abbrev pub old_tell : Worked
 old_tell = record {
-  script = record {
-    version = 1;
-    nodes = 4;
-    sets = declared_set (codes "s0") 0 ∷ [];
+  script = record (one_set 4 (codes "s0")) {
     clients =
-        declared_client (codes "c0") 1 ∷
-        declared_client (codes "c1") 2 ∷
-        declared_client (codes "c2") 1 ∷
-        declared_client (codes "c3") 1 ∷
-        declared_client (codes "c7") 3 ∷
-        [];
+        declared_client (codes "c0") 1 ∷ declared_client (codes "c1") 2 ∷ declared_client (codes "c2") 1 ∷
+        declared_client (codes "c3") 1 ∷ declared_client (codes "c7") 3 ∷ [];
     commands =
         (0, Lock 0 IntentionRead) ∷
         (1, Lock 0 Read) ∷

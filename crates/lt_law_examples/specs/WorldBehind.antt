@@ -1,5 +1,5 @@
 -- A worked world: asks that follow the token.
-use Rattle.std.specs.Prelude.{true, false, [], ◌∷◌, None, codes}
+use Rattle.std.specs.Prelude.{true, false, [], ◌∷◌, codes}
 use Rattle.lt_modes.specs.declared.mode.Mode.TheVariants.{IntentionRead, Read, Upgrade, IntentionWrite, ReadIntentionWrite, Write}
 use Rattle.lt_modes.specs.declared.command.Command.TheVariants.{Lock, Unlock, Change}
 use Rattle.lt_modes.specs.declared.event.Event.TheVariants.{Grant, Wait, Unlock as Unlocked, Change as Changed, Copy, Freeze, Token}
@@ -7,25 +7,17 @@ use Rattle.lt_modes.specs.declared.moves.Step.TheVariants.{Take}
 use Rattle.lt_modes.specs.Modes.{no_modes, all_modes, modes_in}
 use Rattle.lt_modes.specs.State.{AskBody, TokenBody}
 use Rattle.lt_spec.specs.Holdings.{holding}
-use Rattle.lt_law_examples.specs.Worked.{Worked, declared_set, declared_client, act, taken_at, holds, owner}
-use Rattle.lt_law_examples.specs.Snapshot.{Snapshot, blank, untouched_set, stamp, hoped, entry, new_ask, turn}
+use Rattle.lt_law_examples.specs.Worked.{Worked, declared_client, act, taken_at, holds, owner, one_set}
+use Rattle.lt_law_examples.specs.Snapshot.{Snapshot, blank, untouched_set, stamp, hoped, entry, new_ask, turn, untouched_node, mailed, untouched_desk}
 
 -- Asks follow the token to its new node, and by a hoped link.
 abbrev pub asks_behind_token : Worked
 asks_behind_token = record {
-  script = record {
-    version = 1;
-    nodes = 4;
-    sets = declared_set (codes "s0") 0 ∷ [];
+  script = record (one_set 4 (codes "s0")) {
     clients =
-        declared_client (codes "c0") 1 ∷
-        declared_client (codes "c1") 0 ∷
-        declared_client (codes "c2") 1 ∷
-        declared_client (codes "c3") 1 ∷
-        declared_client (codes "c4") 2 ∷
-        declared_client (codes "c5") 2 ∷
-        declared_client (codes "c6") 2 ∷
-        [];
+        declared_client (codes "c0") 1 ∷ declared_client (codes "c1") 0 ∷ declared_client (codes "c2") 1 ∷
+        declared_client (codes "c3") 1 ∷ declared_client (codes "c4") 2 ∷ declared_client (codes "c5") 2 ∷
+        declared_client (codes "c6") 2 ∷ [];
     commands =
         (3, Lock 0 Write) ∷
         (5, Lock 0 Read) ∷
@@ -36,18 +28,10 @@ asks_behind_token = record {
         (5, Change 0 Read Read) ∷
         (1, Lock 0 Read) ∷
         (4, Unlock 0 Upgrade) ∷
-        (5, Unlock 0 Read) ∷
-        (5, Lock 0 Upgrade) ∷
+        (5, Unlock 0 Read) ∷ (5, Lock 0 Upgrade) ∷
         (4, Lock 0 Read) ∷
-        (3, Unlock 0 Write) ∷
-        (3, Lock 0 Upgrade) ∷
-        (3, Unlock 0 Upgrade) ∷
-        (3, Lock 0 Read) ∷
-        (3, Unlock 0 Read) ∷
-        (3, Lock 0 Write) ∷
-        (3, Unlock 0 Write) ∷
-        (3, Lock 0 Read) ∷
-        (3, Unlock 0 Read) ∷
+        (3, Unlock 0 Write) ∷ (3, Lock 0 Upgrade) ∷ (3, Unlock 0 Upgrade) ∷ (3, Lock 0 Read) ∷ (3, Unlock 0 Read) ∷
+        (3, Lock 0 Write) ∷ (3, Unlock 0 Write) ∷ (3, Lock 0 Read) ∷ (3, Unlock 0 Read) ∷
         [];
   };
   run =
@@ -108,150 +92,52 @@ asks_behind_token_after_17 = record {
       record {
         clock = 5;
         made = 0 ∷ 1 ∷ 0 ∷ 0 ∷ 0 ∷ 0 ∷ 0 ∷ [];
-        sets =
-            record {
-              held = [];
-              charge = no_modes;
-              frozen = modes_in (IntentionWrite ∷ ReadIntentionWrite ∷ Write ∷ []);
-              number = 0;
-              firm = owner 2 1;
-              hoped = hoped 1 (stamp 1 1);
-              pending = new_ask 1 Read (stamp 5 0) ∷ [];
-              gone = [];
-              parked = [];
-              desk = None;
-            } ∷
-            [];
+        sets = record untouched_set {
+          frozen = modes_in (IntentionWrite ∷ ReadIntentionWrite ∷ Write ∷ []);
+          firm = owner 2 1;
+          hoped = hoped 1 (stamp 1 1);
+          pending = new_ask 1 Read (stamp 5 0) ∷ [];
+        } ∷ [];
       } ∷
       record {
         clock = 3;
         made = 1 ∷ 0 ∷ 1 ∷ 1 ∷ 0 ∷ 0 ∷ 0 ∷ [];
-        sets =
-            record {
-              held = [];
-              charge = no_modes;
-              frozen = no_modes;
-              number = 0;
-              firm = owner 0 0;
-              hoped = None;
-              pending =
-                  new_ask 3 Write (stamp 1 1) ∷
-                  new_ask 0 IntentionRead (stamp 2 1) ∷
-                  new_ask 2 Write (stamp 3 1) ∷
-                  [];
-              gone = [];
-              parked = [];
-              desk = None;
-            } ∷
-            [];
+        sets = record untouched_set {
+          pending =
+              new_ask 3 Write (stamp 1 1) ∷
+              new_ask 0 IntentionRead (stamp 2 1) ∷
+              new_ask 2 Write (stamp 3 1) ∷
+              [];
+        } ∷ [];
       } ∷
       record {
         clock = 10;
         made = 0 ∷ 0 ∷ 0 ∷ 0 ∷ 3 ∷ 4 ∷ 1 ∷ [];
-        sets =
-            record {
-              held = [];
-              charge = no_modes;
-              frozen = all_modes;
-              number = 0;
-              firm = owner 1 2;
-              hoped = None;
-              pending =
-                  new_ask 6 Read (stamp 2 2) ∷
-                  new_ask 5 Upgrade (stamp 9 2) ∷
-                  new_ask 4 Read (stamp 10 2) ∷
-                  [];
-              gone = [];
-              parked = [];
-              desk = None;
-            } ∷
-            [];
+        sets = record untouched_set {
+          frozen = all_modes;
+          firm = owner 1 2;
+          pending = new_ask 6 Read (stamp 2 2) ∷ new_ask 5 Upgrade (stamp 9 2) ∷ new_ask 4 Read (stamp 10 2) ∷ [];
+        } ∷ [];
       } ∷
-      record {
-        clock = 0;
-        made = 0 ∷ 0 ∷ 0 ∷ 0 ∷ 0 ∷ 0 ∷ 0 ∷ [];
-        sets =
-            untouched_set ∷
-            [];
-      } ∷
+      untouched_node 7 1 ∷
       [];
   mail =
-      record {
-        sender = 0;
-        receiver = 1;
-        letters =
-            record {
-              stamp = stamp 4 0;
-              set = 0;
-              link = owner 2 1;
-              body = AskBody (new_ask 0 IntentionRead (stamp 2 1)) true;
-            } ∷
-            record {
-              stamp = stamp 5 0;
-              set = 0;
-              link = owner 2 1;
-              body = AskBody (new_ask 1 Read (stamp 5 0)) true;
-            } ∷
+      mailed 1 (stamp 4 0) 0 (owner 2 1) (AskBody (new_ask 0 IntentionRead (stamp 2 1)) true) ∷
+      mailed 1 (stamp 5 0) 0 (owner 2 1) (AskBody (new_ask 1 Read (stamp 5 0)) true) ∷
+      mailed 0 (stamp 3 1) 0 (owner 0 0) (AskBody (new_ask 2 Write (stamp 3 1)) false) ∷
+      mailed 0 (stamp 2 2) 0 (owner 0 0) (AskBody (new_ask 6 Read (stamp 2 2)) false) ∷
+      mailed 1 (stamp 8 2) 0 (owner 1 2) (TokenBody (record (untouched_desk 4) {
+        epoch = 2;
+        queue = new_ask 3 Write (stamp 1 1) ∷ [];
+        entries =
+            entry no_modes [] (stamp 2 0) [] (modes_in (IntentionWrite ∷ ReadIntentionWrite ∷ Write ∷ [])) ∷
+            blank ∷
+            entry no_modes [] (stamp 8 2) (stamp 2 2 ∷ []) all_modes ∷
+            blank ∷
             [];
-      } ∷
-      record {
-        sender = 1;
-        receiver = 0;
-        letters =
-            record {
-              stamp = stamp 3 1;
-              set = 0;
-              link = owner 0 0;
-              body = AskBody (new_ask 2 Write (stamp 3 1)) false;
-            } ∷
-            [];
-      } ∷
-      record {
-        sender = 2;
-        receiver = 0;
-        letters =
-            record {
-              stamp = stamp 2 2;
-              set = 0;
-              link = owner 0 0;
-              body = AskBody (new_ask 6 Read (stamp 2 2)) false;
-            } ∷
-            [];
-      } ∷
-      record {
-        sender = 2;
-        receiver = 1;
-        letters =
-            record {
-              stamp = stamp 8 2;
-              set = 0;
-              link = owner 1 2;
-              body = TokenBody (record {
-                epoch = 2;
-                number = 0;
-                queue = new_ask 3 Write (stamp 1 1) ∷ [];
-                entries =
-                    entry no_modes [] (stamp 2 0) [] (modes_in (IntentionWrite ∷ ReadIntentionWrite ∷ Write ∷ [])) ∷
-                    blank ∷
-                    entry no_modes [] (stamp 8 2) (stamp 2 2 ∷ []) all_modes ∷
-                    blank ∷
-                    [];
-              });
-            } ∷
-            record {
-              stamp = stamp 9 2;
-              set = 0;
-              link = owner 1 2;
-              body = AskBody (new_ask 5 Upgrade (stamp 9 2)) false;
-            } ∷
-            record {
-              stamp = stamp 10 2;
-              set = 0;
-              link = owner 1 2;
-              body = AskBody (new_ask 4 Read (stamp 10 2)) false;
-            } ∷
-            [];
-      } ∷
+      })) ∷
+      mailed 1 (stamp 9 2) 0 (owner 1 2) (AskBody (new_ask 5 Upgrade (stamp 9 2)) false) ∷
+      mailed 1 (stamp 10 2) 0 (owner 1 2) (AskBody (new_ask 4 Read (stamp 10 2)) false) ∷
       [];
   went = (0 ∷ 2 ∷ 1 ∷ []) ∷ [];
   turns = turn 0 (Take 1) ∷ turn 0 (Take 2) ∷ turn 1 (Take 0) ∷ turn 1 (Take 2) ∷ [];

@@ -1,14 +1,14 @@
 -- A worked world: a drop of a client that waits.
-use Rattle.std.specs.Prelude.{false, [], ◌∷◌, Some, None, codes}
+use Rattle.std.specs.Prelude.{false, [], ◌∷◌, Some, codes}
 use Rattle.lt_modes.specs.declared.mode.Mode.TheVariants.{IntentionRead, Read, Upgrade, IntentionWrite, ReadIntentionWrite, Write}
 use Rattle.lt_modes.specs.declared.command.Command.TheVariants.{Lock, Unlock, DropAll}
 use Rattle.lt_modes.specs.declared.event.Event.TheVariants.{Grant, Wait, Unlock as Unlocked, DropAll as Dropped, Busy, Copy, Freeze, Token}
 use Rattle.lt_modes.specs.declared.moves.Step.TheVariants.{Act, Take}
 use Rattle.lt_modes.specs.Modes.{no_modes, all_modes, modes_in}
-use Rattle.lt_modes.specs.State.{AskBody, TellBody, CopyBody, FreezeBody}
+use Rattle.lt_modes.specs.State.{AskBody, CopyBody, FreezeBody}
 use Rattle.lt_spec.specs.Holdings.{holding}
 use Rattle.lt_law_examples.specs.Worked.{Worked, declared_set, declared_client, act, taken_at, holds, owner}
-use Rattle.lt_law_examples.specs.Snapshot.{Snapshot, blank, untouched_set, stamp, held_row, hoped, owed, entry, new_ask, turn}
+use Rattle.lt_law_examples.specs.Snapshot.{Snapshot, blank, untouched_set, stamp, held_row, hoped, owed, entry, new_ask, turn, mailed, tell_body, untouched_desk}
 
 -- A client that waits in another family is busy.
 abbrev pub busy_in_another_set : Worked
@@ -18,15 +18,9 @@ busy_in_another_set = record {
     nodes = 3;
     sets = declared_set (codes "s0") 0 ∷ declared_set (codes "s1") 1 ∷ declared_set (codes "s2") 2 ∷ [];
     clients =
-        declared_client (codes "c0") 2 ∷
-        declared_client (codes "c1") 2 ∷
-        declared_client (codes "c2") 1 ∷
-        declared_client (codes "c3") 1 ∷
-        declared_client (codes "c4") 0 ∷
-        declared_client (codes "c5") 0 ∷
-        declared_client (codes "c6") 2 ∷
-        declared_client (codes "c7") 1 ∷
-        [];
+        declared_client (codes "c0") 2 ∷ declared_client (codes "c1") 2 ∷ declared_client (codes "c2") 1 ∷
+        declared_client (codes "c3") 1 ∷ declared_client (codes "c4") 0 ∷ declared_client (codes "c5") 0 ∷
+        declared_client (codes "c6") 2 ∷ declared_client (codes "c7") 1 ∷ [];
     commands =
         (3, Lock 0 Upgrade) ∷
         (7, Lock 2 Write) ∷
@@ -134,17 +128,12 @@ busy_in_another_set_after_38 = record {
         clock = 18;
         made = 0 ∷ 0 ∷ 0 ∷ 0 ∷ 4 ∷ 1 ∷ 0 ∷ 0 ∷ [];
         sets =
-            record {
-              held = [];
-              charge = no_modes;
+            record untouched_set {
               frozen = modes_in (Read ∷ Upgrade ∷ ReadIntentionWrite ∷ Write ∷ []);
               number = 3;
               firm = owner 0 2;
-              hoped = None;
               pending = new_ask 4 IntentionWrite (stamp 16 0) ∷ [];
-              gone = [];
-              parked = [];
-              desk = Some (record {
+              desk = Some (record (untouched_desk 3) {
                 epoch = 2;
                 number = 3;
                 queue = new_ask 4 IntentionWrite (stamp 16 0) ∷ [];
@@ -155,29 +144,12 @@ busy_in_another_set_after_38 = record {
                     [];
               });
             } ∷
-            record {
-              held = [];
-              charge = no_modes;
+            record untouched_set { frozen = all_modes; firm = owner 1 1; hoped = hoped 1 (stamp 8 1) } ∷
+            record untouched_set {
               frozen = all_modes;
-              number = 0;
-              firm = owner 1 1;
-              hoped = hoped 1 (stamp 8 1);
-              pending = [];
-              gone = [];
-              parked = [];
-              desk = None;
-            } ∷
-            record {
-              held = [];
-              charge = no_modes;
-              frozen = all_modes;
-              number = 0;
               firm = owner 1 1;
               hoped = hoped 2 (stamp 2 2);
               pending = new_ask 5 Write (stamp 6 0) ∷ [];
-              gone = [];
-              parked = [];
-              desk = None;
             } ∷
             [];
       } ∷
@@ -185,31 +157,18 @@ busy_in_another_set_after_38 = record {
         clock = 21;
         made = 0 ∷ 0 ∷ 1 ∷ 7 ∷ 0 ∷ 0 ∷ 0 ∷ 5 ∷ [];
         sets =
-            record {
-              held = [];
-              charge = no_modes;
+            record untouched_set {
               frozen = modes_in (Upgrade ∷ IntentionWrite ∷ ReadIntentionWrite ∷ Write ∷ []);
-              number = 0;
               firm = owner 0 2;
-              hoped = None;
               pending = new_ask 7 Upgrade (stamp 21 1) ∷ [];
-              gone = [];
-              parked = [];
-              desk = None;
             } ∷
-            record {
+            record untouched_set {
               held = held_row 7 Write 1 ∷ held_row 7 IntentionRead 1 ∷ [];
-              charge = no_modes;
               frozen = modes_in (Upgrade ∷ IntentionWrite ∷ ReadIntentionWrite ∷ Write ∷ []);
-              number = 0;
               firm = owner 1 1;
-              hoped = None;
               pending = new_ask 3 Upgrade (stamp 19 1) ∷ [];
-              gone = [];
-              parked = [];
-              desk = Some (record {
+              desk = Some (record (untouched_desk 3) {
                 epoch = 1;
-                number = 0;
                 queue = new_ask 3 Upgrade (stamp 19 1) ∷ [];
                 entries =
                     entry no_modes [] (stamp 5 0) [] all_modes ∷
@@ -218,19 +177,12 @@ busy_in_another_set_after_38 = record {
                     [];
               });
             } ∷
-            record {
+            record untouched_set {
               held = held_row 2 Write 1 ∷ [];
-              charge = no_modes;
               frozen = all_modes;
-              number = 0;
               firm = owner 1 1;
-              hoped = None;
-              pending = [];
-              gone = [];
-              parked = [];
-              desk = Some (record {
+              desk = Some (record (untouched_desk 3) {
                 epoch = 1;
-                number = 0;
                 queue = new_ask 5 Write (stamp 6 0) ∷ [];
                 entries =
                     entry no_modes [] (stamp 4 0) [] all_modes ∷
@@ -245,107 +197,25 @@ busy_in_another_set_after_38 = record {
         clock = 3;
         made = 1 ∷ 1 ∷ 0 ∷ 0 ∷ 0 ∷ 0 ∷ 1 ∷ 0 ∷ [];
         sets =
-            record {
-              held = [];
-              charge = no_modes;
-              frozen = no_modes;
-              number = 0;
-              firm = owner 0 0;
-              hoped = None;
+            record untouched_set {
               pending = new_ask 1 IntentionRead (stamp 1 2) ∷ new_ask 0 Upgrade (stamp 3 2) ∷ [];
-              gone = [];
-              parked = [];
-              desk = None;
             } ∷
             untouched_set ∷
-            record {
-              held = [];
-              charge = no_modes;
-              frozen = no_modes;
-              number = 0;
-              firm = owner 0 0;
-              hoped = None;
-              pending = new_ask 6 Upgrade (stamp 2 2) ∷ [];
-              gone = [];
-              parked = [];
-              desk = None;
-            } ∷
+            record untouched_set { pending = new_ask 6 Upgrade (stamp 2 2) ∷ [] } ∷
             [];
       } ∷
       [];
   mail =
-      record {
-        sender = 0;
-        receiver = 1;
-        letters =
-            record {
-              stamp = stamp 14 0;
-              set = 0;
-              link = owner 0 2;
-              body = FreezeBody 1 no_modes;
-            } ∷
-            record {
-              stamp = stamp 16 0;
-              set = 0;
-              link = owner 0 2;
-              body = FreezeBody 2 (modes_in (Read ∷ Upgrade ∷ ReadIntentionWrite ∷ Write ∷ []));
-            } ∷
-            record {
-              stamp = stamp 18 0;
-              set = 2;
-              link = owner 1 1;
-              body = AskBody (new_ask 6 Upgrade (stamp 2 2)) false;
-            } ∷
-            [];
-      } ∷
-      record {
-        sender = 0;
-        receiver = 2;
-        letters =
-            record {
-              stamp = stamp 17 0;
-              set = 0;
-              link = owner 0 2;
-              body = CopyBody (new_ask 1 IntentionRead (stamp 1 2));
-            } ∷
-            record {
-              stamp = stamp 17 0;
-              set = 0;
-              link = owner 0 2;
-              body = FreezeBody 3 (modes_in (Read ∷ Upgrade ∷ ReadIntentionWrite ∷ Write ∷ []));
-            } ∷
-            [];
-      } ∷
-      record {
-        sender = 1;
-        receiver = 0;
-        letters =
-            record {
-              stamp = stamp 17 1;
-              set = 0;
-              link = owner 0 2;
-              body = TellBody (record { node = 1; modes = no_modes; pending = []; stamp = stamp 17 1 });
-            } ∷
-            record {
-              stamp = stamp 21 1;
-              set = 0;
-              link = owner 0 2;
-              body = AskBody (new_ask 7 Upgrade (stamp 21 1)) false;
-            } ∷
-            [];
-      } ∷
-      record {
-        sender = 2;
-        receiver = 0;
-        letters =
-            record {
-              stamp = stamp 3 2;
-              set = 0;
-              link = owner 0 0;
-              body = AskBody (new_ask 0 Upgrade (stamp 3 2)) false;
-            } ∷
-            [];
-      } ∷
+      mailed 1 (stamp 14 0) 0 (owner 0 2) (FreezeBody 1 no_modes) ∷
+      mailed 1 (stamp 16 0) 0 (owner 0 2)
+      (FreezeBody 2 (modes_in (Read ∷ Upgrade ∷ ReadIntentionWrite ∷ Write ∷ []))) ∷
+      mailed 1 (stamp 18 0) 2 (owner 1 1) (AskBody (new_ask 6 Upgrade (stamp 2 2)) false) ∷
+      mailed 2 (stamp 17 0) 0 (owner 0 2) (CopyBody (new_ask 1 IntentionRead (stamp 1 2))) ∷
+      mailed 2 (stamp 17 0) 0 (owner 0 2)
+      (FreezeBody 3 (modes_in (Read ∷ Upgrade ∷ ReadIntentionWrite ∷ Write ∷ []))) ∷
+      mailed 0 (stamp 17 1) 0 (owner 0 2) (tell_body no_modes [] (stamp 17 1)) ∷
+      mailed 0 (stamp 21 1) 0 (owner 0 2) (AskBody (new_ask 7 Upgrade (stamp 21 1)) false) ∷
+      mailed 0 (stamp 3 2) 0 (owner 0 0) (AskBody (new_ask 0 Upgrade (stamp 3 2)) false) ∷
       [];
   went = (0 ∷ 1 ∷ 0 ∷ []) ∷ (0 ∷ 1 ∷ []) ∷ (0 ∷ 1 ∷ []) ∷ [];
   turns = turn 0 (Take 1) ∷ turn 0 (Take 2) ∷ turn 1 (Take 0) ∷ turn 2 (Take 0) ∷ turn 1 (Act 2) ∷ [];

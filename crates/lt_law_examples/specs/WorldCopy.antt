@@ -1,28 +1,21 @@
 -- A worked world: a copy and the token by different ways.
-use Rattle.std.specs.Prelude.{false, [], ◌∷◌, Some, None, codes}
+use Rattle.std.specs.Prelude.{false, [], ◌∷◌, Some, codes}
 use Rattle.lt_modes.specs.declared.mode.Mode.TheVariants.{IntentionRead, Read, Upgrade, IntentionWrite, ReadIntentionWrite, Write}
 use Rattle.lt_modes.specs.declared.command.Command.TheVariants.{Lock, Try, Unlock}
 use Rattle.lt_modes.specs.declared.event.Event.TheVariants.{Grant, Wait, Try as Tried, Unlock as Unlocked, Copy, Freeze, Token}
 use Rattle.lt_modes.specs.declared.moves.Step.TheVariants.{Act, Take}
 use Rattle.lt_modes.specs.Modes.{no_modes, modes_in}
 use Rattle.lt_modes.specs.State.{AskBody, CopyBody, FreezeBody}
-use Rattle.lt_law_examples.specs.Worked.{Worked, declared_set, declared_client, act, taken_at, holds, owner}
-use Rattle.lt_law_examples.specs.Snapshot.{Snapshot, blank, stamp, owed, entry, new_ask, turn}
+use Rattle.lt_law_examples.specs.Worked.{Worked, declared_client, act, taken_at, holds, owner, one_set}
+use Rattle.lt_law_examples.specs.Snapshot.{Snapshot, blank, untouched_set, stamp, owed, entry, new_ask, turn, mailed, untouched_desk}
 
 -- A copy is out, and the token comes another way: a grant at the desk does not forget the copy.
 abbrev pub copy_before_token : Worked
 copy_before_token = record {
-  script = record {
-    version = 1;
-    nodes = 3;
-    sets = declared_set (codes "s") 0 ∷ [];
+  script = record (one_set 3 (codes "s")) {
     clients =
-        declared_client (codes "a") 0 ∷
-        declared_client (codes "b") 1 ∷
-        declared_client (codes "c") 2 ∷
-        declared_client (codes "d") 2 ∷
-        declared_client (codes "e") 2 ∷
-        [];
+        declared_client (codes "a") 0 ∷ declared_client (codes "b") 1 ∷ declared_client (codes "c") 2 ∷
+        declared_client (codes "d") 2 ∷ declared_client (codes "e") 2 ∷ [];
     commands =
         (0, Lock 0 Read) ∷
         (0, Unlock 0 Read) ∷
@@ -70,122 +63,44 @@ copy_before_token_after_10 = record {
       record {
         clock = 4;
         made = 2 ∷ 0 ∷ 0 ∷ 0 ∷ 0 ∷ [];
-        sets =
-            record {
-              held = [];
-              charge = no_modes;
-              frozen = modes_in (Upgrade ∷ IntentionWrite ∷ ReadIntentionWrite ∷ Write ∷ []);
-              number = 1;
-              firm = owner 1 1;
-              hoped = None;
-              pending = [];
-              gone = [];
-              parked = [];
-              desk = None;
-            } ∷
-            [];
+        sets = record untouched_set {
+          frozen = modes_in (Upgrade ∷ IntentionWrite ∷ ReadIntentionWrite ∷ Write ∷ []);
+          number = 1;
+          firm = owner 1 1;
+        } ∷ [];
       } ∷
       record {
         clock = 6;
         made = 0 ∷ 2 ∷ 0 ∷ 0 ∷ 0 ∷ [];
-        sets =
-            record {
-              held = [];
-              charge = no_modes;
-              frozen = no_modes;
-              number = 2;
-              firm = owner 1 1;
-              hoped = None;
-              pending = [];
-              gone = [];
-              parked = [];
-              desk = Some (record {
-                epoch = 1;
-                number = 2;
-                queue = [];
-                entries =
-                    entry no_modes [] (stamp 4 0) [] no_modes ∷
-                    blank ∷
-                    entry no_modes (owed (stamp 1 2) Read ∷ []) (stamp 0 0) [] no_modes ∷
-                    [];
-              });
-            } ∷
-            [];
+        sets = record untouched_set {
+          number = 2;
+          firm = owner 1 1;
+          desk = Some (record (untouched_desk 3) {
+            epoch = 1;
+            number = 2;
+            entries =
+                entry no_modes [] (stamp 4 0) [] no_modes ∷
+                blank ∷
+                entry no_modes (owed (stamp 1 2) Read ∷ []) (stamp 0 0) [] no_modes ∷
+                [];
+          });
+        } ∷ [];
       } ∷
       record {
         clock = 2;
         made = 0 ∷ 0 ∷ 1 ∷ 1 ∷ 0 ∷ [];
-        sets =
-            record {
-              held = [];
-              charge = no_modes;
-              frozen = no_modes;
-              number = 0;
-              firm = owner 0 0;
-              hoped = None;
-              pending = new_ask 2 Read (stamp 1 2) ∷ new_ask 3 IntentionRead (stamp 2 2) ∷ [];
-              gone = [];
-              parked = [];
-              desk = None;
-            } ∷
-            [];
+        sets = record untouched_set {
+          pending = new_ask 2 Read (stamp 1 2) ∷ new_ask 3 IntentionRead (stamp 2 2) ∷ [];
+        } ∷ [];
       } ∷
       [];
   mail =
-      record {
-        sender = 0;
-        receiver = 2;
-        letters =
-            record {
-              stamp = stamp 2 0;
-              set = 0;
-              link = owner 0 0;
-              body = CopyBody (new_ask 2 Read (stamp 1 2));
-            } ∷
-            record {
-              stamp = stamp 3 0;
-              set = 0;
-              link = owner 0 0;
-              body = FreezeBody 1 (modes_in (Upgrade ∷ IntentionWrite ∷ ReadIntentionWrite ∷ Write ∷ []));
-            } ∷
-            [];
-      } ∷
-      record {
-        sender = 1;
-        receiver = 0;
-        letters =
-            record {
-              stamp = stamp 4 1;
-              set = 0;
-              link = owner 1 1;
-              body = FreezeBody 2 no_modes;
-            } ∷
-            [];
-      } ∷
-      record {
-        sender = 1;
-        receiver = 2;
-        letters =
-            record {
-              stamp = stamp 4 1;
-              set = 0;
-              link = owner 1 1;
-              body = FreezeBody 2 no_modes;
-            } ∷
-            [];
-      } ∷
-      record {
-        sender = 2;
-        receiver = 0;
-        letters =
-            record {
-              stamp = stamp 2 2;
-              set = 0;
-              link = owner 0 0;
-              body = AskBody (new_ask 3 IntentionRead (stamp 2 2)) false;
-            } ∷
-            [];
-      } ∷
+      mailed 2 (stamp 2 0) 0 (owner 0 0) (CopyBody (new_ask 2 Read (stamp 1 2))) ∷
+      mailed 2 (stamp 3 0) 0 (owner 0 0)
+      (FreezeBody 1 (modes_in (Upgrade ∷ IntentionWrite ∷ ReadIntentionWrite ∷ Write ∷ []))) ∷
+      mailed 0 (stamp 4 1) 0 (owner 1 1) (FreezeBody 2 no_modes) ∷
+      mailed 2 (stamp 4 1) 0 (owner 1 1) (FreezeBody 2 no_modes) ∷
+      mailed 0 (stamp 2 2) 0 (owner 0 0) (AskBody (new_ask 3 IntentionRead (stamp 2 2)) false) ∷
       [];
   went = (0 ∷ 1 ∷ []) ∷ [];
   turns = turn 0 (Take 1) ∷ turn 0 (Take 2) ∷ turn 2 (Take 0) ∷ turn 2 (Take 1) ∷ turn 2 (Act 4) ∷ [];

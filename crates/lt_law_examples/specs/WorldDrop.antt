@@ -1,12 +1,12 @@
 -- A worked world: a drop of several locks of one mode.
-use Rattle.std.specs.Prelude.{false, [], ◌∷◌, Some, None, codes}
+use Rattle.std.specs.Prelude.{false, [], ◌∷◌, Some, codes}
 use Rattle.lt_modes.specs.declared.mode.Mode.TheVariants.{IntentionRead, Read, Upgrade, IntentionWrite, ReadIntentionWrite, Write}
 use Rattle.lt_modes.specs.declared.command.Command.TheVariants.{Lock, Unlock, DropAll}
 use Rattle.lt_modes.specs.declared.event.Event.TheVariants.{Grant, Wait, Unlock as Unlocked, NotHeld, DropAll as Dropped, Busy, Copy, Token}
 use Rattle.lt_modes.specs.declared.moves.Step.TheVariants.{Act}
 use Rattle.lt_modes.specs.Modes.{no_modes, modes_in}
 use Rattle.lt_law_examples.specs.Worked.{Worked, declared_set, declared_client, act, taken_at, holds, owner}
-use Rattle.lt_law_examples.specs.Snapshot.{Snapshot, blank, untouched_set, stamp, held_row, entry, new_ask, turn}
+use Rattle.lt_law_examples.specs.Snapshot.{Snapshot, untouched_set, stamp, held_row, entry, new_ask, turn, untouched_desk, untouched_at_desk}
 
 -- A drop counts locks, and not rows.
 abbrev pub drop_counts_locks : Worked
@@ -16,15 +16,9 @@ drop_counts_locks = record {
     nodes = 2;
     sets = declared_set (codes "s0") 0 ∷ declared_set (codes "s1") 0 ∷ declared_set (codes "s2") 0 ∷ [];
     clients =
-        declared_client (codes "c0") 1 ∷
-        declared_client (codes "c1") 0 ∷
-        declared_client (codes "c2") 1 ∷
-        declared_client (codes "c3") 0 ∷
-        declared_client (codes "c4") 0 ∷
-        declared_client (codes "c5") 0 ∷
-        declared_client (codes "c6") 1 ∷
-        declared_client (codes "c7") 0 ∷
-        [];
+        declared_client (codes "c0") 1 ∷ declared_client (codes "c1") 0 ∷ declared_client (codes "c2") 1 ∷
+        declared_client (codes "c3") 0 ∷ declared_client (codes "c4") 0 ∷ declared_client (codes "c5") 0 ∷
+        declared_client (codes "c6") 1 ∷ declared_client (codes "c7") 0 ∷ [];
     commands =
         (4, Lock 2 Read) ∷
         (3, Lock 0 Upgrade) ∷
@@ -131,66 +125,30 @@ drop_counts_locks_after_24 = record {
         clock = 17;
         made = 0 ∷ 4 ∷ 0 ∷ 6 ∷ 3 ∷ 1 ∷ 0 ∷ 1 ∷ [];
         sets =
-            record {
-              held = [];
-              charge = no_modes;
+            record untouched_set {
               frozen = modes_in (Read ∷ Upgrade ∷ IntentionWrite ∷ ReadIntentionWrite ∷ Write ∷ []);
-              number = 0;
               firm = owner 1 1;
-              hoped = None;
               pending =
                   new_ask 7 Upgrade (stamp 11 0) ∷
                   new_ask 4 Read (stamp 16 0) ∷
                   new_ask 3 Read (stamp 17 0) ∷
                   [];
-              gone = [];
-              parked = [];
-              desk = None;
             } ∷
-            record {
-              held = held_row 1 Read 1 ∷ held_row 5 Upgrade 1 ∷ [];
-              charge = no_modes;
-              frozen = no_modes;
-              number = 0;
-              firm = owner 0 0;
-              hoped = None;
-              pending = [];
-              gone = [];
-              parked = [];
-              desk = Some (record {
-                epoch = 0;
-                number = 0;
-                queue = [];
-                entries = blank ∷ blank ∷ [];
-              });
-            } ∷
-            record untouched_set {
-              desk = Some (record {
-                epoch = 0;
-                number = 0;
-                queue = [];
-                entries = blank ∷ blank ∷ [];
-              });
-            } ∷
+            record (untouched_at_desk 2) { held = held_row 1 Read 1 ∷ held_row 5 Upgrade 1 ∷ [] } ∷
+            untouched_at_desk 2 ∷
             [];
       } ∷
       record {
         clock = 19;
         made = 0 ∷ 0 ∷ 1 ∷ 0 ∷ 0 ∷ 0 ∷ 3 ∷ 0 ∷ [];
         sets =
-            record {
+            record untouched_set {
               held = held_row 2 IntentionWrite 1 ∷ [];
-              charge = no_modes;
               frozen = modes_in (Upgrade ∷ IntentionWrite ∷ ReadIntentionWrite ∷ Write ∷ []);
-              number = 0;
               firm = owner 1 1;
-              hoped = None;
               pending = new_ask 6 Upgrade (stamp 19 1) ∷ [];
-              gone = [];
-              parked = [];
-              desk = Some (record {
+              desk = Some (record (untouched_desk 2) {
                 epoch = 1;
-                number = 0;
                 queue =
                     new_ask 7 Upgrade (stamp 11 0) ∷
                     new_ask 4 Read (stamp 16 0) ∷

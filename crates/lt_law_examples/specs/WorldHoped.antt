@@ -1,5 +1,5 @@
 -- A worked world: hoped links.
-use Rattle.std.specs.Prelude.{true, false, [], ◌∷◌, Some, None, codes}
+use Rattle.std.specs.Prelude.{true, false, [], ◌∷◌, codes}
 use Rattle.lt_modes.specs.declared.mode.Mode.TheVariants.{IntentionRead, Read, Upgrade, IntentionWrite, ReadIntentionWrite, Write}
 use Rattle.lt_modes.specs.declared.command.Command.TheVariants.{Lock, Unlock, Change, DropAll}
 use Rattle.lt_modes.specs.declared.event.Event.TheVariants.{Grant, Wait, Unlock as Unlocked, Change as Changed, DropAll as Dropped, Token}
@@ -8,7 +8,7 @@ use Rattle.lt_modes.specs.Modes.{no_modes, all_modes, modes_in}
 use Rattle.lt_modes.specs.State.{AskBody, TokenBody}
 use Rattle.lt_spec.specs.Holdings.{holding}
 use Rattle.lt_law_examples.specs.Worked.{Worked, declared_set, declared_client, act, taken_at, holds, owner}
-use Rattle.lt_law_examples.specs.Snapshot.{Snapshot, blank, untouched_set, stamp, hoped, entry, new_ask, turn}
+use Rattle.lt_law_examples.specs.Snapshot.{Snapshot, untouched_set, stamp, hoped, entry, new_ask, turn, mailed, untouched_desk, untouched_at_desk}
 
 -- Asks go by hoped links while the token of their set is on its way.
 abbrev pub asks_by_hoped_links : Worked
@@ -18,13 +18,8 @@ asks_by_hoped_links = record {
     nodes = 3;
     sets = declared_set (codes "s0") 0 ∷ declared_set (codes "s1") 0 ∷ [];
     clients =
-        declared_client (codes "c0") 0 ∷
-        declared_client (codes "c1") 1 ∷
-        declared_client (codes "c2") 2 ∷
-        declared_client (codes "c3") 2 ∷
-        declared_client (codes "c4") 0 ∷
-        declared_client (codes "c5") 1 ∷
-        [];
+        declared_client (codes "c0") 0 ∷ declared_client (codes "c1") 1 ∷ declared_client (codes "c2") 2 ∷
+        declared_client (codes "c3") 2 ∷ declared_client (codes "c4") 0 ∷ declared_client (codes "c5") 1 ∷ [];
     commands =
         (3, Lock 0 Upgrade) ∷
         (1, Lock 0 Write) ∷
@@ -91,136 +86,55 @@ asks_by_hoped_links_after_21 = record {
         clock = 8;
         made = 5 ∷ 0 ∷ 0 ∷ 0 ∷ 0 ∷ 0 ∷ [];
         sets =
-            record {
-              held = [];
-              charge = no_modes;
+            record untouched_set {
               frozen = modes_in (Upgrade ∷ IntentionWrite ∷ ReadIntentionWrite ∷ Write ∷ []);
-              number = 0;
               firm = owner 2 1;
               hoped = hoped 1 (stamp 1 1);
               pending = new_ask 0 Upgrade (stamp 8 0) ∷ [];
-              gone = [];
-              parked = [];
-              desk = None;
             } ∷
-            record untouched_set {
-              desk = Some (record {
-                epoch = 0;
-                number = 0;
-                queue = [];
-                entries = blank ∷ blank ∷ blank ∷ [];
-              });
-            } ∷
+            untouched_at_desk 3 ∷
             [];
       } ∷
       record {
         clock = 10;
         made = 0 ∷ 3 ∷ 0 ∷ 0 ∷ 0 ∷ 1 ∷ [];
         sets =
-            record {
-              held = [];
-              charge = no_modes;
+            record untouched_set {
               frozen = modes_in (IntentionWrite ∷ ReadIntentionWrite ∷ Write ∷ []);
-              number = 0;
               firm = owner 2 3;
               hoped = hoped 2 (stamp 8 2);
               pending = new_ask 5 IntentionRead (stamp 2 1) ∷ [];
-              gone = [];
-              parked = [];
-              desk = None;
             } ∷
-            record {
-              held = [];
-              charge = no_modes;
-              frozen = no_modes;
-              number = 0;
-              firm = owner 0 0;
-              hoped = None;
-              pending = new_ask 1 Read (stamp 8 1) ∷ [];
-              gone = [];
-              parked = [];
-              desk = None;
-            } ∷
+            record untouched_set { pending = new_ask 1 Read (stamp 8 1) ∷ [] } ∷
             [];
       } ∷
       record {
         clock = 8;
         made = 0 ∷ 0 ∷ 1 ∷ 4 ∷ 0 ∷ 0 ∷ [];
         sets =
-            record {
-              held = [];
-              charge = no_modes;
+            record untouched_set {
               frozen = all_modes;
-              number = 0;
               firm = owner 1 2;
-              hoped = None;
               pending = new_ask 3 Read (stamp 7 2) ∷ new_ask 2 Write (stamp 8 2) ∷ [];
-              gone = [];
-              parked = [];
-              desk = None;
             } ∷
             untouched_set ∷
             [];
       } ∷
       [];
   mail =
-      record {
-        sender = 0;
-        receiver = 1;
-        letters =
-            record {
-              stamp = stamp 8 0;
-              set = 0;
-              link = owner 2 1;
-              body = AskBody (new_ask 0 Upgrade (stamp 8 0)) true;
-            } ∷
+      mailed 1 (stamp 8 0) 0 (owner 2 1) (AskBody (new_ask 0 Upgrade (stamp 8 0)) true) ∷
+      mailed 0 (stamp 2 1) 0 (owner 0 0) (AskBody (new_ask 5 IntentionRead (stamp 2 1)) false) ∷
+      mailed 0 (stamp 8 1) 1 (owner 0 0) (AskBody (new_ask 1 Read (stamp 8 1)) false) ∷
+      mailed 2 (stamp 9 1) 0 (owner 2 3) (TokenBody (record (untouched_desk 3) {
+        epoch = 3;
+        queue = new_ask 3 Read (stamp 7 2) ∷ [];
+        entries =
+            entry no_modes [] (stamp 2 0) [] (modes_in (Upgrade ∷ IntentionWrite ∷ ReadIntentionWrite ∷ Write ∷ [])) ∷
+            entry no_modes [] (stamp 9 1) (stamp 2 1 ∷ []) (modes_in (IntentionWrite ∷ ReadIntentionWrite ∷ Write ∷ [])) ∷
+            entry no_modes [] (stamp 5 2) [] all_modes ∷
             [];
-      } ∷
-      record {
-        sender = 1;
-        receiver = 0;
-        letters =
-            record {
-              stamp = stamp 2 1;
-              set = 0;
-              link = owner 0 0;
-              body = AskBody (new_ask 5 IntentionRead (stamp 2 1)) false;
-            } ∷
-            record {
-              stamp = stamp 8 1;
-              set = 1;
-              link = owner 0 0;
-              body = AskBody (new_ask 1 Read (stamp 8 1)) false;
-            } ∷
-            [];
-      } ∷
-      record {
-        sender = 1;
-        receiver = 2;
-        letters =
-            record {
-              stamp = stamp 9 1;
-              set = 0;
-              link = owner 2 3;
-              body = TokenBody (record {
-                epoch = 3;
-                number = 0;
-                queue = new_ask 3 Read (stamp 7 2) ∷ [];
-                entries =
-                    entry no_modes [] (stamp 2 0) [] (modes_in (Upgrade ∷ IntentionWrite ∷ ReadIntentionWrite ∷ Write ∷ [])) ∷
-                    entry no_modes [] (stamp 9 1) (stamp 2 1 ∷ []) (modes_in (IntentionWrite ∷ ReadIntentionWrite ∷ Write ∷ [])) ∷
-                    entry no_modes [] (stamp 5 2) [] all_modes ∷
-                    [];
-              });
-            } ∷
-            record {
-              stamp = stamp 10 1;
-              set = 0;
-              link = owner 2 3;
-              body = AskBody (new_ask 2 Write (stamp 8 2)) false;
-            } ∷
-            [];
-      } ∷
+      })) ∷
+      mailed 2 (stamp 10 1) 0 (owner 2 3) (AskBody (new_ask 2 Write (stamp 8 2)) false) ∷
       [];
   went = (0 ∷ 2 ∷ 1 ∷ 2 ∷ []) ∷ (0 ∷ []) ∷ [];
   turns = turn 0 (Take 1) ∷ turn 1 (Take 0) ∷ turn 2 (Take 1) ∷ [];

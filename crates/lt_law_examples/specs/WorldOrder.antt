@@ -1,14 +1,14 @@
 -- A worked world: a drop in two sets.
-use Rattle.std.specs.Prelude.{true, false, [], ◌∷◌, Some, None, codes}
+use Rattle.std.specs.Prelude.{true, false, [], ◌∷◌, Some, codes}
 use Rattle.lt_modes.specs.declared.mode.Mode.TheVariants.{IntentionRead, Read, Upgrade, IntentionWrite, ReadIntentionWrite, Write}
 use Rattle.lt_modes.specs.declared.command.Command.TheVariants.{Lock, Try, Unlock, Change, DropAll}
 use Rattle.lt_modes.specs.declared.event.Event.TheVariants.{Grant, Wait, Try as Tried, Unlock as Unlocked, Change as Changed, DropAll as Dropped, Busy, Copy, Freeze, Token}
 use Rattle.lt_modes.specs.declared.moves.Step.TheVariants.{Act, Take}
 use Rattle.lt_modes.specs.Modes.{no_modes, all_modes, modes_in}
-use Rattle.lt_modes.specs.State.{TellBody, CopyBody}
+use Rattle.lt_modes.specs.State.{CopyBody}
 use Rattle.lt_spec.specs.Holdings.{holding}
 use Rattle.lt_law_examples.specs.Worked.{Worked, declared_set, declared_client, act, taken_at, holds, owner}
-use Rattle.lt_law_examples.specs.Snapshot.{Snapshot, blank, untouched_set, stamp, held_row, owed, entry, new_ask, turn}
+use Rattle.lt_law_examples.specs.Snapshot.{Snapshot, blank, untouched_set, stamp, held_row, owed, entry, new_ask, turn, mailed, tell_body, untouched_desk, untouched_at_desk}
 
 -- A drop goes through its sets in order.
 abbrev pub drop_in_order : Worked
@@ -18,11 +18,8 @@ drop_in_order = record {
     nodes = 3;
     sets = declared_set (codes "s0") 0 ∷ declared_set (codes "s1") 0 ∷ [];
     clients =
-        declared_client (codes "c0") 2 ∷
-        declared_client (codes "c1") 2 ∷
-        declared_client (codes "c2") 0 ∷
-        declared_client (codes "c3") 1 ∷
-        [];
+        declared_client (codes "c0") 2 ∷ declared_client (codes "c1") 2 ∷ declared_client (codes "c2") 0 ∷
+        declared_client (codes "c3") 1 ∷ [];
     commands =
         (2, Lock 0 Upgrade) ∷
         (3, Try 0 Upgrade) ∷
@@ -31,31 +28,19 @@ drop_in_order = record {
         (2, Unlock 0 Write) ∷
         (3, Lock 0 Upgrade) ∷
         (1, Lock 0 Write) ∷
-        (2, Change 0 Upgrade Upgrade) ∷
-        (2, Lock 1 Upgrade) ∷
-        (2, Lock 1 Write) ∷
+        (2, Change 0 Upgrade Upgrade) ∷ (2, Lock 1 Upgrade) ∷ (2, Lock 1 Write) ∷
         (0, Lock 1 Read) ∷
-        (2, Lock 0 Upgrade) ∷
-        (2, Unlock 1 Write) ∷
-        (2, DropAll 2 1) ∷
+        (2, Lock 0 Upgrade) ∷ (2, Unlock 1 Write) ∷ (2, DropAll 2 1) ∷
         (3, Lock 1 IntentionRead) ∷
         (2, DropAll 2 1) ∷
-        (0, DropAll 1 1) ∷
-        (0, Unlock 1 Read) ∷
+        (0, DropAll 1 1) ∷ (0, Unlock 1 Read) ∷
         (3, Try 0 Upgrade) ∷
         (0, DropAll 0 0) ∷
         (3, Change 1 IntentionRead Read) ∷
         (2, Lock 0 Upgrade) ∷
         (0, Lock 1 Write) ∷
-        (3, Lock 1 Upgrade) ∷
-        (3, Unlock 0 Upgrade) ∷
-        (3, Lock 0 Write) ∷
-        (3, Try 1 Upgrade) ∷
-        (3, Unlock 0 Write) ∷
-        (3, Unlock 1 Upgrade) ∷
-        (3, Unlock 1 Upgrade) ∷
-        (3, DropAll 3 1) ∷
-        (3, DropAll 3 1) ∷
+        (3, Lock 1 Upgrade) ∷ (3, Unlock 0 Upgrade) ∷ (3, Lock 0 Write) ∷ (3, Try 1 Upgrade) ∷ (3, Unlock 0 Write) ∷
+        (3, Unlock 1 Upgrade) ∷ (3, Unlock 1 Upgrade) ∷ (3, DropAll 3 1) ∷ (3, DropAll 3 1) ∷
         [];
   };
   run =
@@ -123,23 +108,9 @@ drop_in_order_after_24 = record {
         clock = 15;
         made = 0 ∷ 0 ∷ 10 ∷ 0 ∷ [];
         sets =
-            record {
-              held = [];
-              charge = no_modes;
-              frozen = all_modes;
-              number = 0;
-              firm = owner 1 1;
-              hoped = None;
-              pending = [];
-              gone = [];
-              parked = [];
-              desk = None;
-            } ∷
-            record untouched_set {
-              desk = Some (record {
-                epoch = 0;
-                number = 0;
-                queue = [];
+            record untouched_set { frozen = all_modes; firm = owner 1 1 } ∷
+            record (untouched_at_desk 3) {
+              desk = Some (record (untouched_desk 3) {
                 entries =
                     blank ∷
                     entry no_modes (owed (stamp 14 1) IntentionRead ∷ []) (stamp 0 0) [] no_modes ∷
@@ -153,19 +124,12 @@ drop_in_order_after_24 = record {
         clock = 14;
         made = 0 ∷ 0 ∷ 0 ∷ 4 ∷ [];
         sets =
-            record {
+            record untouched_set {
               held = held_row 3 Upgrade 1 ∷ [];
-              charge = no_modes;
               frozen = all_modes;
-              number = 0;
               firm = owner 1 1;
-              hoped = None;
-              pending = [];
-              gone = [];
-              parked = [];
-              desk = Some (record {
+              desk = Some (record (untouched_desk 3) {
                 epoch = 1;
-                number = 0;
                 queue = new_ask 1 Write (stamp 1 2) ∷ [];
                 entries =
                     entry no_modes [] (stamp 12 0) [] all_modes ∷
@@ -174,65 +138,21 @@ drop_in_order_after_24 = record {
                     [];
               });
             } ∷
-            record {
-              held = [];
-              charge = no_modes;
-              frozen = no_modes;
-              number = 0;
-              firm = owner 0 0;
-              hoped = None;
-              pending = new_ask 3 IntentionRead (stamp 14 1) ∷ [];
-              gone = [];
-              parked = [];
-              desk = None;
-            } ∷
+            record untouched_set { pending = new_ask 3 IntentionRead (stamp 14 1) ∷ [] } ∷
             [];
       } ∷
       record {
         clock = 14;
         made = 3 ∷ 1 ∷ 0 ∷ 0 ∷ [];
         sets =
-            record {
-              held = [];
-              charge = no_modes;
-              frozen = no_modes;
-              number = 0;
-              firm = owner 0 0;
-              hoped = None;
-              pending = new_ask 1 Write (stamp 1 2) ∷ [];
-              gone = [];
-              parked = [];
-              desk = None;
-            } ∷
+            record untouched_set { pending = new_ask 1 Write (stamp 1 2) ∷ [] } ∷
             untouched_set ∷
             [];
       } ∷
       [];
   mail =
-      record {
-        sender = 0;
-        receiver = 1;
-        letters =
-            record {
-              stamp = stamp 15 0;
-              set = 1;
-              link = owner 0 0;
-              body = CopyBody (new_ask 3 IntentionRead (stamp 14 1));
-            } ∷
-            [];
-      } ∷
-      record {
-        sender = 2;
-        receiver = 0;
-        letters =
-            record {
-              stamp = stamp 14 2;
-              set = 1;
-              link = owner 0 0;
-              body = TellBody (record { node = 2; modes = no_modes; pending = []; stamp = stamp 14 2 });
-            } ∷
-            [];
-      } ∷
+      mailed 1 (stamp 15 0) 1 (owner 0 0) (CopyBody (new_ask 3 IntentionRead (stamp 14 1))) ∷
+      mailed 0 (stamp 14 2) 1 (owner 0 0) (tell_body no_modes [] (stamp 14 2)) ∷
       [];
   went = (0 ∷ 1 ∷ []) ∷ (0 ∷ []) ∷ [];
   turns = turn 0 (Take 2) ∷ turn 1 (Take 0) ∷ turn 2 (Act 0) ∷ turn 0 (Act 2) ∷ [];

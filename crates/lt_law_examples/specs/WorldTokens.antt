@@ -1,14 +1,14 @@
 -- A worked world: two tokens on their way.
-use Rattle.std.specs.Prelude.{true, false, [], ◌∷◌, Some, None, codes}
+use Rattle.std.specs.Prelude.{true, false, [], ◌∷◌, codes}
 use Rattle.lt_modes.specs.declared.mode.Mode.TheVariants.{Read, Upgrade, IntentionWrite, ReadIntentionWrite, Write}
 use Rattle.lt_modes.specs.declared.command.Command.TheVariants.{Lock, Try, Unlock, Change, DropAll}
 use Rattle.lt_modes.specs.declared.event.Event.TheVariants.{Grant, Wait, Try as Tried, Unlock as Unlocked, NotHeld, Change as Changed, DropAll as Dropped, Freeze, Token}
 use Rattle.lt_modes.specs.declared.moves.Step.TheVariants.{Act, Take}
 use Rattle.lt_modes.specs.Modes.{no_modes, modes_in}
-use Rattle.lt_modes.specs.State.{AskBody, TellBody, TokenBody}
+use Rattle.lt_modes.specs.State.{AskBody, TokenBody}
 use Rattle.lt_spec.specs.Holdings.{holding}
 use Rattle.lt_law_examples.specs.Worked.{Worked, declared_set, declared_client, act, taken_at, holds, owner}
-use Rattle.lt_law_examples.specs.Snapshot.{Snapshot, blank, untouched_set, stamp, entry, new_ask, turn}
+use Rattle.lt_law_examples.specs.Snapshot.{Snapshot, blank, untouched_set, stamp, entry, new_ask, turn, untouched_node, mailed, tell_body, untouched_desk, untouched_at_desk}
 
 -- Two tokens and a tell go from one node to another, and asks are behind them.
 abbrev pub tokens_on_way : Worked
@@ -18,12 +18,8 @@ tokens_on_way = record {
     nodes = 4;
     sets = declared_set (codes "s0") 0 ∷ declared_set (codes "s1") 1 ∷ declared_set (codes "s2") 1 ∷ [];
     clients =
-        declared_client (codes "c0") 1 ∷
-        declared_client (codes "c1") 2 ∷
-        declared_client (codes "c2") 0 ∷
-        declared_client (codes "c3") 2 ∷
-        declared_client (codes "c4") 1 ∷
-        [];
+        declared_client (codes "c0") 1 ∷ declared_client (codes "c1") 2 ∷ declared_client (codes "c2") 0 ∷
+        declared_client (codes "c3") 2 ∷ declared_client (codes "c4") 1 ∷ [];
     commands =
         (0, Try 0 Upgrade) ∷
         (4, Lock 1 Upgrade) ∷
@@ -91,37 +87,14 @@ tokens_on_way_after_11 = record {
         clock = 6;
         made = 0 ∷ 0 ∷ 3 ∷ 0 ∷ 0 ∷ [];
         sets =
+            untouched_at_desk 4 ∷
             record untouched_set {
-              desk = Some (record {
-                epoch = 0;
-                number = 0;
-                queue = [];
-                entries = blank ∷ blank ∷ blank ∷ blank ∷ [];
-              });
-            } ∷
-            record {
-              held = [];
-              charge = no_modes;
               frozen = modes_in (Upgrade ∷ IntentionWrite ∷ ReadIntentionWrite ∷ Write ∷ []);
-              number = 0;
               firm = owner 1 1;
-              hoped = None;
-              pending = [];
-              gone = [];
-              parked = [];
-              desk = None;
             } ∷
-            record {
-              held = [];
-              charge = no_modes;
+            record untouched_set {
               frozen = modes_in (Upgrade ∷ IntentionWrite ∷ ReadIntentionWrite ∷ Write ∷ []);
-              number = 0;
               firm = owner 1 1;
-              hoped = None;
-              pending = [];
-              gone = [];
-              parked = [];
-              desk = None;
             } ∷
             [];
       } ∷
@@ -130,30 +103,8 @@ tokens_on_way_after_11 = record {
         made = 2 ∷ 0 ∷ 0 ∷ 0 ∷ 1 ∷ [];
         sets =
             untouched_set ∷
-            record {
-              held = [];
-              charge = no_modes;
-              frozen = no_modes;
-              number = 0;
-              firm = owner 0 0;
-              hoped = None;
-              pending = new_ask 4 Upgrade (stamp 2 1) ∷ [];
-              gone = [];
-              parked = [];
-              desk = None;
-            } ∷
-            record {
-              held = [];
-              charge = no_modes;
-              frozen = no_modes;
-              number = 0;
-              firm = owner 0 0;
-              hoped = None;
-              pending = new_ask 0 Upgrade (stamp 3 1) ∷ [];
-              gone = [];
-              parked = [];
-              desk = None;
-            } ∷
+            record untouched_set { pending = new_ask 4 Upgrade (stamp 2 1) ∷ [] } ∷
+            record untouched_set { pending = new_ask 0 Upgrade (stamp 3 1) ∷ [] } ∷
             [];
       } ∷
       record {
@@ -161,105 +112,36 @@ tokens_on_way_after_11 = record {
         made = 0 ∷ 1 ∷ 0 ∷ 2 ∷ 0 ∷ [];
         sets =
             untouched_set ∷
-            record {
-              held = [];
-              charge = no_modes;
-              frozen = no_modes;
-              number = 0;
-              firm = owner 0 0;
-              hoped = None;
-              pending = new_ask 1 Upgrade (stamp 2 2) ∷ [];
-              gone = [];
-              parked = [];
-              desk = None;
-            } ∷
-            record {
-              held = [];
-              charge = no_modes;
-              frozen = no_modes;
-              number = 0;
-              firm = owner 0 0;
-              hoped = None;
-              pending = new_ask 3 IntentionWrite (stamp 3 2) ∷ [];
-              gone = [];
-              parked = [];
-              desk = None;
-            } ∷
+            record untouched_set { pending = new_ask 1 Upgrade (stamp 2 2) ∷ [] } ∷
+            record untouched_set { pending = new_ask 3 IntentionWrite (stamp 3 2) ∷ [] } ∷
             [];
       } ∷
-      record {
-        clock = 0;
-        made = 0 ∷ 0 ∷ 0 ∷ 0 ∷ 0 ∷ [];
-        sets =
-            untouched_set ∷
-            untouched_set ∷
-            untouched_set ∷
-            [];
-      } ∷
+      untouched_node 5 3 ∷
       [];
   mail =
-      record {
-        sender = 0;
-        receiver = 1;
-        letters =
-            record {
-              stamp = stamp 3 0;
-              set = 1;
-              link = owner 1 1;
-              body = TokenBody (record {
-                epoch = 1;
-                number = 0;
-                queue = new_ask 4 Upgrade (stamp 2 1) ∷ [];
-                entries =
-                    entry no_modes [] (stamp 3 0) [] (modes_in (Upgrade ∷ IntentionWrite ∷ ReadIntentionWrite ∷ Write ∷ [])) ∷
-                    blank ∷
-                    blank ∷
-                    blank ∷
-                    [];
-              });
-            } ∷
-            record {
-              stamp = stamp 4 0;
-              set = 2;
-              link = owner 1 1;
-              body = TokenBody (record {
-                epoch = 1;
-                number = 0;
-                queue = new_ask 0 Upgrade (stamp 3 1) ∷ [];
-                entries =
-                    entry (modes_in (Read ∷ [])) [] (stamp 4 0) [] (modes_in (Upgrade ∷ IntentionWrite ∷ ReadIntentionWrite ∷ Write ∷ [])) ∷
-                    blank ∷
-                    blank ∷
-                    blank ∷
-                    [];
-              });
-            } ∷
-            record {
-              stamp = stamp 6 0;
-              set = 2;
-              link = owner 1 1;
-              body = TellBody (record { node = 0; modes = no_modes; pending = []; stamp = stamp 6 0 });
-            } ∷
+      mailed 1 (stamp 3 0) 1 (owner 1 1) (TokenBody (record (untouched_desk 4) {
+        epoch = 1;
+        queue = new_ask 4 Upgrade (stamp 2 1) ∷ [];
+        entries =
+            entry no_modes [] (stamp 3 0) [] (modes_in (Upgrade ∷ IntentionWrite ∷ ReadIntentionWrite ∷ Write ∷ [])) ∷
+            blank ∷
+            blank ∷
+            blank ∷
             [];
-      } ∷
-      record {
-        sender = 2;
-        receiver = 0;
-        letters =
-            record {
-              stamp = stamp 2 2;
-              set = 1;
-              link = owner 0 0;
-              body = AskBody (new_ask 1 Upgrade (stamp 2 2)) false;
-            } ∷
-            record {
-              stamp = stamp 3 2;
-              set = 2;
-              link = owner 0 0;
-              body = AskBody (new_ask 3 IntentionWrite (stamp 3 2)) false;
-            } ∷
+      })) ∷
+      mailed 1 (stamp 4 0) 2 (owner 1 1) (TokenBody (record (untouched_desk 4) {
+        epoch = 1;
+        queue = new_ask 0 Upgrade (stamp 3 1) ∷ [];
+        entries =
+            entry (modes_in (Read ∷ [])) [] (stamp 4 0) [] (modes_in (Upgrade ∷ IntentionWrite ∷ ReadIntentionWrite ∷ Write ∷ [])) ∷
+            blank ∷
+            blank ∷
+            blank ∷
             [];
-      } ∷
+      })) ∷
+      mailed 1 (stamp 6 0) 2 (owner 1 1) (tell_body no_modes [] (stamp 6 0)) ∷
+      mailed 0 (stamp 2 2) 1 (owner 0 0) (AskBody (new_ask 1 Upgrade (stamp 2 2)) false) ∷
+      mailed 0 (stamp 3 2) 2 (owner 0 0) (AskBody (new_ask 3 IntentionWrite (stamp 3 2)) false) ∷
       [];
   went = (0 ∷ []) ∷ (0 ∷ 1 ∷ []) ∷ (0 ∷ 1 ∷ []) ∷ [];
   turns = turn 0 (Take 2) ∷ turn 1 (Take 0) ∷ turn 0 (Act 2) ∷ [];

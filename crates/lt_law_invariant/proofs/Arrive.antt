@@ -4,8 +4,9 @@ use Rattle.std.specs.List.{AllByRecursion}
 use Rattle.lt_modes.specs.declared.stamp.Stamp.{Stamp}
 use Rattle.lt_modes.specs.Script.{ScriptData}
 use Rattle.lt_modes.specs.State.{SetState, Desk, Body, AskBody, TellBody, CopyBody, TokenBody, FreezeBody, Parked, ParkedAsk, ParkedTell, Made, silent, entry_of}
-use Rattle.lt_modes.specs.Serving.{told, tell_applied}
-use Rattle.lt_modes.specs.SetMove.{dealt, route, route_by, take_body, take_copy, take_freeze, take_token}
+use Rattle.lt_modes.specs.Telling.{told, tell_applied}
+use Rattle.lt_modes.specs.Routing.{dealt, route, route_by}
+use Rattle.lt_modes.specs.Taking.{take_body, take_copy, take_freeze, take_token}
 use Rattle.lt_spec.specs.World.{World}
 use Rattle.lt_spec.specs.Facts.{state_at, DeskIs}
 use Rattle.lt_model.specs.OnWay.{Acting, copies_to}

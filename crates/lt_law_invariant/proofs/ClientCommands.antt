@@ -4,7 +4,7 @@ use Rattle.lt_modes.proofs.ModeAlgebra.{same_mode-true}
 use Rattle.lt_model.proofs.Voids.{asks_ways, withdraws_ways}
 use Rattle.std.specs.Prelude.{find, not, ◌||◌}
 use Rattle.std.specs.List.{list_any}
-use Rattle.lt_modes.specs.Waiting.{pending_ask}
+use Rattle.lt_modes.specs.Waiting.{pending_ask, waits}
 use Rattle.std.proofs.Common.{◌≡◌, ◌≢◌, ℕ, ◌+◌, ◌-◌, ◌≤◌, inl, inr, List, [], ◌∷◌, ◌++◌, Option, Some, None, Bool, true, false, refl, sym, ap, subst, arith, ◌∙◌, ◌⊎◌, ◌==◌, ◌&&◌, if◌then◌else◌, Contains, All, AllPairs, count_by, slice_index_or, is_none, sum_by, eq-eqb, ne_eqb, suc}
 use Rattle.std.proofs.lemmas.Bool.{cases_eq, and_left, and_parts, eqb-true, false≢true}
 use Rattle.std.proofs.lemmas.List.Elements.{Contains-push_cases, Contains-get_or}
@@ -17,8 +17,8 @@ use Rattle.lt_modes.specs.declared.parts.Row.{Row}
 use Rattle.lt_modes.specs.declared.event.Event.TheVariants.{Try, Unlock, NotHeld, Change, Wait, Withheld, Withdraw}
 use Rattle.lt_modes.specs.Modes.{same_mode, is_row_of, no_row, row_place, count_at, count_of, add_lock, take_lock, without_client, locks_of}
 use Rattle.lt_modes.specs.State.{SetState, Desk, Parked, ParkedAsk, Post, times_in, same_choice}
-use Rattle.lt_modes.specs.Freezing.{can_grant}
-use Rattle.lt_modes.specs.Serving.{queue_of_desk, give_up, is_gone, waits, without_gone as left_gone}
+use Rattle.lt_modes.specs.Granting.{can_grant}
+use Rattle.lt_modes.specs.Serving.{queue_of_desk, give_up, is_gone, without_gone as left_gone}
 use Rattle.lt_modes.specs.SetMove.{answers, given, granted, ask_of, asked, locked, tried, unlocked, change_held, changed, dropped, asked_or_not, same_wish, given_up, withdrawn}
 use Rattle.lt_spec.specs.Facts.{times_parked}
 use Rattle.lt_model.specs.Invariant.{IsMadeBy}

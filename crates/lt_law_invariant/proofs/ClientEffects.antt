@@ -14,9 +14,12 @@ use Rattle.lt_modes.specs.declared.ask.Ask.{Ask}
 use Rattle.lt_modes.specs.declared.parts.Row.{Row}
 use Rattle.lt_modes.specs.Modes.{same_mode, add_lock, take_lock, locks_of, held_modes, excludes_itself}
 use Rattle.lt_modes.specs.State.{SetState, Desk, ParkedTell, Post, no_ask, without, Made, Parked, ParkedAsk}
-use Rattle.lt_modes.specs.Serving.{ask_at, queue_of, next_service, give_up, answered, serve_local, serve_copy, hand_over_to, is_gone, rows_after, without_gone as left_gone}
+use Rattle.lt_modes.specs.Serving.{ask_at, queue_of, next_service, give_up, answered, serve_local, serve_copy, is_gone, rows_after, without_gone as left_gone}
+use Rattle.lt_modes.specs.HandingOver.{hand_over_to}
 use Rattle.lt_modes.specs.Freezing.{freeze_at}
-use Rattle.lt_modes.specs.SetMove.{tell_of, make_tell, Way, Parks, Goes, reversed, sent_on, route}
+use Rattle.lt_modes.specs.SetMove.{make_tell}
+use Rattle.lt_modes.specs.Telling.{tell_of}
+use Rattle.lt_modes.specs.Routing.{Way, Parks, Goes, reversed, sent_on, route}
 use Rattle.lt_law_accounts.proofs.Asks.{times_in-some, without_only, without_gone}
 use Rattle.lt_model.proofs.Effects.{Fact, EndEffects, next_service-within, both, route_ways}
 use Rattle.lt_model.proofs.StandingEffects.{standing_ends, found_here}

@@ -10,7 +10,8 @@ use Rattle.lt_modes.specs.declared.command.Command.TheVariants.{Lock, Unlock, Tr
 use Rattle.lt_modes.specs.Script.{ScriptData}
 use Rattle.lt_modes.specs.State.{SetState, Made}
 use Rattle.lt_modes.specs.Modes.{locks_of}
-use Rattle.lt_modes.specs.Serving.{waits, is_gone}
+use Rattle.lt_modes.specs.Serving.{is_gone}
+use Rattle.lt_modes.specs.Waiting.{waits}
 use Rattle.lt_modes.specs.SetMove.{finish, locked, tried, unlocked, changed, dropped, lock, try, unlock, change, drop, withdraw, withdrawn}
 use Rattle.lt_lists.specs.Below.{put}
 use Rattle.lt_spec.specs.NodeMove.{related, IsWhole, HasTargetsAt, NodeState, node_waits, act_stamp, at_clock, one_made, touched, drop_all, obey, withdraws_itself}

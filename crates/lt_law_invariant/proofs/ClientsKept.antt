@@ -16,7 +16,9 @@ use Rattle.lt_modes.specs.declared.moves.Step.TheVariants.{Act, Take}
 use Rattle.lt_modes.specs.Script.{ScriptData}
 use Rattle.lt_modes.specs.State.{SetState, Body, AskBody, TellBody, CopyBody, TokenBody, FreezeBody, Letter, ParkedAsk, ParkedTell, Made, without}
 use Rattle.lt_modes.specs.Serving.{answered, is_gone, rows_after, without_gone as left_gone}
-use Rattle.lt_modes.specs.SetMove.{learn, arrive, take_body, drop, take as take_letter, finish, withdraw}
+use Rattle.lt_modes.specs.SetMove.{drop, finish, withdraw}
+use Rattle.lt_modes.specs.Routing.{learn}
+use Rattle.lt_modes.specs.Taking.{arrive, take_body, take as take_letter}
 use Rattle.lt_lists.specs.Below.{put}
 use Rattle.lt_spec.specs.NodeMove.{home, related, IsWhole, NodeState, node_waits, next_command, act_stamp, take_stamp, at_clock, one_made, node_take, touched, each_touched, drop_all, obey, withdraws_itself}
 use Rattle.lt_model.specs.Invariant.{AsksStand, WorldInvariant, unanswered_asks}

@@ -8,7 +8,7 @@ use Rattle.std.proofs.lemmas.List.Sums.{sum_by-cons}
 use Rattle.lt_modes.specs.declared.ask.Ask.{Ask}
 use Rattle.lt_modes.specs.Script.{ScriptData, SetData, ClientData, home_at}
 use Rattle.lt_modes.specs.State.{SetState, Desk}
-use Rattle.lt_modes.specs.Serving.{waits}
+use Rattle.lt_modes.specs.Waiting.{waits}
 use Rattle.lt_modes.specs.Fits.{has_client, are_apart, asks_here, is_at_home, numbers_of}
 use Rattle.lt_modes.specs.Sound.{SoundHere, SoundDesk}
 use Rattle.lt_modes.specs.declared.command.Command.{Command}
@@ -21,7 +21,8 @@ use Rattle.lt_lists.proofs.Sums.{sum_below-add, sum_below-at, sum_below-most, su
 use Rattle.lt_lists.proofs.Searches.{any_below_none}
 use Rattle.lt_spec.specs.Script.{IsScript, load_of, IsRequest}
 use Rattle.lt_spec.specs.declared.limits.TheConstants.{MAX_CLIENTS, MAX_CLIENTS_OF_NODE, MAX_COMMANDS_OF_SERVICE}
-use Rattle.lt_spec.specs.NodeMove.{home, family, related, locks_in_sets, NodeState, command_if, commands_of, node_waits, IsWhole, HasTargetsAt, desk_within, set_within, leaves_ask}
+use Rattle.lt_spec.specs.NodeMove.{home, family, related, locks_in_sets, NodeState, command_if, commands_of, node_waits, IsWhole, HasTargetsAt}
+use Rattle.lt_spec.specs.Limits.{desk_within, set_within, leaves_ask}
 use Rattle.lt_spec.specs.Script as of_script
 use Rattle.lt_spec.specs.World.{Logged, world_after, IsRun}
 use Rattle.lt_model.specs.Homes.{IsAskOf, IsRowAtHome, Homes}

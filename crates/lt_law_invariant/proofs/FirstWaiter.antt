@@ -8,7 +8,8 @@ use Rattle.lt_modes.specs.Modes.{conflicts, has, held_modes, Modes, no_modes, un
 use Rattle.lt_modes.specs.Script.{ScriptData}
 use Rattle.lt_modes.specs.State.{Desk, Tell, Body, TellBody, CopyBody, TokenBody, Letter, ParkedTell, modes_of_asks, record_of, SetState, own_owed, others, FreezeBody, entry_of}
 use Rattle.lt_modes.proofs.ModeAlgebra.{union_bars_both, bars_by_table, none_in_none, conflicts-sym, each_barred, every_mode-at}
-use Rattle.lt_modes.specs.Serving.{queue_of, queue_of_desk, is_free, is_local, is_copy, is_served, may_draw, is_clear_at_home, next_service, next_draw, next_at, next_from, move_at, draw_from, is_void, is_ready}
+use Rattle.lt_modes.specs.Serving.{queue_of, queue_of_desk, is_free, is_local, is_copy, is_served, is_clear_at_home, next_service, next_at, next_from, is_void, is_ready}
+use Rattle.lt_modes.specs.HandingOver.{may_draw, next_draw, move_at, draw_from}
 use Rattle.lt_modes.specs.Fits.{parked_asks, asks_here, numbers_of}
 use Rattle.lt_modes.specs.Sound.{SoundRow, SoundHere}
 use Rattle.lt_modes.specs.Freezing.{frozen_by}

@@ -6,7 +6,7 @@ use Rattle.std.proofs.lemmas.List.Elements.{recursion_from_All, Contains-get_or}
 use Rattle.lt_modes.specs.Modes.{Modes}
 use Rattle.lt_modes.specs.Script.{ScriptData}
 use Rattle.lt_modes.specs.State.{SetState, Desk, FreezeBody, Made, silent, entry_of, Entry, Body, first_entry, Post, post_of}
-use Rattle.lt_modes.specs.SetMove.{take_freeze}
+use Rattle.lt_modes.specs.Taking.{take_freeze}
 use Rattle.lt_modes.specs.Freezing.{places_from, cons_if, frozen_by, is_target, targets, number_after, freeze_at}
 use Rattle.lt_modes.specs.declared.stamp.Stamp.{Stamp}
 use Rattle.lt_lists.proofs.Members.{contains_first, contains_later, contains_cases, contains_map, contains_mapped}

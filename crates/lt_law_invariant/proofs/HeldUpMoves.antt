@@ -10,7 +10,7 @@ use Rattle.lt_modes.specs.Fits.{numbers_of}
 use Rattle.lt_modes.specs.Sound.{SoundParked}
 use Rattle.lt_modes.specs.declared.ask.Ask.{Ask}
 use Rattle.lt_modes.specs.Modes.{excludes_itself}
-use Rattle.lt_modes.specs.SetMove.{take as take_letter, arrive}
+use Rattle.lt_modes.specs.Taking.{take as take_letter, arrive}
 use Rattle.lt_lists.proofs.AllLemmas.{all_weaker}
 use Rattle.lt_lists.specs.Below.{put}
 use Rattle.lt_lists.proofs.Puts.{put-same, put-other}

@@ -7,9 +7,13 @@ use Rattle.lt_modes.specs.declared.ask.Ask.{Ask}
 use Rattle.lt_modes.specs.declared.parts.Hoped.{Hoped}
 use Rattle.lt_modes.specs.Modes.{excludes_itself, held_modes}
 use Rattle.lt_modes.specs.State.{SetState, Desk, Body, AskBody, TellBody, CopyBody, TokenBody, FreezeBody, Letter, Parked, ParkedAsk, ParkedTell, Made, without}
-use Rattle.lt_modes.specs.Serving.{is_newer, ask_at, next_service, next_at, next_draw, move_at, serve_one, serve_local, serve_copy, hand_over_to}
+use Rattle.lt_modes.specs.Serving.{ask_at, next_service, next_at, serve_one, serve_local, serve_copy}
+use Rattle.lt_modes.specs.Telling.{is_newer, tell_of}
+use Rattle.lt_modes.specs.HandingOver.{next_draw, move_at, hand_over_to}
 use Rattle.lt_modes.specs.Freezing.{freeze, freeze_at}
-use Rattle.lt_modes.specs.SetMove.{Way, Parks, Goes, is_behind, ask_way, hoped_way, way, way_onward, reversed, sent_on, route, learn, tell_of, arrive, take_body, take_copy, ask_of, asked}
+use Rattle.lt_modes.specs.SetMove.{ask_of, asked}
+use Rattle.lt_modes.specs.Routing.{Way, Parks, Goes, is_behind, ask_way, hoped_way, way, way_onward, reversed, sent_on, route, learn}
+use Rattle.lt_modes.specs.Taking.{arrive, take_body, take_copy}
 use Rattle.lt_model.proofs.Effects.{Fact, EndEffects, ActEffects, ByEffects, route_ways, acts_by_effects}
 use Rattle.lt_lists.proofs.Members.{list_any-which}
 use Rattle.lt_law_invariant.specs.InvariantLaws.{IsHeldUp, HeldUp}

@@ -5,7 +5,7 @@ use Rattle.std.proofs.lemmas.Bool.{cases_eq, and_from, and_left, and_right}
 use Rattle.lt_modes.specs.declared.parts.Link.{Link}
 use Rattle.lt_modes.specs.Script.{ScriptData}
 use Rattle.lt_modes.specs.State.{SetState, Tell, Body, Letter, TellBody, CopyBody, FreezeBody, Parked, ParkedTell, Made, silent}
-use Rattle.lt_modes.specs.SetMove.{learn}
+use Rattle.lt_modes.specs.Routing.{learn}
 use Rattle.lt_modes.specs.declared.moves.Step.TheVariants.{Take}
 use Rattle.lt_spec.specs.World.{World, put_mail, opened}
 use Rattle.lt_spec.specs.Facts.{state_at, Comes}

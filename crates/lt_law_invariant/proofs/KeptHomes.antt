@@ -10,8 +10,10 @@ use Rattle.lt_modes.specs.declared.command.Command.TheVariants.{Lock, Unlock, Tr
 use Rattle.lt_modes.specs.declared.stamp.Stamp.{Stamp}
 use Rattle.lt_modes.specs.Script.{ScriptData, ClientData}
 use Rattle.lt_modes.specs.State.{SetState, Letter, first_state, Made, Body, AskBody, TellBody, CopyBody, TokenBody, FreezeBody, Parked, ParkedAsk, ParkedTell, Post, same_ask}
-use Rattle.lt_modes.specs.Serving.{waits, queue_of}
-use Rattle.lt_modes.specs.SetMove.{finish, lock, try, unlock, change, drop, take, withdraw}
+use Rattle.lt_modes.specs.Serving.{queue_of}
+use Rattle.lt_modes.specs.Waiting.{waits}
+use Rattle.lt_modes.specs.SetMove.{finish, lock, try, unlock, change, drop, withdraw}
+use Rattle.lt_modes.specs.Taking.{take}
 use Rattle.lt_modes.specs.declared.ask.Ask.{Ask}
 use Rattle.lt_modes.specs.declared.parts.Row.{Row}
 use Rattle.lt_modes.specs.declared.moves.Step.{Step}

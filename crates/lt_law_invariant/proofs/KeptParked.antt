@@ -6,7 +6,8 @@ use Rattle.lt_modes.specs.declared.moves.Step.{Step}
 use Rattle.lt_modes.specs.declared.moves.Step.TheVariants.{Act, Take}
 use Rattle.lt_modes.specs.Script.{ScriptData}
 use Rattle.lt_modes.specs.State.{SetState, Desk, Body, TokenBody, Letter, Parked, ParkedAsk, ParkedTell}
-use Rattle.lt_modes.specs.SetMove.{learn, arrive, take_body}
+use Rattle.lt_modes.specs.Routing.{learn}
+use Rattle.lt_modes.specs.Taking.{arrive, take_body}
 use Rattle.lt_modes.specs.Sound.{SoundDesk}
 use Rattle.lt_modes.specs.Fits.{numbers_of}
 use Rattle.lt_spec.specs.NodeMove.{NodeState, take_stamp, IsWhole}

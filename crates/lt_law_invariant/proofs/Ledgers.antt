@@ -9,9 +9,13 @@ use Rattle.lt_modes.specs.declared.ask.Ask.{Ask}
 use Rattle.lt_modes.specs.Modes.{bars, same_modes, held_modes, take_lock}
 use Rattle.lt_modes.specs.Script.{ScriptData}
 use Rattle.lt_modes.specs.State.{SetState, Desk, TokenBody, Parked, ParkedAsk, ParkedTell, Made, Post, silent, no_ask, entry_of}
-use Rattle.lt_modes.specs.Freezing.{can_grant, frozen_by, freeze, freeze_at}
-use Rattle.lt_modes.specs.Serving.{ask_at, queue_of, next_service, next_at, owed_at, owing, put_queue, serve_one, serve_local, serve_copy, leaving, hand_over_to, is_gone, is_void}
-use Rattle.lt_modes.specs.SetMove.{Way, Parks, Goes, dealt, sent_on, route, tell_of, make_tell, given, asked, dropped}
+use Rattle.lt_modes.specs.Freezing.{frozen_by, freeze, freeze_at}
+use Rattle.lt_modes.specs.Granting.{can_grant}
+use Rattle.lt_modes.specs.Serving.{ask_at, queue_of, next_service, next_at, owed_at, owing, put_queue, serve_one, serve_local, serve_copy, is_gone, is_void}
+use Rattle.lt_modes.specs.HandingOver.{leaving, hand_over_to}
+use Rattle.lt_modes.specs.SetMove.{make_tell, given, asked, dropped}
+use Rattle.lt_modes.specs.Routing.{Way, Parks, Goes, dealt, sent_on, route}
+use Rattle.lt_modes.specs.Telling.{tell_of}
 use Rattle.lt_spec.specs.World.{World}
 use Rattle.lt_spec.specs.Facts.{state_at, DeskIs}
 use Rattle.lt_model.specs.OnWay.{Moment, Between, Acting, Frozen, copies_to}

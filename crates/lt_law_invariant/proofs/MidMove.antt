@@ -7,7 +7,8 @@ use Rattle.lt_modes.specs.declared.stamp.Stamp.{Stamp}
 use Rattle.lt_modes.specs.declared.ask.Ask.{Ask}
 use Rattle.lt_modes.specs.Script.{ScriptData}
 use Rattle.lt_modes.specs.State.{TokenBody, Letter, Parked, ParkedAsk, ParkedTell, same_ask, times_in, SetState, Desk, CopyBody, Made, Post}
-use Rattle.lt_modes.specs.Serving.{is_newer, queue_of}
+use Rattle.lt_modes.specs.Serving.{queue_of}
+use Rattle.lt_modes.specs.Telling.{is_newer}
 use Rattle.lt_modes.specs.Fits.{numbers_of}
 use Rattle.lt_modes.specs.Sound.{SoundPending}
 use Rattle.lt_modes.specs.Modes.{bars, held_modes}

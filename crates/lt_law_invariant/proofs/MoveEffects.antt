@@ -8,9 +8,12 @@ use Rattle.lt_modes.specs.declared.parts.Hoped.{Hoped}
 use Rattle.lt_modes.specs.Modes.{Modes, bars, same_modes, excludes_itself, with_mode, held_modes, take_lock}
 use Rattle.lt_modes.specs.Script.{ScriptData}
 use Rattle.lt_modes.specs.State.{SetState, Desk, Parked, ParkedAsk, ParkedTell, Made, Post, silent, no_ask}
-use Rattle.lt_modes.specs.Freezing.{can_grant, freeze}
-use Rattle.lt_modes.specs.Serving.{ask_at, queue_of, queue_of_desk, next_service, next_draw, draw_from, move_at, may_draw, serve_one, serve_local, serve_copy, hand_over_to, without_gone}
-use Rattle.lt_modes.specs.SetMove.{Way, Parks, Goes, reversed, sent_on, route, make_tell, given, asked, ask_of, dropped}
+use Rattle.lt_modes.specs.Freezing.{freeze}
+use Rattle.lt_modes.specs.Granting.{can_grant}
+use Rattle.lt_modes.specs.Serving.{ask_at, queue_of, queue_of_desk, next_service, serve_one, serve_local, serve_copy, without_gone}
+use Rattle.lt_modes.specs.HandingOver.{next_draw, draw_from, move_at, may_draw, hand_over_to}
+use Rattle.lt_modes.specs.SetMove.{make_tell, given, asked, ask_of, dropped}
+use Rattle.lt_modes.specs.Routing.{Way, Parks, Goes, reversed, sent_on, route}
 use Rattle.lt_spec.specs.World.{World}
 use Rattle.lt_spec.specs.Facts.{state_at}
 use Rattle.lt_model.specs.OnWay.{Acting, copies_to}

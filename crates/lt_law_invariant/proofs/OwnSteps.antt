@@ -9,9 +9,10 @@ use Rattle.lt_modes.specs.declared.parts.Hoped.{Hoped}
 use Rattle.lt_modes.specs.Modes.{Modes, excludes_itself, has, bars, held_modes, take_lock}
 use Rattle.lt_modes.specs.Script.{ScriptData}
 use Rattle.lt_modes.specs.State.{SetState, Desk, Parked, ParkedAsk, ParkedTell, Made, silent, entry_of, others}
-use Rattle.lt_modes.specs.Freezing.{can_grant}
+use Rattle.lt_modes.specs.Granting.{can_grant}
 use Rattle.lt_modes.specs.Serving.{ask_at, queue_of, serve_local, is_gone}
-use Rattle.lt_modes.specs.SetMove.{Way, Parks, Goes, dealt, reversed, sent_on, route, given, asked, dropped}
+use Rattle.lt_modes.specs.SetMove.{given, asked, dropped}
+use Rattle.lt_modes.specs.Routing.{Way, Parks, Goes, dealt, reversed, sent_on, route}
 use Rattle.lt_spec.specs.World.{World}
 use Rattle.lt_spec.specs.Facts.{state_at}
 use Rattle.lt_model.specs.OnWay.{Between, Acting, Frozen, is_at, tell_parked, tells_of, copies_to, account_of, news_of}

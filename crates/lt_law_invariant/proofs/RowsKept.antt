@@ -10,10 +10,14 @@ use Rattle.lt_modes.specs.declared.moves.Step.{Step}
 use Rattle.lt_modes.specs.declared.moves.Step.TheVariants.{Act, Take}
 use Rattle.lt_modes.specs.Script.{ScriptData}
 use Rattle.lt_modes.specs.State.{SetState, Letter, Made, Desk, Body, AskBody, TellBody, CopyBody, TokenBody, FreezeBody, ParkedAsk, ParkedTell, first_state}
-use Rattle.lt_modes.specs.SetMove.{finish, drop, learn, tell_of, take_body, ask_of, dropped, lock, try, unlock, change, take as take_letter, withdraw, withdrawn}
+use Rattle.lt_modes.specs.SetMove.{finish, drop, ask_of, dropped, lock, try, unlock, change, withdraw, withdrawn}
+use Rattle.lt_modes.specs.Routing.{learn}
+use Rattle.lt_modes.specs.Telling.{tell_of}
+use Rattle.lt_modes.specs.Taking.{take_body, take as take_letter}
 use Rattle.lt_modes.specs.declared.parts.Row.{Row}
 use Rattle.lt_modes.specs.Modes.{held_modes}
-use Rattle.lt_modes.specs.Serving.{ask_at, serve_local, serve_copy, hand_over_to, is_gone, answered}
+use Rattle.lt_modes.specs.Serving.{ask_at, serve_local, serve_copy, is_gone, answered}
+use Rattle.lt_modes.specs.HandingOver.{hand_over_to}
 use Rattle.lt_modes.specs.Freezing.{freeze_at}
 use Rattle.lt_lists.specs.Below.{put}
 use Rattle.lt_lists.proofs.Puts.{put-same, put-other}

@@ -15,7 +15,8 @@ use Rattle.lt_modes.specs.Modes.{Modes, conflicts, has, no_modes, union, bars, w
 use Rattle.lt_modes.specs.Script.{ScriptData}
 use Rattle.lt_modes.specs.State.{SetState, Desk, Letter, Made, no_ask, others}
 use Rattle.lt_modes.specs.Serving.{queue_of, queue_of_desk, is_free, is_local, is_copy, is_served, next_from, next_at, next_service, serve_one, serve_up_to, serve_step, is_gone, is_void, is_ready}
-use Rattle.lt_modes.specs.SetMove.{dropped, lock, try, unlock, change, drop, take as take_letter, arrive, finish, withdraw}
+use Rattle.lt_modes.specs.SetMove.{dropped, lock, try, unlock, change, drop, finish, withdraw}
+use Rattle.lt_modes.specs.Taking.{take as take_letter, arrive}
 use Rattle.lt_modes.proofs.ModeAlgebra.{bars_by_table}
 use Rattle.lt_lists.specs.Below.{put}
 use Rattle.lt_lists.proofs.Puts.{put-same, put-other}

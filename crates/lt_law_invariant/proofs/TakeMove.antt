@@ -8,7 +8,8 @@ use Rattle.lt_modes.specs.State.{SetState, Desk, Body, AskBody, TellBody, CopyBo
 use Rattle.lt_modes.specs.declared.stamp.Stamp.{Stamp}
 use Rattle.lt_modes.specs.declared.moves.Step.TheVariants.{Act, Take}
 use Rattle.lt_modes.specs.declared.parts.Link.{Link}
-use Rattle.lt_modes.specs.SetMove.{learn, arrive, take_body, take}
+use Rattle.lt_modes.specs.Routing.{learn}
+use Rattle.lt_modes.specs.Taking.{arrive, take_body, take}
 use Rattle.lt_lists.specs.Below.{put, one_if}
 use Rattle.lt_lists.proofs.Puts.{put-same}
 use Rattle.lt_spec.specs.World.{World, after, opened, after_made, sent}

@@ -5,8 +5,10 @@ use Rattle.lt_modes.specs.declared.ask.Ask.{Ask}
 use Rattle.lt_modes.specs.Modes.{with_mode}
 use Rattle.lt_modes.specs.Script.{ScriptData}
 use Rattle.lt_modes.specs.State.{SetState, Desk, Body, CopyBody, Made, without, entry_of, Entry, Tell, TellBody, ParkedTell, silent}
-use Rattle.lt_modes.specs.Serving.{answered, told, tell_applied, is_gone}
-use Rattle.lt_modes.specs.SetMove.{take_copy, route}
+use Rattle.lt_modes.specs.Serving.{answered, is_gone}
+use Rattle.lt_modes.specs.Telling.{told, tell_applied}
+use Rattle.lt_modes.specs.Taking.{take_copy}
+use Rattle.lt_modes.specs.Routing.{route}
 use Rattle.lt_modes.specs.declared.stamp.Stamp.{Stamp}
 use Rattle.lt_spec.specs.World.{World}
 use Rattle.lt_spec.specs.Facts.{state_at}

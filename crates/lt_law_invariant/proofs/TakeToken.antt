@@ -4,10 +4,12 @@ use Rattle.std.proofs.lemmas.Bool.{cases_eq}
 use Rattle.std.specs.List.{AllByRecursion, cons_option}
 use Rattle.std.proofs.lemmas.List.Elements.{Contains-append_left, Contains-append_right, Contains-append_cases}
 use Rattle.lt_modes.specs.State.{SetState, Desk, Made, entry_of, record_of, Entry, Tell, TellBody, Parked, ParkedAsk, ParkedTell, silent}
-use Rattle.lt_modes.specs.Serving.{settled, leaving, hand_over_to, told, is_newer}
+use Rattle.lt_modes.specs.HandingOver.{settled, leaving, hand_over_to}
+use Rattle.lt_modes.specs.Telling.{told, is_newer}
 use Rattle.lt_modes.specs.Script.{ScriptData}
 use Rattle.lt_modes.specs.Freezing.{frozen_by}
-use Rattle.lt_modes.specs.SetMove.{dealt, take_token}
+use Rattle.lt_modes.specs.Routing.{dealt}
+use Rattle.lt_modes.specs.Taking.{take_token}
 use Rattle.lt_lists.proofs.Members.{filter_map-which, filter_map-at, contains_first, contains_later, contains_cases}
 use Rattle.lt_spec.specs.World.{World}
 use Rattle.lt_spec.specs.Facts.{state_at}

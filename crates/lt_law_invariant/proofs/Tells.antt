@@ -7,7 +7,9 @@ use Rattle.lt_modes.specs.declared.stamp.Stamp.{Stamp}
 use Rattle.lt_modes.specs.Modes.{bars, same_modes, held_modes}
 use Rattle.lt_modes.specs.Script.{ScriptData}
 use Rattle.lt_modes.specs.State.{SetState, Desk, Tell, Body, TellBody, Parked, ParkedTell, Made, Post, entry_of}
-use Rattle.lt_modes.specs.SetMove.{Parks, Goes, sent_on, route, route_by, tell_of, make_tell}
+use Rattle.lt_modes.specs.SetMove.{make_tell}
+use Rattle.lt_modes.specs.Routing.{Parks, Goes, sent_on, route, route_by}
+use Rattle.lt_modes.specs.Telling.{tell_of}
 use Rattle.lt_spec.specs.World.{World}
 use Rattle.lt_spec.specs.Facts.{state_at, Comes}
 use Rattle.lt_model.specs.OnWay.{Between, Acting, is_at, is_moving, tell_in, tell_parked, copy_in, freeze_in, tells_of, copies_to, account_of, news_of}

@@ -4,7 +4,9 @@ use Rattle.lt_modes.specs.Script.{ScriptData}
 use Rattle.lt_modes.specs.declared.ask.Ask.{Ask}
 use Rattle.lt_modes.specs.Modes.{excludes_itself, conflicts}
 use Rattle.lt_modes.specs.State.{SetState, Parked, ParkedAsk, ParkedTell, Letter, Desk, Made, entry_of}
-use Rattle.lt_modes.specs.Serving.{is_newer, put_entry, owing, serve_copy, leaving, hand_over_to}
+use Rattle.lt_modes.specs.Serving.{owing, serve_copy}
+use Rattle.lt_modes.specs.Telling.{is_newer, put_entry}
+use Rattle.lt_modes.specs.HandingOver.{leaving, hand_over_to}
 use Rattle.lt_modes.specs.declared.moves.Step.{Step}
 use Rattle.lt_modes.specs.Fits.{fits, numbers_of}
 use Rattle.lt_modes.specs.declared.parts.Row.{Row}
@@ -14,7 +16,8 @@ use Rattle.lt_modes.specs.declared.event.Event.{Event}
 use Rattle.lt_spec.specs.Script.{IsScript}
 use Rattle.lt_spec.specs.declared.limits.TheConstants.{MAX_COMMANDS_OF_SERVICE}
 use Rattle.lt_spec.specs.World.{Logged, world_after, is_runnable, IsRun, World, is_enabled, after, after_made, is_at_rest}
-use Rattle.lt_spec.specs.NodeMove.{home, related, locks_in_sets, node_within, leaves_asks, IsWhole, touched}
+use Rattle.lt_spec.specs.NodeMove.{home, related, locks_in_sets, IsWhole, touched}
+use Rattle.lt_spec.specs.Limits.{node_within, leaves_asks}
 use Rattle.lt_spec.specs.Facts.{state_at, DeskIs, IsFirstWaiter, IsLedToQueue}
 use Rattle.lt_spec.specs.Holdings.{IsBarredByLines}
 use Rattle.lt_model.specs.Invariant.{WorldInvariant, DeskKept, SetKept, LinesKept}

@@ -13,7 +13,8 @@ use Rattle.lt_modes.specs.declared.moves.Step.TheVariants.{Act, Take}
 use Rattle.lt_modes.specs.Script.{family_of_set, ScriptData, SetData}
 use Rattle.lt_modes.specs.State.{SetState, Letter, Made}
 use Rattle.lt_modes.specs.Modes.{is_of}
-use Rattle.lt_modes.specs.SetMove.{finish, lock, try, unlock, change, drop, dropped, take as take_letter, withdraw}
+use Rattle.lt_modes.specs.SetMove.{finish, lock, try, unlock, change, drop, dropped, withdraw}
+use Rattle.lt_modes.specs.Taking.{take as take_letter}
 use Rattle.lt_lists.specs.Below.{put}
 use Rattle.lt_spec.specs.NodeMove.{home, family, is_related, related, IsWhole, HasTargetsAt, NodeState, NodeMade, no_move, node_waits, next_command, act_stamp, take_stamp, at_clock, one_made, node_act, node_take, touched, each_touched, drop_all, obey}
 use Rattle.lt_spec.specs.Holdings.{Holding, holding, is_dropped}

@@ -14,9 +14,13 @@ use Rattle.lt_modes.specs.declared.event.Event.TheVariants.{Grant, Change, Freez
 use Rattle.lt_modes.specs.Modes.{Modes, same_mode, excludes_itself, no_row, add_lock, take_lock, held_modes}
 use Rattle.lt_modes.specs.Script.{ScriptData}
 use Rattle.lt_modes.specs.State.{SetState, Desk, Body, AskBody, TellBody, CopyBody, TokenBody, FreezeBody, Letter, Parked, ParkedAsk, ParkedTell, Made, silent, then_do, no_ask}
-use Rattle.lt_modes.specs.Serving.{ask_at, queue_of, give_up, answered, answer_by, answer_event, serve_local, serve_copy, hand_over_to, is_gone}
+use Rattle.lt_modes.specs.Serving.{ask_at, queue_of, give_up, answered, answer_by, answer_event, serve_local, serve_copy, is_gone}
+use Rattle.lt_modes.specs.HandingOver.{hand_over_to}
 use Rattle.lt_modes.specs.Freezing.{freeze_at, frozen_by, targets}
-use Rattle.lt_modes.specs.SetMove.{Way, Parks, Goes, reversed, sent_on, route, learn, tell_of, make_tell, finish, take_body, ask_of, take, withdrawn, withdraw}
+use Rattle.lt_modes.specs.SetMove.{make_tell, finish, ask_of, withdrawn, withdraw}
+use Rattle.lt_modes.specs.Routing.{Way, Parks, Goes, reversed, sent_on, route, learn}
+use Rattle.lt_modes.specs.Telling.{tell_of}
+use Rattle.lt_modes.specs.Taking.{take_body, take}
 use Rattle.lt_spec.specs.NodeMove.{home}
 use Rattle.lt_spec.specs.Holdings.{Holding, holding, same_holding}
 use Rattle.lt_model.specs.Homes.{IsRowAtHome, IsAskAtHome, IsStateAtHome, IsBodyAtHome}

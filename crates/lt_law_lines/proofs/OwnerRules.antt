@@ -13,9 +13,13 @@ use Rattle.lt_modes.specs.declared.event.Event.{Event}
 use Rattle.lt_modes.specs.declared.event.Event.TheVariants.{Freeze, Wait, Void}
 use Rattle.lt_modes.specs.Modes.{Modes, held_modes}
 use Rattle.lt_modes.specs.State.{SetState, Desk, Body, AskBody, TellBody, CopyBody, TokenBody, FreezeBody, Letter, Parked, ParkedAsk, ParkedTell, Made, Post, post_of}
-use Rattle.lt_modes.specs.Serving.{ask_at, answer_by, answer_event, serve_local, serve_copy, hand_over_to, without_desk, leaving, is_gone}
+use Rattle.lt_modes.specs.Serving.{ask_at, answer_by, answer_event, serve_local, serve_copy, is_gone}
+use Rattle.lt_modes.specs.HandingOver.{hand_over_to, without_desk, leaving}
 use Rattle.lt_modes.specs.Freezing.{freeze_at, frozen_by, targets, number_after}
-use Rattle.lt_modes.specs.SetMove.{Way, Parks, Goes, body_of, sent_on, route, learn, tell_of, finish, take_body, ask_of, take, withdrawn, withdraw}
+use Rattle.lt_modes.specs.SetMove.{finish, ask_of, withdrawn, withdraw}
+use Rattle.lt_modes.specs.Routing.{Way, Parks, Goes, body_of, sent_on, route, learn}
+use Rattle.lt_modes.specs.Telling.{tell_of}
+use Rattle.lt_modes.specs.Taking.{take_body, take}
 use Rattle.lt_spec.specs.Holdings.{owner_after}
 use Rattle.lt_spec.specs.World.{token_by, token_to}
 use Rattle.lt_model.proofs.Effects.{route_ways}

@@ -5,8 +5,8 @@ use Rattle.std.proofs.lemmas.Bool.{and_parts, cases_eq, false≢true}
 use Rattle.lt_law_invariant.proofs.ClientCommands.{find_is}
 use Rattle.lt_law_invariant.proofs.ClientEffects.{is_asks, gone_same, route_gone, one_of_client}
 use Rattle.lt_model.proofs.Voids.{asks_ways, withdraws_ways}
-use Rattle.lt_modes.specs.Waiting.{pending_ask}
-use Rattle.lt_modes.specs.Serving.{is_gone, waits, without_gone as left_gone}
+use Rattle.lt_modes.specs.Waiting.{pending_ask, waits}
+use Rattle.lt_modes.specs.Serving.{is_gone, without_gone as left_gone}
 use Rattle.std.proofs.Common.{◌≡◌, ℕ, inl, inr, List, [], ◌∷◌, Option, Some, None, Bool, true, false, refl, ap, ◌∙◌, ◌≢◌, ◌++◌, sym, subst, ◌⊎◌, ◌↔◌, ◌==◌, if◌then◌else◌, IsFalse, fold, Contains, eq-eqb, eqb-true, ne_eqb, ◌≤◌, count_by, ◌||◌, ◌&&◌, not}
 use Rattle.std.specs.List.{AllByRecursion, list_any}
 use Rattle.std.proofs.lemmas.List.Sums.{fold-append}
@@ -18,7 +18,7 @@ use Rattle.lt_modes.specs.declared.stamp.Stamp.{Stamp}
 use Rattle.lt_modes.specs.declared.ask.Ask.{Ask}
 use Rattle.lt_modes.specs.State.{SetState, ParkedAsk, Made, then_do, same_choice}
 use Rattle.lt_modes.specs.Modes.{count_of, take_lock, same_mode}
-use Rattle.lt_modes.specs.Freezing.{can_grant}
+use Rattle.lt_modes.specs.Granting.{can_grant}
 use Rattle.lt_modes.specs.SetMove.{answers, given, granted, ask_of, asked, locked, tried, unlocked, change_held, changed, asked_or_not, same_wish, given_up, withdrawn, mode_wanted}
 use Rattle.lt_spec.specs.Holdings.{Holding, holding, wanted, wanted_after, is_about_waiting, HasOpenWait}
 use Rattle.lt_law_invariant.proofs.OwnSteps.{route_same}

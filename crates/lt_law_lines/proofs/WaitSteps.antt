@@ -12,7 +12,9 @@ use Rattle.lt_modes.specs.declared.moves.Step.{Step}
 use Rattle.lt_modes.specs.declared.moves.Step.TheVariants.{Act, Take}
 use Rattle.lt_modes.specs.Script.{ScriptData}
 use Rattle.lt_modes.specs.State.{SetState, Body, AskBody, TellBody, CopyBody, TokenBody, FreezeBody, Letter, ParkedAsk, ParkedTell, Made, silent, without}
-use Rattle.lt_modes.specs.SetMove.{learn, arrive, take_body, finish, locked, tried, unlocked, changed, dropped, drop, take as take_letter, withdrawn, withdraw}
+use Rattle.lt_modes.specs.SetMove.{finish, locked, tried, unlocked, changed, dropped, drop, withdrawn, withdraw}
+use Rattle.lt_modes.specs.Routing.{learn}
+use Rattle.lt_modes.specs.Taking.{arrive, take_body, take as take_letter}
 use Rattle.lt_spec.specs.NodeMove.{home, related, NodeState, NodeMade, node_waits, next_command, act_stamp, take_stamp, at_clock, one_made, node_act, node_take, touched, drop_all, obey, IsWhole, HasTargetsAt, withdraws_itself}
 use Rattle.lt_spec.specs.Holdings.{Holding, wanted_after}
 use Rattle.lt_spec.specs.World.{World, is_enabled, is_waiting, is_some_letter, put_mail, take_front, node_move, is_free_to_act}

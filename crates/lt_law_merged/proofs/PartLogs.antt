@@ -13,10 +13,11 @@ use Rattle.lt_lists.specs.Below.{any_below, sum_below}
 use Rattle.lt_lists.proofs.Searches.{any_below_at, any_below_same}
 use Rattle.lt_lists.proofs.AllLemmas.{all_weaker}
 use Rattle.lt_spec.specs.World.{World, is_runnable, has_mail, is_enabled, is_at_rest, can_move, Logged, world_after, start, is_of_node}
-use Rattle.lt_spec.specs.NodeMove.{home, related, locks_in_sets, NodeState, node_within, leaves_asks}
+use Rattle.lt_spec.specs.NodeMove.{home, related, locks_in_sets, NodeState}
+use Rattle.lt_spec.specs.Limits.{node_within, leaves_asks}
 use Rattle.lt_spec.specs.Script.{IsScript}
 use Rattle.lt_spec.specs.declared.limits.TheConstants.{MAX_COMMANDS_OF_SERVICE}
-use Rattle.lt_spec.specs.FixedOrder.{can_act}
+use Rattle.lt_spec.specs.Plays.{can_act}
 use Rattle.lt_merge.specs.Merging.{RunData, AreRising, AreLogs, by_node, all_entries}
 use Rattle.lt_merge.proofs.MergedLists.{all_pass}
 use Rattle.lt_merge.proofs.Placing.{join_empty}

@@ -9,8 +9,9 @@ use Rattle.lt_spec.specs.World.{World, has_mail, is_enabled, is_at_rest, can_mov
 use Rattle.lt_spec.specs.Script.{IsScript}
 use Rattle.lt_spec.specs.declared.limits.TheConstants.{MAX_COMMANDS_OF_SERVICE}
 use Rattle.lt_spec.specs.declared.moves.TheConstants.{MAX_MOVES_OF_SERVICE}
-use Rattle.lt_spec.specs.FixedOrder.{can_act}
-use Rattle.lt_spec.specs.NodeMove.{related, locks_in_sets, node_within, leaves_asks}
+use Rattle.lt_spec.specs.Plays.{can_act}
+use Rattle.lt_spec.specs.NodeMove.{related, locks_in_sets}
+use Rattle.lt_spec.specs.Limits.{node_within, leaves_asks}
 use Rattle.lt_law_plays.specs.Merged.{Part, Joined}
 
 -- a node can make a move where a letter is on its way to it, or a client can act by what the node alone knows

@@ -12,9 +12,9 @@ use Rattle.lt_modes.specs.declared.event.Event.TheVariants.{Try as TryLine}
 use Rattle.lt_modes.specs.Modes.{same_mode, add_lock}
 use Rattle.lt_modes.specs.Script.{ScriptData}
 use Rattle.lt_modes.specs.State.{SetState, ParkedAsk, Made, same_choice}
-use Rattle.lt_modes.specs.Waiting.{pending_ask}
-use Rattle.lt_modes.specs.Freezing.{can_grant}
-use Rattle.lt_modes.specs.Serving.{is_gone, waits, without_gone as left_gone}
+use Rattle.lt_modes.specs.Waiting.{pending_ask, waits}
+use Rattle.lt_modes.specs.Granting.{can_grant}
+use Rattle.lt_modes.specs.Serving.{is_gone, without_gone as left_gone}
 use Rattle.lt_modes.specs.SetMove.{answers, given, granted, ask_of, asked, locked, tried, asked_or_not, same_wish, withdrawn}
 use Rattle.lt_spec.specs.Holdings.{holding, same_holding}
 use Rattle.lt_modes.proofs.ModeAlgebra.{has-itself, same_mode-true}
@@ -27,7 +27,7 @@ use Rattle.lt_law_invariant.proofs.ClientCommands.{IsIdle, idle_live, find_is}
 use Rattle.lt_law_invariant.proofs.ClientEffects.{is_asks, gone_same, route_gone, one_of_client}
 use Rattle.lt_law_lines.proofs.LineCounts.{count_after}
 use Rattle.lt_law_lines.proofs.LineRules.{key_is}
-use Rattle.lt_spec.specs.Script.{best_answer}
+use Rattle.lt_spec.specs.Ordered.{best_answer}
 use Rattle.lt_law_ordered.proofs.Loans.{is_for, asks_for, for_live, for_fewer, Loans, no_more, same_loans}
 
 -- a client that waits for nothing asks for no mode

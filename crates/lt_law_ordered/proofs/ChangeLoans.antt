@@ -6,7 +6,7 @@ use Rattle.lt_modes.specs.declared.mode.Mode.{Mode}
 use Rattle.lt_modes.specs.declared.parts.Row.{Row}
 use Rattle.lt_modes.specs.Modes.{Modes, conflicts, same_mode, has, every_mode, one, bars, covers, no_modes, is_of, gather, count_of, own_modes, is_row_of, no_row, row_place, count_at, add_lock, take_lock}
 use Rattle.lt_modes.specs.ModeLaws.{BarsBy}
-use Rattle.lt_modes.specs.Freezing.{can_grant}
+use Rattle.lt_modes.specs.Granting.{can_grant}
 use Rattle.lt_modes.specs.State.{SetState}
 use Rattle.lt_modes.proofs.ModeAlgebra.{has-modes_by, bars_by_table, covers_by_table, same_mode-true}
 use Rattle.lt_modes.specs.declared.stamp.Stamp.{Stamp}
@@ -19,7 +19,7 @@ use Rattle.lt_lists.proofs.Members.{contains_cases}
 use Rattle.lt_lists.proofs.Sums.{none_found, sum_by-zero}
 use Rattle.lt_spec.specs.NodeMove.{is_related}
 use Rattle.lt_spec.specs.Holdings.{holding, same_holding, is_dropped}
-use Rattle.lt_spec.specs.Script.{best_answer}
+use Rattle.lt_spec.specs.Ordered.{best_answer}
 use Rattle.lt_law_accounts.proofs.AccountFacts.{has-kept, has-added}
 use Rattle.lt_law_accounts.proofs.RowTotals.{row_count, total, is_key, total_added, total_taken, total_dropped}
 use Rattle.lt_law_invariant.proofs.ClientCommands.{count_within, IsIdle}

@@ -21,7 +21,7 @@ use Rattle.lt_model.proofs.NodeEffects.{after_node}
 use Rattle.lt_law_accounts.proofs.RowTotals.{total}
 use Rattle.lt_law_invariant.proofs.ClientsKept.{sound_clients}
 use Rattle.lt_law_lines.proofs.OwnerRuns.{along_runs}
-use Rattle.lt_spec.specs.Script.{may_hold}
+use Rattle.lt_spec.specs.Ordered.{may_hold}
 use Rattle.lt_law_ordered.proofs.Loans.{asks_for}
 use Rattle.lt_law_ordered.specs.OrderedLaws.{is_steady}
 use Rattle.lt_law_ordered.proofs.ActLoans.{ActLoans}

@@ -8,7 +8,7 @@ use Rattle.lt_modes.specs.Script.{ScriptData}
 use Rattle.lt_spec.specs.NodeMove.{commands_of}
 use Rattle.lt_spec.specs.Holdings.{Holding, holding, same_holding, is_dropped, times_held}
 use Rattle.lt_law_lines.proofs.LineCounts.{count_after, line_counts, same_holding-true}
-use Rattle.lt_spec.specs.Script.{best_answer, may_hold_after, may_hold, keeps_order, is_orderly_from, IsOrdered}
+use Rattle.lt_spec.specs.Ordered.{best_answer, may_hold_after, may_hold, keeps_order, is_orderly_from, IsOrdered}
 use Rattle.lt_law_ordered.specs.OrderedLaws.{is_steady, are_ranked_below, goes_up, is_ranked_from, IsRanked, asks_alone, is_alone_from, NeverAsksHolding}
 
 -- one command more

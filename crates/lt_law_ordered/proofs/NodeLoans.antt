@@ -10,8 +10,10 @@ use Rattle.lt_modes.specs.declared.command.Command.{Command}
 use Rattle.lt_modes.specs.declared.command.Command.TheVariants.{Lock, Unlock, Try, Change, DropAll, Withdraw}
 use Rattle.lt_modes.specs.Script.{ScriptData}
 use Rattle.lt_modes.specs.State.{SetState, CopyBody, Letter, Made, then_do}
-use Rattle.lt_modes.specs.Serving.{waits, is_gone}
-use Rattle.lt_modes.specs.SetMove.{locked, tried, unlocked, changed, dropped, drop, withdrawn, take as take_letter, finish}
+use Rattle.lt_modes.specs.Serving.{is_gone}
+use Rattle.lt_modes.specs.Waiting.{waits}
+use Rattle.lt_modes.specs.SetMove.{locked, tried, unlocked, changed, dropped, drop, withdrawn, finish}
+use Rattle.lt_modes.specs.Taking.{take as take_letter}
 use Rattle.lt_lists.specs.Below.{put}
 use Rattle.lt_spec.specs.NodeMove.{related, is_related, NodeState, node_waits, act_stamp, take_stamp, at_clock, one_made, drop_all, obey, node_take, HasTargetsAt, withdraws_itself}
 use Rattle.lt_spec.specs.Holdings.{holding}
@@ -32,7 +34,7 @@ use Rattle.lt_law_invariant.proofs.ClientMoves.{SoundClients, at_first, idle_in}
 use Rattle.lt_law_invariant.proofs.ClientsKept.{sound_clients, clients_arrived}
 use Rattle.lt_law_lines.proofs.LineCounts.{count_after}
 use Rattle.lt_law_lines.proofs.HeldMoves.{some_set, related_aside}
-use Rattle.lt_spec.specs.Script.{best_answer}
+use Rattle.lt_spec.specs.Ordered.{best_answer}
 use Rattle.lt_law_ordered.specs.OrderedLaws.{is_steady}
 use Rattle.lt_law_ordered.proofs.Loans.{Loans, loans, no_more, loans_ends, loans_arrived}
 use Rattle.lt_law_ordered.proofs.ActLoans.{ActLoans, act_then, grant_more, locked_loans, tried_loans, withdrawn_loans}

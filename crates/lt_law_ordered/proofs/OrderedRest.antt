@@ -8,7 +8,8 @@ use Rattle.lt_modes.specs.declared.ask.Ask.{Ask}
 use Rattle.lt_modes.specs.declared.command.Command.TheVariants.{Lock}
 use Rattle.lt_modes.specs.Modes.{same_mode}
 use Rattle.lt_modes.specs.Script.{ScriptData}
-use Rattle.lt_modes.specs.Serving.{queue_of, waits, is_gone}
+use Rattle.lt_modes.specs.Serving.{queue_of, is_gone}
+use Rattle.lt_modes.specs.Waiting.{waits}
 use Rattle.lt_modes.proofs.ModeAlgebra.{has-itself}
 use Rattle.lt_lists.specs.Below.{any_below, sum_below}
 use Rattle.lt_lists.proofs.Members.{list_any-which, nothing_in}
@@ -18,7 +19,7 @@ use Rattle.lt_spec.specs.NodeMove.{home, commands_of, NodeState, IsWhole}
 use Rattle.lt_spec.specs.Facts.{state_at, IsFirstWaiter, LeadsBy, IsLedToQueue}
 use Rattle.lt_spec.specs.Holdings.{Holding, holding, same_holding, holdings, lines_of, times_held}
 use Rattle.lt_spec.specs.World.{World, world_after, made_by, is_waiting, is_runnable, is_at_rest, anyone_waits}
-use Rattle.lt_spec.specs.Script.{may_hold}
+use Rattle.lt_spec.specs.Ordered.{may_hold}
 use Rattle.lt_law_accounts.proofs.RowTotals.{total}
 use Rattle.lt_model.specs.Homes.{Homes, IsRowAtHome}
 use Rattle.lt_model.specs.Invariant.{WorldInvariant}

@@ -10,7 +10,7 @@ use Rattle.lt_spec.specs.Facts.{state_at}
 use Rattle.lt_spec.specs.Holdings.{Holding, holding, same_holding, holdings, lines_of, times_held}
 use Rattle.lt_spec.specs.World.{Logged, World, world_after, IsRun, made_by, anyone_waits}
 use Rattle.lt_spec.specs.Promised.{WaitInRing, WaitBehindVoid}
-use Rattle.lt_spec.specs.Script.{may_hold, may_hold_after, holds_none}
+use Rattle.lt_spec.specs.Ordered.{may_hold, may_hold_after, holds_none}
 use Rattle.lt_law_accounts.proofs.RowTotals.{total}
 use Rattle.lt_law_lines.proofs.KeptLines.{lines_kept_in_runs}
 use Rattle.lt_law_lines.proofs.OwnerRuns.{held_in_runs}

@@ -8,7 +8,7 @@ use Rattle.lt_modes.specs.Script.{ScriptData}
 use Rattle.lt_modes.specs.declared.mode.Mode.{Mode}
 use Rattle.lt_spec.specs.NodeMove.{commands_of, IsWhole}
 use Rattle.lt_spec.specs.Holdings.{Holding, holding, holdings, lines_of, times_held, WaitsFor}
-use Rattle.lt_spec.specs.Script.{may_hold_after, may_hold, holds_none, IsOrdered}
+use Rattle.lt_spec.specs.Ordered.{may_hold_after, may_hold, holds_none, IsOrdered}
 use Rattle.lt_spec.specs.World.{Logged, world_after, made_by, IsRun, is_at_rest, anyone_waits, IsUnmarked}
 use Rattle.lt_spec.specs.Promised.{WaitInRing, WaitBehindVoid}
 

@@ -4,7 +4,7 @@ use Rattle.lt_modes.specs.declared.mode.Mode.TheVariants.{Read, Upgrade, Write}
 use Rattle.lt_modes.specs.declared.command.Command.TheVariants.{Lock, Try, Unlock, Change, DropAll, Withdraw}
 use Rattle.lt_modes.specs.Script.{ScriptData}
 use Rattle.lt_law_examples.specs.Worked.{declared_set, declared_client}
-use Rattle.lt_spec.specs.Script.{first_bad}
+use Rattle.lt_spec.specs.Ordered.{first_bad}
 
 -- One lock, and its unlock.
 abbrev pub locked_once : ScriptData

@@ -1,5 +1,5 @@
 ghost use Rattle.lt_law_ordered.specs.OrderedLaws.{OrderedFinish, OrderedRelease, RankedFinish, RankedRelease, AloneFinish, RankedHold, RankedWait, StuckByRing, StuckByRingOrVoid};
-ghost use Rattle.lt_spec.specs.Script.{FirstBadIsExact};
+ghost use Rattle.lt_spec.specs.Ordered.{FirstBadIsExact};
 ghost use Rattle.lt_law_ordered.specs.OrderedRows.{LockThenUnlockRow, WriteInTurnRow, WriteKeptRow, ChangeOfModeRow, AgainstTheOrderRow, NoClientsRow, FamilyDroppedRow, DropOfAnotherRow, WaitsGivenUpRow, GivenUpAndKeptRow};
 
 /// A run of an ordered script that is at rest has no waiting client, and nothing is held then.

@@ -10,8 +10,11 @@ use Rattle.lt_modes.specs.declared.ask.Ask.{Ask}
 use Rattle.lt_modes.specs.Modes.{held_modes, take_lock, Modes}
 use Rattle.lt_modes.specs.State.{SetState, Desk, Entry, FreezeBody, ParkedAsk, ParkedTell, Post, post_of, entry_of, no_ask, Parked, has_stamp, without, without_at, entered, place}
 use Rattle.lt_modes.specs.Freezing.{cons_if, places_from, freeze, freeze_at, frozen_by, frozen_entry, is_target, targets, number_after}
-use Rattle.lt_modes.specs.Serving.{queue_of, queue_of_desk, put_queue, owed_at, owing, ask_at, next_service, next_draw, serve_one, serve_local, serve_copy, hand_over_to, answer_event, answer_by, without_gone as left_gone}
-use Rattle.lt_modes.specs.SetMove.{tell_of, route, answers, given, ask_of, asked, dropped, dealt}
+use Rattle.lt_modes.specs.Serving.{queue_of, queue_of_desk, put_queue, owed_at, owing, ask_at, next_service, serve_one, serve_local, serve_copy, answer_event, answer_by, without_gone as left_gone}
+use Rattle.lt_modes.specs.HandingOver.{next_draw, hand_over_to}
+use Rattle.lt_modes.specs.SetMove.{answers, given, ask_of, asked, dropped}
+use Rattle.lt_modes.specs.Telling.{tell_of}
+use Rattle.lt_modes.specs.Routing.{route, dealt}
 use Rattle.lt_modes.specs.declared.event.Event.TheVariants.{Wait}
 use Rattle.lt_modes.specs.declared.event.Event.{Event}
 use Rattle.lt_lists.proofs.AllLemmas.{all_append, remove_all}

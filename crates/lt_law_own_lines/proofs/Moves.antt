@@ -13,7 +13,9 @@ use Rattle.lt_modes.specs.declared.command.Command.TheVariants.{Lock, Unlock, Tr
 use Rattle.lt_modes.specs.Script.{ScriptData}
 use Rattle.lt_modes.specs.State.{SetState, Body, AskBody, TellBody, CopyBody, TokenBody, FreezeBody, ParkedAsk, ParkedTell, first_entry, first_state, first_desk, Made, silent}
 use Rattle.lt_modes.specs.Fits.{Numbers, head_fits, body_fits, is_at_home, numbers_of}
-use Rattle.lt_modes.specs.SetMove.{learn, finish, take_copy, take_body, drop, take}
+use Rattle.lt_modes.specs.SetMove.{finish, drop}
+use Rattle.lt_modes.specs.Routing.{learn}
+use Rattle.lt_modes.specs.Taking.{take_copy, take_body, take}
 use Rattle.lt_spec.specs.NodeMove.{related, NodeState, NodeMade, node_waits, next_command, touched, each_touched, drop_all, obey, act_stamp, take_stamp, at_clock, one_made}
 use Rattle.lt_lists.specs.Below.{put}
 use Rattle.lt_model.proofs.Effects.{HoldsOf, ByEffects, acts_by_effects, take_by_effects}

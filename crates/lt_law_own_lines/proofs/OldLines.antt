@@ -16,9 +16,14 @@ use Rattle.lt_modes.specs.declared.event.Event.TheVariants.{Freeze, Void, Try as
 use Rattle.lt_modes.specs.Modes.{Modes, excludes_itself, held_modes, count_of, take_lock}
 use Rattle.lt_modes.specs.Script.{ScriptData}
 use Rattle.lt_modes.specs.State.{SetState, Desk, Body, AskBody, TellBody, CopyBody, TokenBody, FreezeBody, Letter, Parked, ParkedAsk, ParkedTell, Made, then_do, silent}
-use Rattle.lt_modes.specs.Serving.{answer_event, answer_by, ask_at, serve_one, serve_local, serve_copy, hand_over_to, is_gone, without_gone as left_gone}
-use Rattle.lt_modes.specs.Freezing.{freeze, freeze_at, frozen_by, targets, number_after, can_grant}
-use Rattle.lt_modes.specs.SetMove.{Way, Parks, Goes, learn, reversed, sent_on, route, tell_of, finish, take_body, take_freeze, arrive, ask_of, asked, asked_or_not, retaken, answers, given, granted, locked, tried, unlocked, changed, change_held, lock, try, unlock, change, dropped, take, drop}
+use Rattle.lt_modes.specs.Serving.{answer_event, answer_by, ask_at, serve_one, serve_local, serve_copy, is_gone, without_gone as left_gone}
+use Rattle.lt_modes.specs.HandingOver.{hand_over_to}
+use Rattle.lt_modes.specs.Freezing.{freeze, freeze_at, frozen_by, targets, number_after}
+use Rattle.lt_modes.specs.Granting.{can_grant}
+use Rattle.lt_modes.specs.SetMove.{finish, ask_of, asked, asked_or_not, retaken, answers, given, granted, locked, tried, unlocked, changed, change_held, lock, try, unlock, change, dropped, drop}
+use Rattle.lt_modes.specs.Routing.{Way, Parks, Goes, learn, reversed, sent_on, route}
+use Rattle.lt_modes.specs.Telling.{tell_of}
+use Rattle.lt_modes.specs.Taking.{take_body, take_freeze, arrive, take}
 use Rattle.lt_lists.proofs.AllLemmas.{all_append, all_any, all_map}
 use Rattle.lt_lists.specs.Below.{put}
 use Rattle.lt_lists.proofs.Puts.{put-same, put-other}

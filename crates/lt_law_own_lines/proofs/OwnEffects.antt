@@ -12,9 +12,13 @@ use Rattle.lt_modes.specs.declared.event.Event.TheVariants.{Freeze, Void}
 use Rattle.lt_modes.specs.Modes.{Modes, is_of, held_modes}
 use Rattle.lt_modes.specs.Script.{ScriptData}
 use Rattle.lt_modes.specs.State.{SetState, Desk, Body, AskBody, TellBody, CopyBody, TokenBody, FreezeBody, Letter, Parked, ParkedAsk, ParkedTell, Made, then_do, no_ask}
-use Rattle.lt_modes.specs.Serving.{queue_of, answer_event, answer_by, ask_at, serve_one, serve_local, serve_copy, hand_over_to, is_gone}
+use Rattle.lt_modes.specs.Serving.{queue_of, answer_event, answer_by, ask_at, serve_one, serve_local, serve_copy, is_gone}
+use Rattle.lt_modes.specs.HandingOver.{hand_over_to}
 use Rattle.lt_modes.specs.Freezing.{freeze, freeze_at, frozen_by, targets}
-use Rattle.lt_modes.specs.SetMove.{Way, Parks, Goes, learn, sent_on, route, tell_of, finish, take_body, arrive, ask_of, dropped, take, drop, withdrawn, withdraw}
+use Rattle.lt_modes.specs.SetMove.{finish, ask_of, dropped, drop, withdrawn, withdraw}
+use Rattle.lt_modes.specs.Routing.{Way, Parks, Goes, learn, sent_on, route}
+use Rattle.lt_modes.specs.Telling.{tell_of}
+use Rattle.lt_modes.specs.Taking.{take_body, arrive, take}
 use Rattle.lt_modes.specs.declared.command.Command.{Command}
 use Rattle.lt_modes.specs.declared.command.Command.TheVariants.{Lock, Unlock, Try, Change, DropAll, Withdraw}
 use Rattle.lt_modes.specs.declared.moves.Step.TheVariants.{Act, Take}

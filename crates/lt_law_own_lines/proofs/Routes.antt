@@ -10,8 +10,9 @@ use Rattle.lt_modes.specs.declared.parts.Link.{Link}
 use Rattle.lt_modes.specs.declared.parts.Hoped.{Hoped}
 use Rattle.lt_modes.specs.Modes.{excludes_itself}
 use Rattle.lt_modes.specs.State.{SetState, Desk, Parked, ParkedAsk, ParkedTell, Post, entered, place, entry_of}
-use Rattle.lt_modes.specs.Serving.{queue_of_desk, is_newer, told}
-use Rattle.lt_modes.specs.SetMove.{Way, Parks, Goes, learn, dealt, is_behind, hoped_way, ask_way, way_onward, way, reversed, sent_on, route}
+use Rattle.lt_modes.specs.Serving.{queue_of_desk}
+use Rattle.lt_modes.specs.Telling.{is_newer, told}
+use Rattle.lt_modes.specs.Routing.{Way, Parks, Goes, learn, dealt, is_behind, hoped_way, ask_way, way_onward, way, reversed, sent_on, route}
 use Rattle.lt_model.proofs.Effects.{Fact, HoldsOf, holds_silent, route_ways}
 use Rattle.lt_model.specs.Invariant.{IsNamed, IsParkedNamed}
 use Rattle.lt_law_own_lines.specs.WaitingLaws.{IsForPeer, NamesNodes}

@@ -12,9 +12,14 @@ use Rattle.lt_modes.specs.declared.ask.Ask.{Ask}
 use Rattle.lt_modes.specs.declared.parts.Link.{Link}
 use Rattle.lt_modes.specs.Modes.{excludes_itself, held_modes}
 use Rattle.lt_modes.specs.State.{SetState, Desk, Body, AskBody, TellBody, CopyBody, TokenBody, FreezeBody, Letter, Parked, ParkedAsk, ParkedTell, Made, silent, then_do, no_ask, without}
-use Rattle.lt_modes.specs.Serving.{queue_of, queue_of_desk, put_queue, owed_at, ask_at, serve_one, serve_local, serve_copy, waits, hand_over_to, is_gone, without_gone as left_gone, answer_event}
+use Rattle.lt_modes.specs.Serving.{queue_of, queue_of_desk, put_queue, owed_at, ask_at, serve_one, serve_local, serve_copy, is_gone, without_gone as left_gone, answer_event}
+use Rattle.lt_modes.specs.Waiting.{waits}
+use Rattle.lt_modes.specs.HandingOver.{hand_over_to}
 use Rattle.lt_modes.specs.Freezing.{freeze, freeze_at}
-use Rattle.lt_modes.specs.SetMove.{Way, Parks, Goes, learn, reversed, sent_on, route, tell_of, finish, take_body, arrive, ask_of, asked, dropped, take, drop, withdrawn, withdraw}
+use Rattle.lt_modes.specs.SetMove.{finish, ask_of, asked, dropped, drop, withdrawn, withdraw}
+use Rattle.lt_modes.specs.Routing.{Way, Parks, Goes, learn, reversed, sent_on, route}
+use Rattle.lt_modes.specs.Telling.{tell_of}
+use Rattle.lt_modes.specs.Taking.{take_body, arrive, take}
 use Rattle.lt_lists.proofs.AllLemmas.{all_front, all_back, remove_all}
 use Rattle.lt_model.proofs.Effects.{route_ways}
 use Rattle.lt_model.proofs.HomesRows.{without_home}

@@ -11,8 +11,10 @@ use Rattle.lt_modes.specs.declared.command.Command.TheVariants.{Lock, Unlock, Tr
 use Rattle.lt_modes.specs.Script.{ScriptData}
 use Rattle.lt_modes.specs.State.{SetState, Body, AskBody, TellBody, CopyBody, TokenBody, FreezeBody, Parked, ParkedAsk, ParkedTell, Made, has_stamp}
 use Rattle.lt_modes.specs.Fits.{Numbers, ask_if, parked_asks, asks_here, is_at_home, is_pending, is_known, are_apart, body_fits}
-use Rattle.lt_modes.specs.Serving.{queue_of, waits}
-use Rattle.lt_modes.specs.SetMove.{finish, drop, take}
+use Rattle.lt_modes.specs.Serving.{queue_of}
+use Rattle.lt_modes.specs.Waiting.{waits}
+use Rattle.lt_modes.specs.SetMove.{finish, drop}
+use Rattle.lt_modes.specs.Taking.{take}
 use Rattle.lt_lists.specs.Below.{put}
 use Rattle.lt_lists.proofs.AllLemmas.{all_front, all_back}
 use Rattle.lt_lists.proofs.Members.{contains_cases, list_any-which, filter_map-at, none_in, all_of}

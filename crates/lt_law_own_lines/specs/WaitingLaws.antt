@@ -2,7 +2,8 @@
 use Rattle.std.specs.Prelude.{◌≢◌, ◌≤◌, ◌<◌, ℕ, length, IfSome, All, IsTrue, ◌≡◌, false, List, Some, AllPairs}
 use Rattle.lt_modes.specs.declared.parts.Hoped.{Hoped}
 use Rattle.lt_modes.specs.State.{SetState, Desk, Post, Letter, Made}
-use Rattle.lt_modes.specs.Serving.{queue_of, waits}
+use Rattle.lt_modes.specs.Serving.{queue_of}
+use Rattle.lt_modes.specs.Waiting.{waits}
 use Rattle.lt_modes.specs.Script.{ScriptData}
 use Rattle.lt_modes.specs.Fits.{fits, numbers_of, Numbers, is_known, asks_here, body_fits}
 use Rattle.lt_modes.specs.declared.mode.Mode.{Mode}
@@ -10,7 +11,8 @@ use Rattle.lt_modes.specs.declared.stamp.Stamp.{Stamp}
 use Rattle.lt_modes.specs.declared.ask.Ask.{Ask}
 use Rattle.lt_modes.specs.declared.event.Event.{Event}
 use Rattle.lt_modes.specs.Sound.{SoundSet}
-use Rattle.lt_modes.specs.SetMove.{finish, lock, try, unlock, change, drop, take, withdraw}
+use Rattle.lt_modes.specs.SetMove.{finish, lock, try, unlock, change, drop, withdraw}
+use Rattle.lt_modes.specs.Taking.{take}
 use Rattle.lt_spec.specs.NodeMove.{NodeState, NodeMade, node_act, node_take, node_waits, act_stamp, take_stamp}
 use Rattle.lt_spec.specs.World.{start, line_client}
 use Rattle.lt_model.specs.Invariant.{IsNamed, IsParkedNamed}

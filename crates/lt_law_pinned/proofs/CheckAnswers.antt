@@ -220,7 +220,7 @@ complete_says = record {
   threads = is_done Run one_lock_says.threads good_threads (λ answer e. e);
   check = λ answer complete there. complete (goes_well Check answer _ _ (λ reads. good_check) there);
   order = λ answer complete there. complete (goes_well Order answer _ _ (λ reads. good_order) there);
-  make = λ answer complete there. complete (goes_well (Make 1 1 1 7) answer _ _ (λ reads. absurd (false≢true reads)) there);
+  make = λ answer complete there. complete (goes_well (Make 1 1 1 1 7) answer _ _ (λ reads. absurd (false≢true reads)) there);
 }
 
 -- What follows of all that is said of an answer.

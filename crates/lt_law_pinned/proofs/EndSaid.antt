@@ -1,7 +1,7 @@
 -- What follows of the word `order`, and of an ordered script.
 use Rattle.std.proofs.Common.{◌≡◌, ◌∙◌, ◌<◌, arith, ℕ, zero, suc, List, ◌++◌, Ok, refl, ap, ◌≢◌, ◌+◌, Some, codes, length}
 use Rattle.lt_modes.specs.Script.{ScriptData}
-use Rattle.lt_spec.specs.Script.{IsOrdered, first_bad}
+use Rattle.lt_spec.specs.Ordered.{IsOrdered, first_bad}
 use Rattle.lt_io.specs.Streams.{RoseBy}
 use Rattle.lt_text.specs.Text as text
 use Rattle.lt_script.specs.Reading.{read_of}

@@ -8,7 +8,7 @@ use Rattle.lt_modes.specs.Modes.{conflicts, Modes, excludes_itself}
 use Rattle.lt_modes.specs.declared.event.Event.TheVariants.{Try as Tried, Grant, Wait}
 use Rattle.lt_modes.specs.declared.ask.Ask.{Ask}
 use Rattle.lt_modes.specs.State.{Desk, ParkedAsk}
-use Rattle.lt_modes.specs.Serving.{is_newer}
+use Rattle.lt_modes.specs.Telling.{is_newer}
 use Rattle.lt_modes.specs.Freezing.{frozen_by}
 use Rattle.lt_lists.proofs.Members.{contains_cases, none_in, some_equal}
 use Rattle.lt_spec.specs.Holdings.{holding, wanted, HasOpenWait, Holding}

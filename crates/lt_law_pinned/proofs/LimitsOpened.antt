@@ -38,7 +38,7 @@ use Rattle.lt_law_pinned.specs.Whole.{DrawnIs}
 use Rattle.lt_law_pinned.proofs.Numbers.{zero_text, one_text, two_text}
 use Rattle.lt_law_pinned.specs.Told.{WordsAre, OpensRun, RunsTold, OrdersTold, TimesTold, two_writers, two_writers_script, both_moves, two_nodes, two_nodes_script, unlocks, four_moves, one_each, one_and_two, WithinTold, FarTold, EachTimeTold, IsNeverCut, EndsTold, SoakTold, CheckedRun, CheckTold, MakeTold, checked_writers, letter_first}
 
-made : script_of 2 3 20 233 ≡ made_from_233
+made : script_of 1 2 3 20 233 ≡ made_from_233
 unfolding generator.clients_of generator.requests_in generator.draw_of generator.seeded seeds.pcg32_seed steps.word_bytes steps.u32_at
 made = rw zero_text (rw one_text (rw two_text refl))
 
@@ -60,6 +60,7 @@ words_are = record {
   sim = refl;
   soak = refl;
   make = refl;
+  make_of_version = refl;
   nothing = refl;
   sim_alone = refl;
   soak_alone = refl;

@@ -67,7 +67,7 @@ the_script = record {
   commands = (0, Unlock 0 Read) ∷ [];
 }
 
-made : script_of 1 1 1 7 ≡ the_script
+made : script_of 1 1 1 1 7 ≡ the_script
 unfolding generator.clients_of generator.requests_in
 made = rw zero_text refl
 

@@ -1,7 +1,7 @@
 -- How the calls end, of any ordered script, and of the greatest script.
 use Rattle.std.specs.Prelude.{◌≡◌, ◌≢◌, ◌⊎◌, ℕ, List, Option, Some, None, Ok, length}
 use Rattle.lt_modes.specs.Script.{ScriptData}
-use Rattle.lt_spec.specs.Script.{IsOrdered}
+use Rattle.lt_spec.specs.Ordered.{IsOrdered}
 use Rattle.lt_io.specs.Streams.{SourceState}
 use Rattle.lt_script.specs.Reading.{read_of}
 use Rattle.lt_words.specs.declared.command.Command.{Command}

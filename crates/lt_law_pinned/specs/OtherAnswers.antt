@@ -65,12 +65,12 @@ pub record CheckSays : Type 0 where
   pub never_refused : (fault : ScriptFault) → HasStatusCause (Some Check) (Some checked_lock) (Refused fault) → ⊥
 
 pub record MakeSays : Type 0 where
-  pub done : Writes MAX_MOVES (Make 1 1 1 7) Done [] (codes "nodes 1\nset s0\nset s1\nset s2\nset s3\nclient c0 at 0\nc0 unlock s0 read\n")
-  pub no_run : (run : List Logged) (old new : List ℕ) → Says MAX_MOVES (Make 1 1 1 7) Done [] run old new → run ≡ []
-  pub never_stuck : IsNever MAX_MOVES (Make 1 1 1 7) Stuck []
-  pub reads_nothing : reads (Some (Make 1 1 1 7)) ≡ false
-  pub never_read_fault : (left : Option (List ℕ)) → HasStatusCause (Some (Make 1 1 1 7)) left ReadFault → ⊥
-  pub never_too_long : (left : Option (List ℕ)) → HasStatusCause (Some (Make 1 1 1 7)) left TooLong → ⊥
+  pub done : Writes MAX_MOVES (Make 1 1 1 1 7) Done [] (codes "nodes 1\nset s0\nset s1\nset s2\nset s3\nclient c0 at 0\nc0 unlock s0 read\n")
+  pub no_run : (run : List Logged) (old new : List ℕ) → Says MAX_MOVES (Make 1 1 1 1 7) Done [] run old new → run ≡ []
+  pub never_stuck : IsNever MAX_MOVES (Make 1 1 1 1 7) Stuck []
+  pub reads_nothing : reads (Some (Make 1 1 1 1 7)) ≡ false
+  pub never_read_fault : (left : Option (List ℕ)) → HasStatusCause (Some (Make 1 1 1 1 7)) left ReadFault → ⊥
+  pub never_too_long : (left : Option (List ℕ)) → HasStatusCause (Some (Make 1 1 1 1 7)) left TooLong → ⊥
 
 -- a run of the greatest script that was cut, where a node makes one move
 pub record SoakSays : Type 0 where
@@ -139,7 +139,7 @@ pub record CompleteSays : Type 0 where
       → answer ≢ NoMemory → answer ≡ Done
   pub order : (answer : Status) → IsComplete (Some Order) answer (fresh_source (Some one_lock)) (read_whole one_lock) 0 0
       → answer ≢ NoMemory → answer ≡ Done
-  pub make : (answer : Status) → IsComplete (Some (Make 1 1 1 7)) answer (fresh_source None) (fresh_source None) 0 0 → answer ≢ NoMemory → answer ≡ Done
+  pub make : (answer : Status) → IsComplete (Some (Make 1 1 1 1 7)) answer (fresh_source None) (fresh_source None) 0 0 → answer ≢ NoMemory → answer ≡ Done
 
 -- What is said of a script with one lock that is kept, and of one whose lock is given up again, in literals.
 
@@ -208,7 +208,7 @@ pub record ServesSay {S K : Type 0} (state : S → SourceState) (held : K → Op
   pub unwritten : OfAnswers state held faults pace MAX_MOVES (Some SimFirst)
       (λ answer s t k l. answer.status ≡ NoMemory → l ≡ k)
   -- `make` leaves the source as it was
-  pub unread : OfAnswers state held faults pace MAX_MOVES (Some (Make 1 1 1 7)) (λ answer s t k l. t ≡ s)
+  pub unread : OfAnswers state held faults pace MAX_MOVES (Some (Make 1 1 1 1 7)) (λ answer s t k l. t ≡ s)
   -- a run that is done had no failed write, no failed read, and no more than 2^20 bytes of input
   pub writing : OfAnswers state held faults pace MAX_MOVES (Some SimFirst)
       (λ answer s t k l. answer.status ≡ Done → faults l ≡ faults k)

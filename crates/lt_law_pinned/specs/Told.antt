@@ -218,9 +218,9 @@ pub record CheckTold : Type 0 where
 
 -- the text of the script that is made from the seed 233
 pub record MakeTold : Type 0 where
-  pub text : (run : List Logged) (old new : List ℕ) → Did 1073741824 (Some (Make 2 3 20 233)) Done None run (Some old) (Some new)
+  pub text : (run : List Logged) (old new : List ℕ) → Did 1073741824 (Some (Make 1 2 3 20 233)) Done None run (Some old) (Some new)
       → new ≡ old ++ made_text
-  pub no_run : (run : List Logged) → SaysOf 1073741824 (Make 2 3 20 233) Done None run → run ≡ []
+  pub no_run : (run : List Logged) → SaysOf 1073741824 (Make 1 2 3 20 233) Done None run → run ≡ []
 
 -- Which words are which command, in literals.
 
@@ -231,7 +231,9 @@ pub record WordsAre : Type 0 where
   pub sim_first : command_of (codes "sim" ∷ codes "first" ∷ []) ≡ Some SimFirst
   pub sim : command_of (codes "sim" ∷ codes "7" ∷ []) ≡ Some (Sim 7)
   pub soak : command_of (codes "soak" ∷ codes "18446744073709551615" ∷ []) ≡ Some (Soak 18446744073709551615)
-  pub make : command_of (codes "make" ∷ codes "2" ∷ codes "3" ∷ codes "20" ∷ codes "233" ∷ []) ≡ Some (Make 2 3 20 233)
+  pub make : command_of (codes "make" ∷ codes "2" ∷ codes "3" ∷ codes "20" ∷ codes "233" ∷ []) ≡ Some (Make 1 2 3 20 233)
+  pub make_of_version : command_of (codes "make" ∷ codes "2" ∷ codes "3" ∷ codes "20" ∷ codes "233" ∷ codes "version"
+      ∷ codes "3" ∷ []) ≡ Some (Make 3 2 3 20 233)
   -- words that are none: too few, too many, another first word, a seed that is none, numbers of which no script is made
   pub nothing : command_of [] ≡ None
   pub sim_alone : command_of (codes "sim" ∷ []) ≡ None

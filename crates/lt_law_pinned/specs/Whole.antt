@@ -185,5 +185,5 @@ pub record WholeIs : Type 0 where
 
 -- the script that is made from the seed 233
 pub record DrawnIs : Type 0 where
-  pub script : script_of 2 3 20 233 ≡ made_from_233
+  pub script : script_of 1 2 3 20 233 ≡ made_from_233
   pub text : print_of made_from_233 ≡ made_text

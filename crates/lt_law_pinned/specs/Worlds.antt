@@ -9,7 +9,8 @@ use Rattle.lt_modes.specs.declared.ask.Ask.{Ask}
 use Rattle.lt_modes.specs.declared.parts.Row.{Row}
 use Rattle.lt_modes.specs.declared.moves.Step.{Step}
 use Rattle.lt_modes.specs.State.{Desk, SetState, Body, Letter, Parked, AskBody, CopyBody, TokenBody, ParkedAsk}
-use Rattle.lt_modes.specs.Freezing.{can_grant, frozen_by}
+use Rattle.lt_modes.specs.Freezing.{frozen_by}
+use Rattle.lt_modes.specs.Granting.{can_grant}
 use Rattle.lt_modes.specs.Modes.{conflicts}
 use Rattle.lt_modes.specs.Serving.{ask_at, is_gone}
 use Rattle.lt_spec.specs.Holdings.{WaitsFor, lines_of, HasOpenWait, IsBarredByLines}

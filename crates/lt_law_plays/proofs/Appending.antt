@@ -13,7 +13,7 @@ use Rattle.lt_modes.specs.declared.moves.Step.TheVariants.{Act, Take}
 use Rattle.lt_lists.specs.Below.{gather_below}
 use Rattle.lt_spec.specs.NodeMove.{commands_of, NodeState, has_command, next_command, act_stamp, one_made, at_clock, obey, node_act, with_commands, command_if, home, NodeMade, node_waits, AnyClient, IsHomeAt, GoOn, AreAt, share_of, joined_of, is_free_at, withdraws_itself}
 use Rattle.lt_spec.specs.World.{Logged, World, start, is_enabled, is_runnable, node_move, move_stamp, opened, after_made, after, after_run, IsRunFrom}
-use Rattle.lt_spec.specs.FixedOrder.{Cause, OfClient, OfLetter, can_make_move, made_of, stamp_of, cause_step, letters_for, Plays}
+use Rattle.lt_spec.specs.Plays.{Cause, OfClient, OfLetter, can_make_move, made_of, stamp_of, cause_step, letters_for, Plays}
 use Rattle.lt_law_plays.specs.AppendLaws.{PlaysGoOn, RunsGoOn, AppendedCommands, PlaysOfAppended, RunsOfAppended, PlaysSameAt, AreOwnCommands, ShareIsSame, SharedPlays, SharedCommands}
 
 slice_get_front : {X : Type 0} (xs ys : List X) (k : ℕ) → k < length xs → slice_get (xs ++ ys) k ≡ slice_get xs k

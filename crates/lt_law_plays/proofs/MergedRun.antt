@@ -15,7 +15,7 @@ use Rattle.lt_modes.proofs.StampOrder.{newer_not_before}
 use Rattle.lt_lists.proofs.Puts.{put-same, put-other}
 use Rattle.lt_lists.proofs.AllLemmas.{all_weaker, all_append}
 use Rattle.lt_lists.proofs.Members.{none_in}
-use Rattle.lt_spec.specs.FixedOrder.{Cause, OfClient, OfLetter, can_make_move, made_of, stamp_of, cause_step, logged_of, used_by, letters_for, BeginsPlay, Plays}
+use Rattle.lt_spec.specs.Plays.{Cause, OfClient, OfLetter, can_make_move, made_of, stamp_of, cause_step, logged_of, used_by, letters_for, BeginsPlay, Plays}
 use Rattle.lt_merge.specs.Merging.{IsBefore, AreRising, IsMerged}
 use Rattle.lt_law_plays.specs.Merged.{Logs, ArePlays, step_made, step_left, token_goes}
 use Rattle.lt_law_plays.specs.MergeLaws.{MergedIsRun, MergedEnds, HandIsFront, SentWereOnWay, OnWayWereSent}

@@ -6,12 +6,12 @@ use Rattle.std.proofs.lemmas.Option.{slice_get_cases, slice_get_past}
 use Rattle.lt_modes.specs.declared.stamp.Stamp.{Stamp}
 use Rattle.lt_modes.specs.Script.{ScriptData}
 use Rattle.lt_modes.specs.State.{Letter, Post}
-use Rattle.lt_modes.specs.SetMove.{take}
+use Rattle.lt_modes.specs.Taking.{take}
 use Rattle.lt_modes.proofs.StampOrder.{newer_by_clock}
 use Rattle.lt_lists.proofs.AllLemmas.{all_append, all_weaker}
 use Rattle.lt_spec.specs.World.{Logged, start}
 use Rattle.lt_spec.specs.NodeMove.{NodeState, next_command, act_stamp, take_stamp, at_clock, one_made}
-use Rattle.lt_spec.specs.FixedOrder.{Cause, OfClient, OfLetter, can_make_move, made_of, stamp_of, logged_of, used_by, letters_for, Plays}
+use Rattle.lt_spec.specs.Plays.{Cause, OfClient, OfLetter, can_make_move, made_of, stamp_of, logged_of, used_by, letters_for, Plays}
 use Rattle.lt_merge.specs.Merging.{IsBefore}
 use Rattle.lt_model.proofs.Letters.{letters_to-same, letters_to-other}
 use Rattle.lt_model.proofs.NodeEffects.{obey-stamped}

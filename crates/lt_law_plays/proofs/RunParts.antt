@@ -9,7 +9,7 @@ use Rattle.lt_lists.specs.Below.{put}
 use Rattle.lt_lists.proofs.Puts.{put-same, put-other}
 use Rattle.lt_spec.specs.World.{Logged, World, token_to, is_some_letter, is_enabled, take_front, front_stamp, put_mail, logged, after_made, after, start, after_run, IsRunFrom, is_of_node}
 use Rattle.lt_spec.specs.NodeMove.{home, has_command, node_waits, NodeState, is_free_at}
-use Rattle.lt_spec.specs.FixedOrder.{Cause, OfClient, OfLetter, can_make_move, made_of, cause_step, logged_of, used_by, letters_for, Plays}
+use Rattle.lt_spec.specs.Plays.{Cause, OfClient, OfLetter, can_make_move, made_of, cause_step, logged_of, used_by, letters_for, Plays}
 use Rattle.lt_merge.proofs.MergedLists.{filter_yes, filter_no}
 use Rattle.lt_law_plays.proofs.PlayLemmas.{IsFromOther, from_other, plays_same}
 use Rattle.lt_law_plays.specs.MergeLaws.{RunsArePlays}

@@ -5,7 +5,7 @@ use Rattle.lt_modes.specs.Script.{ScriptData}
 use Rattle.lt_modes.specs.State.{Letter}
 use Rattle.lt_spec.specs.World.{Logged, world_after, IsRun}
 use Rattle.lt_spec.specs.NodeMove.{commands_of, NodeState, with_commands, AnyClient, IsHomeAt, GoOn, appended, home, SameAt, AreAt, share_of, joined_of}
-use Rattle.lt_spec.specs.FixedOrder.{Plays}
+use Rattle.lt_spec.specs.Plays.{Plays}
 
 -- where the commands of the node's own clients go on, its play is a play: of the same letters, to the same state
 abbrev pub PlaysGoOn : Type 0

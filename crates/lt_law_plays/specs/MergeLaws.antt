@@ -7,7 +7,7 @@ use Rattle.lt_modes.specs.Fits.{head_fits, numbers_of}
 use Rattle.lt_spec.specs.NodeMove.{IsWhole}
 use Rattle.lt_spec.specs.World.{Logged, World, start, is_enabled, is_of_node, world_after, IsRun}
 use Rattle.lt_lists.specs.Below.{sum_below}
-use Rattle.lt_spec.specs.FixedOrder.{OfLetter, can_act, can_make_move}
+use Rattle.lt_spec.specs.Plays.{OfLetter, can_act, can_make_move}
 use Rattle.lt_law_plays.specs.Merged.{Logs, ArePlays, merged, token_goes}
 use Rattle.lt_merge.specs.Merging.{IsMerged}
 

@@ -8,7 +8,7 @@ use Rattle.lt_modes.specs.State.{Letter}
 use Rattle.lt_lists.specs.Below.{put}
 use Rattle.lt_spec.specs.World.{Logged, start, take_front, token_to}
 use Rattle.lt_spec.specs.NodeMove.{NodeState, NodeMade, node_act}
-use Rattle.lt_spec.specs.FixedOrder.{Plays, Cause, can_make_move, made_of, logged_of, used_by, letters_for}
+use Rattle.lt_spec.specs.Plays.{Plays, Cause, can_make_move, made_of, logged_of, used_by, letters_for}
 use Rattle.lt_merge.specs.Merging.{both_merged, AreRising}
 
 -- of each node its log and its last state; of each two nodes the letters of p that q used, those that p sent to q,

@@ -12,7 +12,7 @@ use Rattle.lt_modes.specs.declared.command.Command.{Command}
 use Rattle.lt_modes.specs.declared.event.Event.{Event}
 use Rattle.lt_modes.specs.State.{SetState, ParkedAsk, Made, then_do, same_choice}
 use Rattle.lt_modes.specs.Modes.{count_of, take_lock, same_mode}
-use Rattle.lt_modes.specs.Freezing.{can_grant}
+use Rattle.lt_modes.specs.Granting.{can_grant}
 use Rattle.lt_modes.specs.Serving.{answer_by, is_gone, without_gone as left_gone}
 use Rattle.lt_modes.specs.Waiting.{pending_ask}
 use Rattle.lt_modes.proofs.ModeAlgebra.{same_mode-true}

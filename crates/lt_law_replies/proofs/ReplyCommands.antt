@@ -9,7 +9,8 @@ use Rattle.lt_modes.specs.declared.event.Event.{Event}
 use Rattle.lt_modes.specs.declared.event.Event.TheVariants.{DropAll as Dropped, Busy}
 use Rattle.lt_modes.specs.Script.{ScriptData}
 use Rattle.lt_modes.specs.State.{SetState, Made, silent}
-use Rattle.lt_modes.specs.Serving.{is_gone, waits}
+use Rattle.lt_modes.specs.Serving.{is_gone}
+use Rattle.lt_modes.specs.Waiting.{waits}
 use Rattle.lt_modes.specs.SetMove.{finish, locked, tried, unlocked, changed, dropped, drop, withdrawn}
 use Rattle.lt_lists.proofs.AllLemmas.{all_weaker}
 use Rattle.lt_spec.specs.NodeMove.{related, NodeState, NodeMade, node_waits, act_stamp, at_clock, one_made, touched, each_touched, locks_in_sets, answered_first, drop_all, obey, withdraws_itself, HasTargetsAt}

@@ -11,9 +11,11 @@ use Rattle.lt_modes.specs.declared.event.Event.{Event}
 use Rattle.lt_modes.specs.declared.event.Event.TheVariants.{Freeze, Void}
 use Rattle.lt_modes.specs.Modes.{Modes, bars, same_modes, held_modes}
 use Rattle.lt_modes.specs.State.{SetState, Desk, ParkedTell, Made, Post, silent, then_do, no_ask, without}
-use Rattle.lt_modes.specs.Serving.{ask_at, queue_of, next_service, next_draw, serve, serve_up_to, serve_step, serve_one, serve_local, serve_copy, answer_by, answer_event, hand_over, hand_over_for, hand_over_to, is_gone, end_event, without_gone as left_gone}
+use Rattle.lt_modes.specs.Serving.{ask_at, queue_of, next_service, serve, serve_up_to, serve_step, serve_one, serve_local, serve_copy, answer_by, answer_event, is_gone, end_event, without_gone as left_gone}
+use Rattle.lt_modes.specs.HandingOver.{next_draw, hand_over, hand_over_for, hand_over_to}
 use Rattle.lt_modes.specs.Freezing.{freeze, freeze_at, frozen_by, targets}
-use Rattle.lt_modes.specs.SetMove.{tell_of, make_tell, finish, finish_by}
+use Rattle.lt_modes.specs.SetMove.{make_tell, finish, finish_by}
+use Rattle.lt_modes.specs.Telling.{tell_of}
 use Rattle.lt_law_accounts.proofs.Asks.{times_in-some, without_only, without_kept, without_gone}
 use Rattle.lt_model.proofs.Effects.{Fact, EndEffects, next_service-within, both}
 use Rattle.lt_model.proofs.StandingEffects.{found_here}

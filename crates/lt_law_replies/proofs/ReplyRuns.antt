@@ -8,7 +8,8 @@ use Rattle.lt_modes.specs.declared.ask.Ask.{Ask}
 use Rattle.lt_modes.specs.declared.event.Event.{Event}
 use Rattle.lt_modes.specs.declared.moves.Step.{Step}
 use Rattle.lt_modes.specs.Script.{ScriptData}
-use Rattle.lt_modes.specs.Serving.{is_gone, waits}
+use Rattle.lt_modes.specs.Serving.{is_gone}
+use Rattle.lt_modes.specs.Waiting.{waits}
 use Rattle.lt_lists.specs.Below.{any_below, one_if}
 use Rattle.lt_lists.proofs.Members.{list_any-at}
 use Rattle.lt_lists.proofs.Puts.{put-same, put-other}

@@ -13,7 +13,9 @@ use Rattle.lt_modes.specs.declared.moves.Step.TheVariants.{Act, Take}
 use Rattle.lt_modes.specs.Script.{ScriptData}
 use Rattle.lt_modes.specs.State.{SetState, Body, AskBody, TellBody, CopyBody, TokenBody, FreezeBody, Letter, ParkedAsk, ParkedTell, Made, silent, without}
 use Rattle.lt_modes.specs.Serving.{without_gone as left_gone}
-use Rattle.lt_modes.specs.SetMove.{learn, arrive, take_body, finish, drop, take as take_letter}
+use Rattle.lt_modes.specs.SetMove.{finish, drop}
+use Rattle.lt_modes.specs.Routing.{learn}
+use Rattle.lt_modes.specs.Taking.{arrive, take_body, take as take_letter}
 use Rattle.lt_lists.proofs.Puts.{put-same, put-other}
 use Rattle.lt_spec.specs.NodeMove.{home, related, commands_of, NodeState, NodeMade, node_waits, has_command, next_command, act_stamp, take_stamp, at_clock, one_made, node_act, node_take, touched, each_touched, drop_all, obey, withdraws_itself, IsWhole}
 use Rattle.lt_spec.specs.World.{World, is_enabled, is_waiting, is_free_to_act, is_some_letter, put_mail, take_front, node_move, replies_of}

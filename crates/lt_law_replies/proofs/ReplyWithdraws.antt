@@ -9,8 +9,8 @@ use Rattle.lt_modes.specs.declared.command.Command.TheVariants.{Withdraw}
 use Rattle.lt_modes.specs.declared.event.Event.{Event}
 use Rattle.lt_modes.specs.declared.event.Event.TheVariants.{Withdraw as WithdrawLine, Withdrawn}
 use Rattle.lt_modes.specs.State.{SetState, Made, then_do}
-use Rattle.lt_modes.specs.Serving.{is_gone, waits}
-use Rattle.lt_modes.specs.Waiting.{pending_ask}
+use Rattle.lt_modes.specs.Serving.{is_gone}
+use Rattle.lt_modes.specs.Waiting.{waits, pending_ask}
 use Rattle.lt_modes.specs.SetMove.{answers, given_up, mode_wanted, withdrawn}
 use Rattle.lt_spec.specs.Script.{AnswersCommand}
 use Rattle.lt_spec.specs.World.{replies_of}

@@ -9,7 +9,9 @@ use Rattle.lt_modes.specs.Modes.{Modes, is_of, take_lock}
 use Rattle.lt_modes.specs.Script.{ScriptData}
 use Rattle.lt_modes.specs.State.{SetState, Desk, ParkedAsk}
 use Rattle.lt_modes.specs.Serving.{is_gone}
-use Rattle.lt_modes.specs.SetMove.{learn, given, ask_of, asked, dropped, take_copy, take_freeze, take_token}
+use Rattle.lt_modes.specs.SetMove.{given, ask_of, asked, dropped}
+use Rattle.lt_modes.specs.Routing.{learn}
+use Rattle.lt_modes.specs.Taking.{take_copy, take_freeze, take_token}
 use Rattle.lt_modes.specs.Fits.{numbers_of}
 use Rattle.lt_modes.specs.Sound.{SoundParked}
 use Rattle.lt_spec.specs.NodeMove.{home}

@@ -8,9 +8,12 @@ use Rattle.lt_modes.specs.declared.ask.Ask.{Ask}
 use Rattle.lt_modes.specs.Modes.{excludes_itself, bars, held_modes, same_modes}
 use Rattle.lt_modes.specs.Script.{ScriptData}
 use Rattle.lt_modes.specs.State.{SetState, Desk, Parked, ParkedAsk, ParkedTell, Made, entry_of}
-use Rattle.lt_modes.specs.Serving.{ask_at, is_gone, put_queue, owed_at, owing, served, serve_copy, hand_over_to, told}
+use Rattle.lt_modes.specs.Serving.{ask_at, is_gone, put_queue, owed_at, owing, served, serve_copy}
+use Rattle.lt_modes.specs.HandingOver.{hand_over_to}
+use Rattle.lt_modes.specs.Telling.{told, tell_of}
 use Rattle.lt_modes.specs.Freezing.{freeze, freeze_at, frozen_by, frozen_entry, targets, number_after}
-use Rattle.lt_modes.specs.SetMove.{Way, Parks, Goes, dealt, reversed, sent_on, route, tell_of, make_tell}
+use Rattle.lt_modes.specs.SetMove.{make_tell}
+use Rattle.lt_modes.specs.Routing.{Way, Parks, Goes, dealt, reversed, sent_on, route}
 use Rattle.lt_modes.specs.Fits.{numbers_of}
 use Rattle.lt_modes.specs.Sound.{IsNoLater, SoundHoped, SoundParked}
 use Rattle.lt_modes.proofs.ModeAlgebra.{same_modes-true}

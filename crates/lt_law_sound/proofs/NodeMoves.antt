@@ -8,7 +8,8 @@ use Rattle.lt_modes.specs.declared.command.Command.TheVariants.{Lock, Unlock, Tr
 use Rattle.lt_modes.specs.Script.{ScriptData}
 use Rattle.lt_modes.specs.State.{SetState}
 use Rattle.lt_modes.specs.Serving.{is_gone}
-use Rattle.lt_modes.specs.SetMove.{finish, lock, try, unlock, change, drop, withdraw, take}
+use Rattle.lt_modes.specs.SetMove.{finish, lock, try, unlock, change, drop, withdraw}
+use Rattle.lt_modes.specs.Taking.{take}
 use Rattle.lt_modes.specs.Fits.{head_fits, body_fits, numbers_of}
 use Rattle.lt_modes.specs.Sound.{SoundSet}
 use Rattle.lt_lists.specs.Below.{put}

@@ -8,7 +8,8 @@ use Rattle.lt_modes.specs.Fits.{has_client, head_fits, numbers_of}
 use Rattle.lt_modes.specs.Sound.{SoundDesk}
 use Rattle.lt_lists.specs.Below.{any_below, sum_below}
 use Rattle.lt_lists.proofs.Members.{few_filtered}
-use Rattle.lt_spec.specs.NodeMove.{home, family, related, NodeState, locks_in_sets, command_if, desk_within, set_within, node_within, leaves_ask, leaves_asks}
+use Rattle.lt_spec.specs.NodeMove.{home, family, related, NodeState, locks_in_sets, command_if}
+use Rattle.lt_spec.specs.Limits.{desk_within, set_within, node_within, leaves_ask, leaves_asks}
 use Rattle.lt_spec.specs.Script.{IsScript}
 use Rattle.lt_spec.specs.declared.limits.TheConstants.{MAX_CLIENTS_OF_NODE, MAX_COMMANDS_OF_SERVICE}
 use Rattle.lt_model.specs.Invariant.{SoundNode}

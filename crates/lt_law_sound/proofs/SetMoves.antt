@@ -6,7 +6,8 @@ use Rattle.lt_modes.specs.declared.stamp.Stamp.{Stamp}
 use Rattle.lt_modes.specs.declared.ask.Ask.{Ask}
 use Rattle.lt_modes.specs.Script.{ScriptData}
 use Rattle.lt_modes.specs.State.{SetState, Desk, Made, Post, no_ask}
-use Rattle.lt_modes.specs.Serving.{queue_of, queue_of_desk, ask_at, next_service, next_draw, serve_local, serve_copy, without_gone}
+use Rattle.lt_modes.specs.Serving.{queue_of, queue_of_desk, ask_at, next_service, serve_local, serve_copy, without_gone}
+use Rattle.lt_modes.specs.HandingOver.{next_draw}
 use Rattle.lt_modes.specs.SetMove.{finish, locked, tried, unlocked, changed, dropped, withdrawn, lock, try, unlock, change, drop, withdraw}
 use Rattle.lt_modes.specs.Fits.{asks_here, numbers_of}
 use Rattle.lt_modes.specs.Sound.{SoundSet}

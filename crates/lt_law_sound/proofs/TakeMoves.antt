@@ -9,7 +9,8 @@ use Rattle.lt_modes.specs.declared.ask.Ask.{Ask}
 use Rattle.lt_modes.specs.Script.{ScriptData}
 use Rattle.lt_modes.specs.State.{SetState, Desk, Body, AskBody, TellBody, CopyBody, TokenBody, FreezeBody, Letter, ParkedAsk, ParkedTell, same_ask, times_in}
 use Rattle.lt_modes.specs.Serving.{queue_of_desk}
-use Rattle.lt_modes.specs.SetMove.{learn, take_body, arrive, take}
+use Rattle.lt_modes.specs.Routing.{learn}
+use Rattle.lt_modes.specs.Taking.{take_body, arrive, take}
 use Rattle.lt_modes.specs.Fits.{is_at_home, has_client, is_pending, is_known, are_apart, asks_here, parked_asks, body_fits, head_fits, numbers_of}
 use Rattle.lt_modes.specs.Sound.{SoundSet}
 use Rattle.lt_lists.specs.Below.{one_if}

@@ -11,7 +11,7 @@ use Rattle.lt_modes.specs.declared.event.Event.TheVariants.{Try as TryLine, Unlo
 use Rattle.lt_modes.specs.Modes.{count_of, take_lock}
 use Rattle.lt_modes.specs.Script.{ScriptData}
 use Rattle.lt_modes.specs.State.{SetState, ParkedAsk, Made}
-use Rattle.lt_modes.specs.Freezing.{can_grant}
+use Rattle.lt_modes.specs.Granting.{can_grant}
 use Rattle.lt_modes.specs.Serving.{is_gone, without_gone as left_gone}
 use Rattle.lt_modes.specs.SetMove.{answers, given, granted, ask_of, asked, asked_or_not, locked, tried, unlocked, dropped, same_wish}
 use Rattle.lt_modes.specs.Waiting.{pending_ask}
@@ -22,7 +22,7 @@ use Rattle.lt_law_invariant.proofs.OwnSteps.{route_same}
 use Rattle.lt_law_invariant.proofs.ClientCounts.{SomeEach, asks_pushed, locks_dropped, locks_fewer}
 use Rattle.lt_law_invariant.proofs.ClientCommands.{IsIdle}
 use Rattle.lt_law_invariant.proofs.ClientEffects.{gone_same, is_asks, route_gone}
-use Rattle.lt_spec.specs.Script.{may_hold_after}
+use Rattle.lt_spec.specs.Ordered.{may_hold_after}
 use Rattle.lt_law_ordered.specs.OrderedLaws.{is_steady}
 use Rattle.lt_law_ordered.proofs.Loans.{asks_for}
 use Rattle.lt_law_ordered.proofs.ActLoans.{ActLoans, idle_asks, locked_loans, tried_loans}

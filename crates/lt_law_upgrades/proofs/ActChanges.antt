@@ -11,7 +11,7 @@ use Rattle.lt_modes.specs.declared.event.Event.TheVariants.{NotHeld, Wait, Withh
 use Rattle.lt_modes.specs.Modes.{same_mode, count_of, add_lock, take_lock, locks_of, one, covers}
 use Rattle.lt_modes.specs.Script.{ScriptData}
 use Rattle.lt_modes.specs.State.{SetState, ParkedAsk}
-use Rattle.lt_modes.specs.Freezing.{can_grant}
+use Rattle.lt_modes.specs.Granting.{can_grant}
 use Rattle.lt_modes.specs.Serving.{is_gone, without_gone as left_gone}
 use Rattle.lt_modes.specs.SetMove.{answers, given, ask_of, asked, asked_or_not, retaken, change_held, changed, same_wish}
 use Rattle.lt_modes.specs.Waiting.{pending_ask}

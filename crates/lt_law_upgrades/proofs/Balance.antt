@@ -9,9 +9,13 @@ use Rattle.lt_modes.specs.declared.ask.Ask.{Ask}
 use Rattle.lt_modes.specs.declared.parts.Row.{Row}
 use Rattle.lt_modes.specs.Modes.{same_mode, add_lock, take_lock, held_modes}
 use Rattle.lt_modes.specs.State.{SetState, Desk, Body, AskBody, TellBody, CopyBody, TokenBody, FreezeBody, Letter, ParkedAsk, ParkedTell, Post, no_ask, without}
-use Rattle.lt_modes.specs.Serving.{ask_at, queue_of, next_service, give_up, answered, serve_local, serve_copy, hand_over_to, is_gone, rows_after, without_gone as left_gone}
+use Rattle.lt_modes.specs.Serving.{ask_at, queue_of, next_service, give_up, answered, serve_local, serve_copy, is_gone, rows_after, without_gone as left_gone}
+use Rattle.lt_modes.specs.HandingOver.{hand_over_to}
 use Rattle.lt_modes.specs.Freezing.{freeze_at}
-use Rattle.lt_modes.specs.SetMove.{learn, arrive, take_body, tell_of, make_tell}
+use Rattle.lt_modes.specs.SetMove.{make_tell}
+use Rattle.lt_modes.specs.Routing.{learn}
+use Rattle.lt_modes.specs.Taking.{arrive, take_body}
+use Rattle.lt_modes.specs.Telling.{tell_of}
 use Rattle.lt_modes.proofs.ModeAlgebra.{same_mode-true}
 use Rattle.lt_law_accounts.proofs.Asks.{times_in-some, without_only, without_gone}
 use Rattle.lt_law_accounts.proofs.RowTotals.{total, is_key, total_added, total_taken}

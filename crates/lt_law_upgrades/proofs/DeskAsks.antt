@@ -8,10 +8,12 @@ use Rattle.lt_modes.specs.declared.ask.Ask.{Ask}
 use Rattle.lt_modes.specs.declared.parts.Row.{Row}
 use Rattle.lt_modes.specs.Modes.{has, held_modes, excludes_itself, one, covers, is_of, count_of, take_lock}
 use Rattle.lt_modes.specs.State.{entered, SetState, Made, Desk, Parked, ParkedAsk, ParkedTell, entry_of}
-use Rattle.lt_modes.specs.Serving.{told, queue_of_desk, queue_of, without_gone}
+use Rattle.lt_modes.specs.Serving.{queue_of_desk, queue_of, without_gone}
+use Rattle.lt_modes.specs.Telling.{told}
 use Rattle.lt_model.proofs.Voids.{asks_ways, withdraws_ways}
-use Rattle.lt_modes.specs.SetMove.{route, ask_of, asked, asked_or_not, answers, given, granted, locked, tried, unlocked, change_held, changed, withdrawn}
-use Rattle.lt_modes.specs.Freezing.{is_holder, can_grant}
+use Rattle.lt_modes.specs.SetMove.{ask_of, asked, asked_or_not, answers, given, granted, locked, tried, unlocked, change_held, changed, withdrawn}
+use Rattle.lt_modes.specs.Routing.{route}
+use Rattle.lt_modes.specs.Granting.{is_holder, can_grant}
 use Rattle.lt_modes.specs.declared.mode.Mode.{Mode}
 use Rattle.lt_modes.specs.declared.event.Event.TheVariants.{Try as TryLine, Unlock as UnlockLine, NotHeld, Change as ChangeLine}
 use Rattle.lt_lists.proofs.Members.{contains_first, list_any-at, list_any-which}

@@ -6,8 +6,12 @@ use Rattle.lt_modes.specs.declared.stamp.Stamp.{Stamp}
 use Rattle.lt_modes.specs.declared.ask.Ask.{Ask}
 use Rattle.lt_modes.specs.Modes.{excludes_itself, held_modes, has, any_mode}
 use Rattle.lt_modes.specs.State.{SetState, Desk, Body, AskBody, TellBody, CopyBody, TokenBody, FreezeBody, Letter, Parked, ParkedAsk, ParkedTell, no_ask, without, entry_of, Post, post_of}
-use Rattle.lt_modes.specs.SetMove.{dealt, learn, arrive, take_body, tell_of, make_tell}
-use Rattle.lt_modes.specs.Serving.{is_gone, queue_of_desk, answered, queue_of, ask_at, put_queue, owed_at, owing, next_service, next_draw, serve_local, serve_copy, leaving, without_desk, hand_over_to}
+use Rattle.lt_modes.specs.SetMove.{make_tell}
+use Rattle.lt_modes.specs.Routing.{dealt, learn}
+use Rattle.lt_modes.specs.Taking.{arrive, take_body}
+use Rattle.lt_modes.specs.Telling.{tell_of}
+use Rattle.lt_modes.specs.Serving.{is_gone, queue_of_desk, answered, queue_of, ask_at, put_queue, owed_at, owing, next_service, serve_local, serve_copy}
+use Rattle.lt_modes.specs.HandingOver.{next_draw, leaving, without_desk, hand_over_to}
 use Rattle.lt_modes.specs.declared.mode.Mode.{Mode}
 use Rattle.lt_modes.specs.Freezing.{freeze_at, frozen_entry, frozen_by}
 use Rattle.lt_modes.proofs.ModeAlgebra.{any_mode-which, any_mode-at}

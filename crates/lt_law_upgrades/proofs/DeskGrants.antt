@@ -9,7 +9,7 @@ use Rattle.lt_modes.specs.Serving.{give_up}
 use Rattle.lt_modes.proofs.ModeAlgebra.{covers_by_table}
 use Rattle.lt_modes.specs.declared.mode.Mode.TheVariants.{Read, Upgrade, IntentionWrite}
 use Rattle.lt_modes.specs.ModeLaws.{BarsBy}
-use Rattle.lt_modes.specs.Freezing.{may_join, can_grant}
+use Rattle.lt_modes.specs.Granting.{may_join, can_grant}
 use Rattle.lt_modes.specs.SetMove.{given}
 use Rattle.lt_law_accounts.proofs.AccountFacts.{has-with_mode}
 use Rattle.lt_law_accounts.proofs.Rows.{AreFewer, held_fewer, held_one_more, rows_granted, own_is_held}

@@ -7,7 +7,8 @@ use Rattle.lt_modes.specs.declared.ask.Ask.{Ask}
 use Rattle.lt_modes.specs.declared.parts.Row.{Row}
 use Rattle.lt_modes.specs.Modes.{Modes, conflicts, excludes_itself, has, one, bars, covers, union, with_mode, no_modes, same_mode, held_modes}
 use Rattle.lt_modes.specs.State.{no_ask, modes_of_asks, SetState, Desk, TokenBody, Entry, first_entry, entry_of, record_of, own_owed, modes_at, others_below, others, Post}
-use Rattle.lt_modes.specs.Serving.{queue_of, queue_of_desk, ask_at, is_free, is_local, is_clear_at_home, is_served, is_ready, is_void, is_gone, next_from, next_at, next_service, next_draw, leaving, settled}
+use Rattle.lt_modes.specs.Serving.{queue_of, queue_of_desk, ask_at, is_free, is_local, is_clear_at_home, is_served, is_ready, is_void, is_gone, next_from, next_at, next_service}
+use Rattle.lt_modes.specs.HandingOver.{next_draw, leaving, settled}
 use Rattle.lt_modes.proofs.ModeAlgebra.{bars_by_table, covers_by_table, conflicts-sym, has-modes_by, same_mode-true}
 use Rattle.lt_law_accounts.specs.Account.{MayDraw, IsFirstDrawing}
 use Rattle.lt_law_accounts.proofs.Drawing.{drawn_by_first}

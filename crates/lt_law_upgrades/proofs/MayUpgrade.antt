@@ -13,7 +13,7 @@ use Rattle.lt_lists.proofs.Sums.{counted_in, counted_some}
 use Rattle.lt_spec.specs.NodeMove.{commands_of}
 use Rattle.lt_spec.specs.Holdings.{Holding, holding, same_holding, without_one, times_held}
 use Rattle.lt_law_lines.proofs.LineCounts.{line_counts, same_holding-true, same_holding-itself}
-use Rattle.lt_spec.specs.Script.{best_answer, may_hold_after, keeps_order, is_orderly_from}
+use Rattle.lt_spec.specs.Ordered.{best_answer, may_hold_after, keeps_order, is_orderly_from}
 use Rattle.lt_law_ordered.specs.OrderedLaws.{are_ranked_below}
 use Rattle.lt_law_upgrades.specs.UpgradeLaws.{has_withdraw, may_stay, has_of_set, are_beside_or_below, upgrades_in_order, with_one_lock, may_still_hold_after, may_still_hold, is_upgrading_from, OrderedIsUpgrading}
 

@@ -11,7 +11,7 @@ use Rattle.lt_modes.specs.declared.command.Command.TheVariants.{Lock, Unlock, Tr
 use Rattle.lt_modes.specs.Modes.{excludes_itself, one, covers, without_client}
 use Rattle.lt_modes.specs.Script.{ScriptData}
 use Rattle.lt_modes.specs.State.{SetState, Made, Post, then_do}
-use Rattle.lt_modes.specs.Freezing.{is_holder}
+use Rattle.lt_modes.specs.Granting.{is_holder}
 use Rattle.lt_modes.specs.Serving.{queue_of}
 use Rattle.lt_modes.specs.SetMove.{locked, tried, unlocked, changed, dropped, drop, finish}
 use Rattle.lt_lists.specs.Below.{put}
@@ -32,7 +32,7 @@ use Rattle.lt_law_invariant.proofs.ClientCommands.{one_for, IsIdle, idle, client
 use Rattle.lt_law_invariant.proofs.ClientMoves.{SoundClients, at_first, idle_in}
 use Rattle.lt_law_lines.proofs.LineCounts.{count_after}
 use Rattle.lt_law_lines.proofs.HeldMoves.{some_set, related_aside}
-use Rattle.lt_spec.specs.Script.{best_answer}
+use Rattle.lt_spec.specs.Ordered.{best_answer}
 use Rattle.lt_law_ordered.proofs.ActLoans.{grant_more}
 use Rattle.lt_law_ordered.proofs.MayHold.{may_count}
 use Rattle.lt_law_upgrades.specs.UpgradeLaws.{may_still_hold_after}

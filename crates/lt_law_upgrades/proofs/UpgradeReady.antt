@@ -15,7 +15,7 @@ use Rattle.lt_modes.specs.Serving.{queue_of, is_gone}
 use Rattle.lt_modes.specs.Sound.{SoundDesk}
 use Rattle.lt_modes.specs.State.{SetState, Desk, Body, TokenBody, CopyBody, Letter, Made, Post}
 use Rattle.lt_modes.specs.declared.stamp.Stamp.{Stamp}
-use Rattle.lt_modes.specs.SetMove.{take as take_letter}
+use Rattle.lt_modes.specs.Taking.{take as take_letter}
 use Rattle.lt_lists.specs.Below.{put, one_if}
 use Rattle.lt_lists.proofs.Puts.{put-same, put-other}
 use Rattle.lt_spec.specs.Facts.{state_at, tokens_in}

@@ -5,7 +5,8 @@ use Rattle.lt_modes.specs.declared.mode.Mode.{Mode}
 use Rattle.lt_modes.specs.declared.ask.Ask.{Ask}
 use Rattle.lt_modes.specs.Script.{ScriptData}
 use Rattle.lt_modes.specs.State.{SetState, Desk}
-use Rattle.lt_modes.specs.Serving.{queue_of, queue_of_desk, waits}
+use Rattle.lt_modes.specs.Serving.{queue_of, queue_of_desk, is_gone}
+use Rattle.lt_modes.specs.Waiting.{waits}
 use Rattle.lt_lists.specs.Below.{sum_below}
 use Rattle.lt_lists.proofs.Members.{list_any-which, nothing_in}
 use Rattle.lt_lists.proofs.Searches.{any_below_none}
@@ -34,7 +35,6 @@ use Rattle.lt_law_ordered.proofs.OrderedRest.{made_all}
 use Rattle.lt_law_upgrades.specs.UpgradeLaws.{IsUpgrading, UpgradingFinish, UpgradingRelease, HolderHasDesk, ChangeIsNext, NoVoidChange}
 use Rattle.std.specs.List.{list_any}
 use Rattle.std.proofs.lemmas.Bool.{and_parts}
-use Rattle.lt_modes.specs.Serving.{is_gone}
 use Rattle.lt_law_upgrades.proofs.LiveAsks.{idle_gives}
 use Rattle.lt_law_upgrades.proofs.MayUpgrade.{upgrading_none}
 use Rattle.lt_law_upgrades.proofs.UpgradeWithin.{held_within, waits_above}

@@ -12,7 +12,7 @@ use Rattle.lt_modes.specs.Serving.{queue_of, is_gone}
 use Rattle.lt_modes.specs.declared.mode.Mode.TheVariants.{Read, Upgrade, IntentionWrite, ReadIntentionWrite, Write}
 use Rattle.lt_spec.specs.NodeMove.{commands_of, IsWhole}
 use Rattle.lt_spec.specs.Holdings.{Holding, holding, same_holding, without_one, holdings, lines_of}
-use Rattle.lt_spec.specs.Script.{may_hold_after, holds_none, IsOrdered}
+use Rattle.lt_spec.specs.Ordered.{may_hold_after, holds_none, IsOrdered}
 use Rattle.lt_spec.specs.Facts.{state_at}
 use Rattle.lt_spec.specs.World.{Logged, world_after, IsRun, is_at_rest, anyone_waits}
 use Rattle.lt_law_examples.specs.Worked.{declared_set, declared_client}

@@ -3,7 +3,7 @@ use Rattle.std.proofs.Common.{◌≡◌, ℕ, ◌<◌, inl, inr, List, [], ◌�
 use Rattle.std.proofs.lemmas.Bool.{false≢true}
 use Rattle.lt_modes.specs.declared.event.Event.{Event}
 use Rattle.lt_modes.specs.Script.{ScriptData}
-use Rattle.lt_modes.specs.Serving.{waits}
+use Rattle.lt_modes.specs.Waiting.{waits}
 use Rattle.lt_lists.proofs.Searches.{any_below_at}
 use Rattle.lt_spec.specs.Holdings.{Holding, holdings, lines_of, waits_for, waits_behind_void}
 use Rattle.lt_spec.specs.World.{Logged, World, world_after, IsRun, is_waiting, is_at_rest, anyone_waits}

@@ -4,9 +4,9 @@ use Rattle.std.specs.List.{list_any}
 use Rattle.std.proofs.lemmas.Bool.{or_cases, false≢true, and_parts, and_from}
 use Rattle.lt_modes.specs.declared.ask.Ask.{Ask}
 use Rattle.lt_modes.specs.Script.{ScriptData}
-use Rattle.lt_modes.specs.Serving.{waits, is_gone}
+use Rattle.lt_modes.specs.Serving.{is_gone}
+use Rattle.lt_modes.specs.Waiting.{waits, pending_ask}
 use Rattle.lt_modes.specs.State.{SetState}
-use Rattle.lt_modes.specs.Waiting.{pending_ask}
 use Rattle.lt_lists.specs.Below.{any_below}
 use Rattle.lt_lists.proofs.Members.{contains_first, contains_later, list_any-at}
 use Rattle.lt_lists.proofs.Searches.{any_below_at}

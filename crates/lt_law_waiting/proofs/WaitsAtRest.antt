@@ -11,10 +11,11 @@ use Rattle.lt_modes.specs.declared.stamp.Stamp.{Stamp}
 use Rattle.lt_modes.specs.Modes.{conflicts, excludes_itself, count_of}
 use Rattle.lt_modes.specs.Fits.{ask_if, parked_asks, has_client, are_apart}
 use Rattle.lt_modes.specs.Script.{ScriptData}
-use Rattle.lt_modes.specs.Serving.{queue_of, waits, is_newer, is_gone}
+use Rattle.lt_modes.specs.Serving.{queue_of, is_gone}
+use Rattle.lt_modes.specs.Waiting.{waits, pending_ask, is_before, stands_before, has_older, parked_behind}
+use Rattle.lt_modes.specs.Telling.{is_newer}
 use Rattle.lt_modes.specs.State.{ParkedAsk}
 use Rattle.lt_modes.proofs.ModeAlgebra.{has-itself, any_mode-at, any_mode-which}
-use Rattle.lt_modes.specs.Waiting.{pending_ask, is_before, stands_before, has_older, parked_behind}
 use Rattle.lt_lists.proofs.Members.{contains_first, list_any-at, filter_map-at, contains_later, list_any-which}
 use Rattle.lt_lists.proofs.Searches.{any_below_at, any_below_none}
 use Rattle.lt_lists.proofs.Sums.{sum_below-at, counted_in}

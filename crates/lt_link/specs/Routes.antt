@@ -5,8 +5,8 @@ use Rattle.lt_modes.specs.declared.stamp.Stamp.{Stamp}
 use Rattle.lt_modes.specs.declared.ask.Ask.{Ask as AnyAsk}
 use Rattle.lt_modes.specs.declared.parts.Hoped.{Hoped as HopedLink}
 use Rattle.lt_modes.specs.State.{SetState, Parked, ParkedAsk, ParkedTell}
-use Rattle.lt_modes.specs.Serving.{is_newer}
-use Rattle.lt_modes.specs.SetMove.{Way, Parks, Goes, is_behind}
+use Rattle.lt_modes.specs.Telling.{is_newer}
+use Rattle.lt_modes.specs.Routing.{Way, Parks, Goes, is_behind}
 use Rattle.lt_link.specs.LinksData.{LinksData}
 use Rattle.lt_link.specs.declared.kind.Kind.{Kind}
 use Rattle.lt_link.specs.declared.kind.Kind.TheVariants.{Ask, Tell}

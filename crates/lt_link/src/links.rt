@@ -1,8 +1,9 @@
 ghost use Rattle.std.specs.Prelude.{◌≡◌, Bool};
 ghost use Rattle.lt_modes.specs.declared.ask.Ask.{Ask as AnyAsk};
 ghost use Rattle.lt_modes.specs.State.{SetState, Desk, Parked, ParkedAsk};
-ghost use Rattle.lt_modes.specs.SetMove.{learn, way, reversed, take_token};
-ghost use Rattle.lt_modes.specs.Serving.{without_desk};
+ghost use Rattle.lt_modes.specs.Routing.{learn, way, reversed};
+ghost use Rattle.lt_modes.specs.Taking.{take_token};
+ghost use Rattle.lt_modes.specs.HandingOver.{without_desk};
 ghost use Rattle.lt_link.specs.LinksData.{first_links, with_link, links_of, with_links};
 ghost use Rattle.lt_link.specs.Routes.{route_of, unmarked_route, way_of, IsKindOf, IsAskFrom};
 

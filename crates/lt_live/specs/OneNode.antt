@@ -22,7 +22,7 @@ abbrev pub AreServedBy : Parts → List Session → Type 0
 AreServedBy p sessions = (k : ℕ) (s : Session) → slice_get sessions k ≡ Some s → ServedBy p s.client s
 
 -- the runner is that of this node, and its script is this one but for commands
-pub record IsOfScript (script : ScriptData) (node : ℕ) (p : Parts) : Type 0 where
+pub record IsNodeOfScript (script : ScriptData) (node : ℕ) (p : Parts) : Type 0 where
   pub same : p.node.script ≡ with_commands script p.node.script.commands
   pub me : p.node.me ≡ node
 
@@ -50,17 +50,19 @@ pub record HasSessionOf (client : ℕ) (sessions : List Session) : Type 0 where
   pub client_is : session.client ≡ client
 
 -- new sessions of all the station's clients among the first n, in order, which alone have seats
-pub record OpensHere (script : ScriptData) (capacity share n : ℕ) (station : StationData) (sessions : List Session) : Type 0 where
+pub record OpensHere (script : ScriptData) (capacity share n : ℕ) (station : StationData)
+    (sessions : List Session) : Type 0 where
   pub each : (k : ℕ) (s : Session) → slice_get sessions k ≡ Some s → IsNewHere script capacity share station s
   pub before : (k : ℕ) (s : Session) → slice_get sessions k ≡ Some s → s.client < n
-  pub rising : (j k : ℕ) (s t : Session) → slice_get sessions j ≡ Some s → slice_get sessions k ≡ Some t → j < k
-      → s.client < t.client
-  pub all : (client : ℕ) → client < n → home script client ≡ station.runner.node.me → HasSessionOf client sessions
+  pub rising : (j k : ℕ) (s t : Session) → slice_get sessions j ≡ Some s → slice_get sessions k ≡ Some t
+      → j < k → s.client < t.client
+  pub all : (client : ℕ) → client < n → home script client ≡ station.runner.node.me
+      → HasSessionOf client sessions
   pub seats : (k : ℕ) (seat : Seat) → slice_get station.seats k ≡ Some seat → seat.client < n
 
 -- the station of the node with this mail, which made no move, and new sessions of all its clients
-pub record IsOpenNode (script : ScriptData) (node : ℕ) (mail : Mail) (limit capacity share : ℕ) (station : StationData)
-    (sessions : List Session) : Type 0 where
+pub record IsOpenNode (script : ScriptData) (node : ℕ) (mail : Mail) (limit capacity share : ℕ)
+    (station : StationData) (sessions : List Session) : Type 0 where
   pub starts : StartsWith script node mail limit station.runner
   pub whole : HasAll station.runner
   pub own : OpensHere script capacity share (length script.clients) station sessions
@@ -69,7 +71,8 @@ pub record IsOpenNode (script : ScriptData) (node : ℕ) (mail : Mail) (limit ca
 -- Sessions that look at their rings, one after the other.
 
 -- the session at this place and its seat looked at their rings, and nothing else happened: it is served
-pub record SettlesHere (place : ℕ) (station : StationData) (sessions : List Session) (later : StationData) (after : List Session) : Type 0 where
+pub record SettlesHere (place : ℕ) (station : StationData) (sessions : List Session) (later : StationData)
+    (after : List Session) : Type 0 where
   pub runner : later.runner ≡ station.runner
   pub stay : StaySeated station.seats later.seats
   pub seated : AreSeated after later.seats
@@ -78,7 +81,8 @@ pub record SettlesHere (place : ℕ) (station : StationData) (sessions : List Se
   pub served : (s : Session) → slice_get after place ≡ Some s → ServedBy station.runner s.client s
 
 -- so did the first n
-pub record SettlingHere (n : ℕ) (station : StationData) (sessions : List Session) (later : StationData) (after : List Session) : Type 0 where
+pub record SettlingHere (n : ℕ) (station : StationData) (sessions : List Session) (later : StationData)
+    (after : List Session) : Type 0 where
   pub runner : later.runner ≡ station.runner
   pub stay : StaySeated station.seats later.seats
   pub seated : AreSeated after later.seats

@@ -32,14 +32,15 @@ impl Station {
         ensures far_ins { (node : ℕ) → in_at far.new node ≡ in_at far.old node }
         ensures far_sent { (node : ℕ) → sent_to far.new node ≡ sent_to far.old node }
         ensures far_others { (node : ℕ) → node ≢ from → out_at far.new node ≡ out_at far.old node }
-        ensures whole { taken_from self.new.runner.mail from ++ known_from self.new.runner.mail from ≡ given_to far.new from }
+        ensures whole { taken_from self.new.runner.mail from ++ known_from self.new.runner.mail from
+            ≡ given_to far.new from }
         ensures moves { known_from self.new.runner.mail from ≡ [] → waiting_to far.new from ≡ [] }
     {
         self.runner.meet_sender(far, from);
     }
 
-    /// The node that the letter in hand came from, where it doesn't fit: then it was no letter of a node that was opened
-    /// with this script.
+    /// The node that the letter in hand came from, where it doesn't fit: then it was no letter of a node that was
+    /// opened with this script.
     pub fn misfit(&self) -> Option<u8>
         ensures { result ≡ misfit self.now.runner }
     {

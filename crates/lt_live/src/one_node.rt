@@ -14,8 +14,8 @@ use lt_runner::Runner;
 use lt_script::Script;
 use std::alloc::{AllocError, Global};
 
-/// A station for one node of the script, whose letters go by this mail, and a session for each of the node's clients, in
-/// order.
+/// A station for one node of the script, whose letters go by this mail, and a session for each of the node's
+/// clients, in order.
 ///
 /// The node makes up to `limit` moves. A session's rings of commands and of replies have `capacity` places each, and it
 /// may submit `share` commands in its life. Without memory the mail is dropped.
@@ -56,7 +56,8 @@ fn sessions_at(
     requires unused { IsUnused script.now station.old.runner }
     requires seats { station.old.seats ≡ [] }
     ensures runner { OnOk result (station.new.runner ≡ station.old.runner) }
-    ensures own { IfOk result (λ sessions. OpensHere script.now capacity share (length script.now.clients) station.new sessions.items) }
+    ensures own { IfOk result (λ sessions.
+        OpensHere script.now capacity share (length script.now.clients) station.new sessions.items) }
 {
     let mut sessions = Vec::new(alloc);
     for client in 0..script.clients() {

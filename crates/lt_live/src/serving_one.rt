@@ -9,8 +9,8 @@ use crate::station::Station;
 
 /// Each of these sessions was served by this station so far.
 ///
-/// Each looks at its rings from both ends, so that what its station has taken and told is what it submitted and polls. It
-/// makes no move and wants no memory.
+/// Each looks at its rings from both ends, so that what its station has taken and told is what it submitted and
+/// polls. It makes no move and wants no memory.
 #[tactic(auto, using(crate::proofs::OpensHere::none_settled))]
 pub fn settle(station: &mut Station, sessions: &mut [Session])
     requires { AreSeated sessions.old station.old.seats }

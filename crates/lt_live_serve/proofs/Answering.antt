@@ -8,7 +8,7 @@ use Rattle.lt_modes.specs.Script.{ScriptData}
 use Rattle.lt_spec.specs.declared.ending.Ending.{Ending}
 use Rattle.lt_spec.specs.declared.ending.Ending.TheVariants as ending
 use Rattle.lt_script.specs.Reading.{read_of}
-use Rattle.lt_spec.specs.Script.{IsOrdered}
+use Rattle.lt_spec.specs.Ordered.{IsOrdered}
 use Rattle.lt_spec.specs.World.{Logged}
 use Rattle.lt_live.specs.declared.reply.Reply.{Reply}
 use Rattle.lt_live_serve.specs.declared.limits.TheConstants.{MAX_INPUT}

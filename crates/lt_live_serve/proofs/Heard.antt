@@ -5,7 +5,8 @@ use Rattle.std.proofs.lemmas.List.{length-map}
 use Rattle.std.proofs.lemmas.Option.{slice_get-map}
 use Rattle.lt_modes.specs.Script.{ScriptData}
 use Rattle.lt_lists.specs.Below.{gather_below}
-use Rattle.lt_spec.specs.Script.{IsScript, IsShort, IsOrdered}
+use Rattle.lt_spec.specs.Script.{IsScript, IsShort}
+use Rattle.lt_spec.specs.Ordered.{IsOrdered}
 use Rattle.lt_spec.specs.World.{Logged, world_after, is_at_rest, anyone_waits, IsRun, EndsBy, is_of_node}
 use Rattle.lt_spec.specs.declared.ending.Ending.{Ending}
 use Rattle.lt_spec.specs.declared.ending.Ending.TheVariants.{Done, Stuck, Cut}

@@ -9,7 +9,8 @@ use Rattle.lt_spec.specs.declared.ending.Ending.{Ending}
 use Rattle.lt_spec.specs.declared.ending.Ending.TheVariants as ending
 use Rattle.lt_spec.specs.Holdings.{lines_of}
 use Rattle.lt_spec.specs.World.{Logged}
-use Rattle.lt_spec.specs.Script.{IsScript, IsShort, IsOrdered}
+use Rattle.lt_spec.specs.Script.{IsScript, IsShort}
+use Rattle.lt_spec.specs.Ordered.{IsOrdered}
 use Rattle.lt_spec.specs.Promised.{Promised}
 use Rattle.lt_io.specs.Streams.{Rose, RoseBy, SourceState, AppendsPart, Pace, WritesByFewest, StopsByFewest}
 use Rattle.lt_script.specs.Reading.{read_of}

@@ -7,13 +7,15 @@ use std::alloc::AllocError;
 use std::collections::VecDeque;
 
 // How many places a new list has for so many letters: few sizes, so that the memory of one list serves another, and
-// that one is seldom made anew. A move of a node sends up to 153 letters among 16 nodes, and up to 537 among 64.
+// that one is seldom made anew. Where no ask waits, a move of a node sends up to 153 letters among 16 nodes, and up to
+// 537 among 64; and one more for each ask that waits, of which there are at most 1,024.
 fn places_for(letters: usize) -> usize
     ensures { letters ≤ result }
 {
     match letters {
         0..=160 => 160,
         161..=544 => 544,
+        545..=1568 => 1568,
         _ => letters,
     }
 }

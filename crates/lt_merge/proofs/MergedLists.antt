@@ -4,7 +4,7 @@ use Rattle.std.specs.List.{AllByRecursion}
 use Rattle.std.proofs.lemmas.Bool.{cases_Bool, cond-true, cond-false, cases_order, and_from, or_right, both_ways, cond_both}
 use Rattle.std.proofs.lemmas.List.Elements.{All-filter, All-from_recursion, recursion_from_All}
 use Rattle.lt_modes.specs.declared.stamp.Stamp.{Stamp}
-use Rattle.lt_modes.specs.Serving.{is_newer}
+use Rattle.lt_modes.specs.Telling.{is_newer}
 use Rattle.lt_modes.proofs.StampOrder.{newer_by_clock, newer_in_turn}
 use Rattle.lt_lists.proofs.AllLemmas.{all_weaker}
 use Rattle.lt_lists.proofs.Members.{all_of, contains_filter, none_in}

@@ -5,7 +5,7 @@ use Rattle.std.proofs.lemmas.List.Elements.{All-contains, All-from_recursion, re
 use Rattle.lt_modes.specs.declared.moves.Move.{Move}
 use Rattle.lt_modes.specs.declared.event.Event.{Event}
 use Rattle.lt_modes.specs.declared.stamp.Stamp.{Stamp}
-use Rattle.lt_modes.specs.Serving.{is_newer}
+use Rattle.lt_modes.specs.Telling.{is_newer}
 use Rattle.lt_modes.proofs.StampOrder.{newer_in_turn}
 use Rattle.lt_lists.proofs.Members.{some_equal, all_of, contains_filter, contains_filtered}
 use Rattle.lt_lists.proofs.AllLemmas.{all_append, all_weaker}

@@ -2,7 +2,7 @@
 use Rattle.std.specs.Prelude.{◌≡◌, List, [], ◌∷◌, ◌++◌, ℕ, ◌+◌, Option, Some, None, IsTrue, if◌then◌else◌, length, take, drop, slice_get}
 use Rattle.std.specs.List.{AllByRecursion}
 use Rattle.lt_modes.specs.declared.stamp.Stamp.{Stamp}
-use Rattle.lt_modes.specs.Serving.{is_newer}
+use Rattle.lt_modes.specs.Telling.{is_newer}
 use Rattle.lt_spec.specs.World.{Logged}
 use Rattle.lt_merge.specs.declared.heads.Head.{Head}
 use Rattle.lt_merge.specs.Merging.{RunData, all_entries, by_node, AreLogs, Merges}

@@ -7,10 +7,13 @@ use Rattle.std.specs.List.{AllByRecursion, cons_option}
 use Rattle.lt_modes.specs.declared.ask.Ask.{Ask}
 use Rattle.lt_modes.specs.Modes.{no_modes, Modes, has, union, bars, covers, with_mode, other_modes, held_modes}
 use Rattle.lt_modes.specs.State.{SetState, Desk, Entry, Tell, Parked, ParkedAsk, ParkedTell, first_entry, no_ask, entry_of, record_of, own_owed, own_part, modes_at, others_below, others, without}
-use Rattle.lt_modes.specs.Serving.{told, ask_at, queue_of, queue_of_desk, next_at, next_from, is_served, is_free, is_local, is_copy, is_clear_at_home, served, owed_at, owing, settled, without_desk, is_gone, is_void, is_ready, answered}
+use Rattle.lt_modes.specs.Serving.{ask_at, queue_of, queue_of_desk, next_at, next_from, is_served, is_free, is_local, is_copy, is_clear_at_home, served, owed_at, owing, is_gone, is_void, is_ready, answered}
+use Rattle.lt_modes.specs.Telling.{told, tell_of}
+use Rattle.lt_modes.specs.HandingOver.{settled, without_desk}
 use Rattle.lt_modes.specs.declared.stamp.Stamp.{Stamp}
 use Rattle.lt_modes.specs.Freezing.{freeze_at}
-use Rattle.lt_modes.specs.SetMove.{tell_of, dealt, charged}
+use Rattle.lt_modes.specs.Routing.{dealt}
+use Rattle.lt_modes.specs.Taking.{charged}
 use Rattle.lt_modes.proofs.ModeAlgebra.{same_modes-true}
 use Rattle.lt_modes.specs.Script.{ScriptData}
 use Rattle.lt_modes.specs.declared.parts.Link.{Link}

@@ -6,7 +6,8 @@ use Rattle.lt_modes.specs.declared.ask.Ask.{Ask}
 use Rattle.lt_modes.specs.Modes.{Modes, bars, held_modes}
 use Rattle.lt_modes.specs.Script.{ScriptData}
 use Rattle.lt_modes.specs.State.{SetState, Desk, Tell, Body, Letter, Parked, ParkedAsk, ParkedTell, entry_of, times_in}
-use Rattle.lt_modes.specs.Serving.{next_service, next_draw}
+use Rattle.lt_modes.specs.Serving.{next_service}
+use Rattle.lt_modes.specs.HandingOver.{next_draw}
 use Rattle.lt_modes.specs.Fits.{Numbers, numbers_of}
 use Rattle.lt_modes.specs.Sound.{IsNoLater, ChargeKept, SoundDesk, SoundSet}
 use Rattle.lt_lists.specs.Below.{one_if}

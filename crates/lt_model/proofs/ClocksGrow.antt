@@ -7,9 +7,11 @@ use Rattle.lt_modes.specs.declared.moves.Step.{Step}
 use Rattle.lt_modes.specs.declared.moves.Step.TheVariants.{Act, Take}
 use Rattle.lt_modes.specs.Script.{ScriptData}
 use Rattle.lt_modes.specs.State.{Letter, Post, SetState, Desk, ParkedTell}
-use Rattle.lt_modes.specs.SetMove.{take, tell_of}
+use Rattle.lt_modes.specs.Taking.{take}
+use Rattle.lt_modes.specs.Telling.{tell_of}
 use Rattle.lt_modes.specs.Modes.{held_modes}
-use Rattle.lt_modes.specs.Serving.{ask_at, next_service, next_draw, hand_over_to}
+use Rattle.lt_modes.specs.Serving.{ask_at, next_service}
+use Rattle.lt_modes.specs.HandingOver.{next_draw, hand_over_to}
 use Rattle.lt_lists.proofs.AllLemmas.{all_weaker}
 use Rattle.lt_lists.proofs.Members.{none_in}
 use Rattle.lt_lists.proofs.Puts.{put-same, put-other}

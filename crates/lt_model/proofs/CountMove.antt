@@ -12,7 +12,8 @@ use Rattle.lt_modes.specs.Modes.{is_of, locks_in, locks_of}
 use Rattle.lt_modes.specs.Freezing.{cons_if, places_from}
 use Rattle.lt_modes.specs.Script.{ScriptData, SetData}
 use Rattle.lt_modes.specs.State.{SetState, Letter, first_desk, first_state, Made, Post}
-use Rattle.lt_modes.specs.SetMove.{finish, drop, take}
+use Rattle.lt_modes.specs.SetMove.{finish, drop}
+use Rattle.lt_modes.specs.Taking.{take}
 use Rattle.lt_lists.specs.Below.{put, sum_below}
 use Rattle.lt_spec.specs.NodeMove.{family, related, NodeState, NodeMade, node_waits, next_command, touched, each_touched, drop_all, locks_in_sets, act_stamp, take_stamp, at_clock, one_made, obey, node_act, node_take, HasTargetsAt, IsWhole}
 use Rattle.lt_spec.specs.World.{World, start, opened, put_mail, after_made, after}

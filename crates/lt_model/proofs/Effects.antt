@@ -1,6 +1,6 @@
 -- A node's move on one set as its effects in order: what each effect leads to, the move leads to.
 -- What holds is said of the state by now and of the letters sent so far.
-use Rattle.lt_modes.specs.Waiting.{pending_ask}
+use Rattle.lt_modes.specs.Waiting.{pending_ask, waits}
 use Rattle.lt_model.proofs.Voids.{asks_ways, withdraws_ways}
 use Rattle.std.proofs.Common.{◌≡◌, ℕ, zero, suc, ◌+◌, ◌<◌, ◌≤◌, List, [], ◌∷◌, ◌++◌, length, Option, Some, None, Bool, true, false, refl, sym, ap, subst, arith, ◌∙◌, ◌==◌, if◌then◌else◌, is_some, remove, append-nil, append_assoc}
 use Rattle.lt_modes.specs.declared.mode.Mode.{Mode}
@@ -9,9 +9,13 @@ use Rattle.lt_modes.specs.declared.ask.Ask.{Ask}
 use Rattle.lt_modes.specs.declared.event.Event.TheVariants.{Try, Unlock, NotHeld, Change, Wait, Withheld, Withdraw}
 use Rattle.lt_modes.specs.Modes.{Modes, with_mode, bars, same_modes, count_of, take_lock, held_modes}
 use Rattle.lt_modes.specs.State.{SetState, Desk, Letter, Parked, Made, Post, silent, then_do}
-use Rattle.lt_modes.specs.Freezing.{can_grant, freeze}
-use Rattle.lt_modes.specs.Serving.{queue_of, queue_of_desk, ask_at, is_served, next_from, next_at, next_service, next_draw, serve, serve_up_to, serve_step, serve_one, serve_local, serve_copy, hand_over, hand_over_for, hand_over_to, is_gone, without_gone, waits}
-use Rattle.lt_modes.specs.SetMove.{Way, dealt, way, sent_on, route, route_by, make_tell, finish, finish_by, arrive, answers, given, granted, ask_of, asked, locked, tried, unlocked, change_held, changed, dropped, lock, try, unlock, change, drop, take, asked_or_not, same_wish, given_up, withdrawn, withdraw}
+use Rattle.lt_modes.specs.Freezing.{freeze}
+use Rattle.lt_modes.specs.Granting.{can_grant}
+use Rattle.lt_modes.specs.Serving.{queue_of, queue_of_desk, ask_at, is_served, next_from, next_at, next_service, serve, serve_up_to, serve_step, serve_one, serve_local, serve_copy, is_gone, without_gone}
+use Rattle.lt_modes.specs.HandingOver.{next_draw, hand_over, hand_over_for, hand_over_to}
+use Rattle.lt_modes.specs.SetMove.{make_tell, finish, finish_by, answers, given, granted, ask_of, asked, locked, tried, unlocked, change_held, changed, dropped, lock, try, unlock, change, drop, asked_or_not, same_wish, given_up, withdrawn, withdraw}
+use Rattle.lt_modes.specs.Routing.{Way, dealt, way, sent_on, route, route_by}
+use Rattle.lt_modes.specs.Taking.{arrive, take}
 use Rattle.lt_modes.proofs.ServingLemmas.{length-serve_one}
 use Rattle.lt_model.proofs.PathsQuiet.{put_queue_some, owed_at_some}
 

@@ -13,8 +13,9 @@ use Rattle.lt_modes.specs.declared.moves.Step.{Step}
 use Rattle.lt_modes.specs.declared.moves.Step.TheVariants.{Act, Take}
 use Rattle.lt_modes.specs.Script.{ScriptData}
 use Rattle.lt_modes.specs.State.{SetState, Letter, Made, Body, Post}
-use Rattle.lt_modes.specs.Freezing.{can_grant}
-use Rattle.lt_modes.specs.SetMove.{finish, drop, take}
+use Rattle.lt_modes.specs.Granting.{can_grant}
+use Rattle.lt_modes.specs.SetMove.{finish, drop}
+use Rattle.lt_modes.specs.Taking.{take}
 use Rattle.lt_lists.proofs.AllLemmas.{all_append, all_weaker}
 use Rattle.lt_lists.proofs.Members.{some_equal}
 use Rattle.lt_lists.proofs.Sums.{sum_below-same}

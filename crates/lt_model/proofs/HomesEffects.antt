@@ -13,9 +13,13 @@ use Rattle.lt_modes.specs.declared.event.Event.TheVariants.{Freeze, Void}
 use Rattle.lt_modes.specs.Modes.{Modes, excludes_itself, is_of, held_modes}
 use Rattle.lt_modes.specs.Script.{ScriptData}
 use Rattle.lt_modes.specs.State.{SetState, Desk, Body, AskBody, TellBody, CopyBody, TokenBody, FreezeBody, Letter, Parked, ParkedAsk, ParkedTell, Post, silent, no_ask, entered, place}
-use Rattle.lt_modes.specs.Serving.{queue_of, queue_of_desk, put_queue, owed_at, answer_event, ask_at, serve_one, serve_local, serve_copy, hand_over_to, is_gone}
+use Rattle.lt_modes.specs.Serving.{queue_of, queue_of_desk, put_queue, owed_at, answer_event, ask_at, serve_one, serve_local, serve_copy, is_gone}
+use Rattle.lt_modes.specs.HandingOver.{hand_over_to}
 use Rattle.lt_modes.specs.Freezing.{freeze, freeze_at, frozen_by, targets}
-use Rattle.lt_modes.specs.SetMove.{Way, Parks, Goes, learn, dealt, body_of, reversed, sent_on, route, tell_of, finish, take_body, arrive, ask_of, asked, dropped, take, drop, withdrawn, withdraw}
+use Rattle.lt_modes.specs.SetMove.{finish, ask_of, asked, dropped, drop, withdrawn, withdraw}
+use Rattle.lt_modes.specs.Routing.{Way, Parks, Goes, learn, dealt, body_of, reversed, sent_on, route}
+use Rattle.lt_modes.specs.Telling.{tell_of}
+use Rattle.lt_modes.specs.Taking.{take_body, arrive, take}
 use Rattle.lt_spec.specs.NodeMove.{home}
 use Rattle.lt_model.specs.Homes.{IsRowAtHome, IsAskAtHome, IsAskOf, IsParkedAtHome, IsBodyAtHome, IsStateAtHome, IsLineWithin}
 use Rattle.lt_model.proofs.Effects.{route_ways}

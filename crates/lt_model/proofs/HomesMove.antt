@@ -11,7 +11,8 @@ use Rattle.lt_modes.specs.declared.moves.Step.TheVariants.{Act, Take}
 use Rattle.lt_modes.specs.Freezing.{cons_if, places_from}
 use Rattle.lt_modes.specs.Script.{ScriptData, SetData}
 use Rattle.lt_modes.specs.State.{SetState, Letter, first_state, first_desk, Made, Post}
-use Rattle.lt_modes.specs.SetMove.{finish, drop, take, withdraw}
+use Rattle.lt_modes.specs.SetMove.{finish, drop, withdraw}
+use Rattle.lt_modes.specs.Taking.{take}
 use Rattle.lt_lists.specs.Below.{put}
 use Rattle.lt_spec.specs.NodeMove.{command_if, commands_of, home, family, related, NodeState, NodeMade, node_waits, next_command, touched, each_touched, drop_all, locks_in_sets, act_stamp, take_stamp, at_clock, one_made, obey, node_act, node_take, HasTargetsAt, IsWhole}
 use Rattle.lt_spec.specs.World.{Logged, World, start, is_some_letter, is_enabled, opened, take_front, node_move, after, after_run, IsRunFrom}

@@ -1,17 +1,20 @@
 -- What is granted and asked is a step of the account.
-use Rattle.lt_modes.specs.Waiting.{pending_ask}
+use Rattle.lt_modes.specs.Waiting.{pending_ask, waits}
 use Rattle.std.proofs.Common.{◌≡◌, ℕ, inl, inr, List, [], ◌∷◌, ◌++◌, Option, Some, None, Bool, true, false, refl, sym, ap, subst, ◌∙◌, ◌≢◌, zero, suc, ◌+◌, ◌<◌, length, arith, ◌&&◌, ◌==◌, not, IsTrue, IsFalse, if◌then◌else◌, is_some, ◌⊎◌, ◌||◌, nat_lt, slice_index_or, eq-eqb, ne_eqb, get_or-set_same}
 use Rattle.std.proofs.lemmas.Bool.{not-true, and_parts, or_cases, or_right}
 use Rattle.lt_modes.specs.declared.mode.Mode.{Mode}
 use Rattle.lt_modes.specs.declared.ask.Ask.{Ask}
 use Rattle.lt_modes.specs.Modes.{excludes_itself, Modes, has, union, bars, covers, count_of, take_lock, own_modes, other_modes, has_none, same_modes}
 use Rattle.lt_modes.specs.State.{SetState, Desk, Entry, Tell, Parked, ParkedAsk, ParkedTell, modes_of_asks, own_owed, others, Made, first_entry, entry_of, record_of}
-use Rattle.lt_modes.specs.Freezing.{may_join, against, asks_before, places_from, map_from, cons_if, frozen_by, is_target, targets, number_after, frozen_entry, freeze_at}
+use Rattle.lt_modes.specs.Freezing.{places_from, map_from, cons_if, frozen_by, is_target, targets, number_after, frozen_entry, freeze_at}
+use Rattle.lt_modes.specs.Granting.{may_join, against, asks_before}
 use Rattle.lt_modes.specs.declared.stamp.Stamp.{Stamp}
 use Rattle.lt_modes.specs.declared.event.Event.TheVariants.{Unlock, NotHeld, Wait, Withheld, Withdraw}
-use Rattle.lt_modes.specs.SetMove.{answers, Way, Parks, Goes, reversed, sent_on, route, same_wish, given_up}
+use Rattle.lt_modes.specs.SetMove.{answers, same_wish, given_up}
+use Rattle.lt_modes.specs.Routing.{Way, Parks, Goes, reversed, sent_on, route}
 use Rattle.lt_modes.specs.declared.parts.Hoped.{Hoped}
-use Rattle.lt_modes.specs.Serving.{settled, leaving, without_desk, waits, without_gone}
+use Rattle.lt_modes.specs.Serving.{without_gone}
+use Rattle.lt_modes.specs.HandingOver.{settled, leaving, without_desk}
 use Rattle.lt_law_accounts.specs.Account.{owed_and_waiting}
 use Rattle.lt_law_accounts.specs.AccountSteps.{MayJoin, unlocking}
 use Rattle.lt_law_accounts.proofs.AccountFacts.{bars_not, not_bars, below_by_members, has-union, has-left, has-right}

@@ -11,8 +11,10 @@ use Rattle.lt_modes.specs.declared.ask.Ask.{Ask}
 use Rattle.lt_modes.specs.declared.event.Event.TheVariants.{Try, Unlock, NotHeld, Change}
 use Rattle.lt_modes.specs.Modes.{bars, same_modes, count_of, take_lock, held_modes}
 use Rattle.lt_modes.specs.State.{SetState, Desk, Parked, ParkedAsk, ParkedTell, Made, Post, silent, then_do, Letter}
-use Rattle.lt_modes.specs.Freezing.{can_grant}
-use Rattle.lt_modes.specs.SetMove.{Way, Parks, Goes, way, sent_on, route, route_by, tell_of, make_tell, finish, finish_by, answers, given, granted, ask_of, asked, locked, tried, unlocked, change_held, changed, dropped, lock, try, unlock, change, drop, asked_or_not, withdrawn, withdraw}
+use Rattle.lt_modes.specs.Granting.{can_grant}
+use Rattle.lt_modes.specs.SetMove.{make_tell, finish, finish_by, answers, given, granted, ask_of, asked, locked, tried, unlocked, change_held, changed, dropped, lock, try, unlock, change, drop, asked_or_not, withdrawn, withdraw}
+use Rattle.lt_modes.specs.Routing.{Way, Parks, Goes, way, sent_on, route, route_by}
+use Rattle.lt_modes.specs.Telling.{tell_of}
 use Rattle.lt_lists.proofs.AllLemmas.{all_append, all_weaker}
 use Rattle.lt_lists.proofs.Puts.{put-put, put-same, put-other}
 use Rattle.lt_lists.specs.Below.{put, one_if}

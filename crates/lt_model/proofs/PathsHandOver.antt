@@ -9,9 +9,13 @@ use Rattle.lt_modes.specs.declared.ask.Ask.{Ask}
 use Rattle.lt_modes.specs.declared.event.Event.TheVariants.{Try, Unlock, NotHeld, Change}
 use Rattle.lt_modes.specs.Modes.{Modes, with_mode, count_of, take_lock}
 use Rattle.lt_modes.specs.State.{SetState, Desk, Body, AskBody, TellBody, CopyBody, TokenBody, FreezeBody, Letter, ParkedAsk, ParkedTell, no_ask, Made, silent, then_do}
-use Rattle.lt_modes.specs.Freezing.{can_grant, freeze}
-use Rattle.lt_modes.specs.Serving.{queue_of_desk, ask_at, may_draw, draw_from, move_at, next_draw, serve, hand_over, hand_over_for, hand_over_to, without_gone}
-use Rattle.lt_modes.specs.SetMove.{learn, tell, attend, finish, finish_by, take_body, arrive, answers, given, granted, ask_of, asked, locked, tried, unlocked, change_held, changed, dropped, lock, try, unlock, change, drop, take, asked_or_not, withdrawn, withdraw}
+use Rattle.lt_modes.specs.Freezing.{freeze}
+use Rattle.lt_modes.specs.Granting.{can_grant}
+use Rattle.lt_modes.specs.Serving.{queue_of_desk, ask_at, serve, without_gone}
+use Rattle.lt_modes.specs.HandingOver.{may_draw, draw_from, move_at, next_draw, hand_over, hand_over_for, hand_over_to}
+use Rattle.lt_modes.specs.SetMove.{tell, attend, finish, finish_by, answers, given, granted, ask_of, asked, locked, tried, unlocked, change_held, changed, dropped, lock, try, unlock, change, drop, asked_or_not, withdrawn, withdraw}
+use Rattle.lt_modes.specs.Routing.{learn}
+use Rattle.lt_modes.specs.Taking.{take_body, arrive, take}
 use Rattle.lt_lists.specs.Below.{one_if}
 use Rattle.lt_spec.specs.Facts.{tokens_in}
 use Rattle.lt_model.proofs.PathsWorld.{quiet-moved, moved_then}

@@ -12,7 +12,8 @@ use Rattle.lt_modes.specs.declared.command.Command.{Command}
 use Rattle.lt_modes.specs.declared.command.Command.TheVariants.{Lock, Unlock, Try, Change, DropAll, Withdraw}
 use Rattle.lt_modes.specs.declared.moves.Step.{Step}
 use Rattle.lt_modes.specs.declared.moves.Step.TheVariants.{Act, Take}
-use Rattle.lt_modes.specs.SetMove.{finish, lock, try, unlock, change, drop, take, withdraw}
+use Rattle.lt_modes.specs.SetMove.{finish, lock, try, unlock, change, drop, withdraw}
+use Rattle.lt_modes.specs.Taking.{take}
 use Rattle.lt_lists.proofs.Puts.{put-itself, put-same, put-other}
 use Rattle.lt_lists.specs.Below.{put, one_if, sum_below}
 use Rattle.lt_lists.proofs.Sums.{sum_below-at, sum_below-some}

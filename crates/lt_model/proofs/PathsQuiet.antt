@@ -11,7 +11,10 @@ use Rattle.lt_modes.specs.Modes.{bars, same_modes, held_modes, Modes, no_modes, 
 use Rattle.lt_modes.specs.State.{SetState, Desk, Entry, ParkedTell, place, no_ask, silent, first_entry, modes_of_owed, still_owed, own_owed, modes_at, others_below, others}
 use Rattle.lt_modes.specs.Freezing.{cons_if, places_from, map_from, freeze, freeze_at, frozen_by, frozen_entry, is_target, targets}
 use Rattle.lt_modes.specs.Serving.{queue_of, queue_of_desk, put_queue, owed_at, ask_at, next_service, serve, serve_up_to, serve_step, serve_one, serve_local, serve_copy, is_served, next_from, next_at, is_void}
-use Rattle.lt_modes.specs.SetMove.{way, tell, tell_of, make_tell, take_token}
+use Rattle.lt_modes.specs.SetMove.{tell, make_tell}
+use Rattle.lt_modes.specs.Routing.{way}
+use Rattle.lt_modes.specs.Telling.{tell_of}
+use Rattle.lt_modes.specs.Taking.{take_token}
 use Rattle.lt_modes.specs.declared.parts.Owed.{Owed}
 use Rattle.lt_lists.specs.Below.{one_if}
 use Rattle.lt_lists.proofs.AllLemmas.{all_map, all_weaker}

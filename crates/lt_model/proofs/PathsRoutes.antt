@@ -9,7 +9,8 @@ use Rattle.lt_modes.specs.declared.parts.Link.{Link}
 use Rattle.lt_modes.specs.declared.parts.Hoped.{Hoped}
 use Rattle.lt_modes.specs.Modes.{excludes_itself}
 use Rattle.lt_modes.specs.State.{SetState, Desk, Parked, ParkedAsk, ParkedTell, entered, place, Made, then_do}
-use Rattle.lt_modes.specs.SetMove.{Way, Parks, Goes, learn, dealt, is_behind, hoped_way, way, way_onward, body_of, reversed, sent_on, route, route_by, tell}
+use Rattle.lt_modes.specs.SetMove.{tell}
+use Rattle.lt_modes.specs.Routing.{Way, Parks, Goes, learn, dealt, is_behind, hoped_way, way, way_onward, body_of, reversed, sent_on, route, route_by}
 use Rattle.lt_spec.specs.Facts.{tokens_in}
 use Rattle.lt_lists.specs.Below.{one_if}
 use Rattle.lt_model.specs.Invariant.{IsTrueLink, IsNamed, IsParkedNamed, DeskOnPath, HasWay, StateOnPath, BodyOnPath}

@@ -8,9 +8,13 @@ use Rattle.lt_modes.specs.declared.mode.Mode.{Mode}
 use Rattle.lt_modes.specs.declared.stamp.Stamp.{Stamp}
 use Rattle.lt_modes.specs.declared.ask.Ask.{Ask}
 use Rattle.lt_modes.specs.State.{SetState, Desk, Body, AskBody, TellBody, CopyBody, TokenBody, FreezeBody, Letter, Parked, ParkedAsk, ParkedTell, Made, Post, then_do, times_in}
-use Rattle.lt_modes.specs.Serving.{ask_at, serve_one, serve_local, serve_copy, hand_over_to, queue_of_desk}
+use Rattle.lt_modes.specs.Serving.{ask_at, serve_one, serve_local, serve_copy, queue_of_desk}
+use Rattle.lt_modes.specs.HandingOver.{hand_over_to}
 use Rattle.lt_modes.specs.Freezing.{freeze, freeze_at, frozen_by, targets}
-use Rattle.lt_modes.specs.SetMove.{Way, Parks, Goes, route, route_by, sent_on, way, learn, tell_of, tell, make_tell, finish, take_body, arrive, ask_of, asked, dropped, lock, try, unlock, change, drop, take, dealt, body_of, reversed, withdrawn, withdraw}
+use Rattle.lt_modes.specs.SetMove.{tell, make_tell, finish, ask_of, asked, dropped, lock, try, unlock, change, drop, withdrawn, withdraw}
+use Rattle.lt_modes.specs.Routing.{Way, Parks, Goes, route, route_by, sent_on, way, learn, dealt, body_of, reversed}
+use Rattle.lt_modes.specs.Telling.{tell_of}
+use Rattle.lt_modes.specs.Taking.{take_body, arrive, take}
 use Rattle.lt_modes.specs.Modes.{excludes_itself}
 use Rattle.lt_lists.proofs.AllLemmas.{all_append, all_map, all_any}
 use Rattle.lt_spec.specs.Facts.{times_parked, places_in_state, places_in_body}

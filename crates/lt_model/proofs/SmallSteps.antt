@@ -8,7 +8,8 @@ use Rattle.lt_modes.specs.declared.command.Command.TheVariants.{Lock, Try, Unloc
 use Rattle.lt_modes.specs.declared.moves.Step.TheVariants.{Act, Take}
 use Rattle.lt_modes.specs.Script.{ScriptData}
 use Rattle.lt_modes.specs.State.{SetState, Letter, Made, joined, then_do}
-use Rattle.lt_modes.specs.SetMove.{finish, arrive, locked, tried, unlocked, changed, drop, withdrawn}
+use Rattle.lt_modes.specs.SetMove.{finish, locked, tried, unlocked, changed, drop, withdrawn}
+use Rattle.lt_modes.specs.Taking.{arrive}
 use Rattle.lt_lists.specs.Below.{put}
 use Rattle.lt_spec.specs.NodeMove.{related, NodeState, NodeMade, no_move, node_waits, next_command, touched, each_touched, drop_all, act_stamp, take_stamp, at_clock, one_made, obey}
 use Rattle.lt_spec.specs.World.{World, is_some_letter, opened, front_stamp, take_front, token_to, after_made}

@@ -6,7 +6,7 @@ use Rattle.std.proofs.lemmas.List.Sums.{sum_by-append}
 use Rattle.lt_modes.specs.declared.ask.Ask.{Ask}
 use Rattle.lt_modes.specs.Script.{ScriptData}
 use Rattle.lt_modes.specs.State.{Tell, Body, AskBody, TellBody, CopyBody, TokenBody, FreezeBody, Letter, Parked, ParkedAsk, ParkedTell, SetState, Post, times_in}
-use Rattle.lt_modes.specs.SetMove.{arrive}
+use Rattle.lt_modes.specs.Taking.{arrive}
 use Rattle.lt_lists.proofs.Gathering.{gathered-which, gathered-at, gather_same}
 use Rattle.lt_lists.proofs.Members.{some_equal, filter_map-which, filter_map-at}
 use Rattle.lt_lists.specs.Below.{gather_below, sum_below, one_if}

@@ -9,9 +9,13 @@ use Rattle.lt_modes.specs.declared.ask.Ask.{Ask}
 use Rattle.lt_modes.specs.declared.parts.Link.{Link}
 use Rattle.lt_modes.specs.Modes.{held_modes}
 use Rattle.lt_modes.specs.State.{SetState, Desk, Body, AskBody, TellBody, CopyBody, TokenBody, FreezeBody, Letter, Parked, ParkedAsk, ParkedTell, Post, silent, same_ask, has_stamp, without, without_at, no_ask, times_in}
-use Rattle.lt_modes.specs.Serving.{queue_of, queue_of_desk, ask_at, next_service, serve_one, serve_local, serve_copy, hand_over_to}
+use Rattle.lt_modes.specs.Serving.{queue_of, queue_of_desk, ask_at, next_service, serve_one, serve_local, serve_copy}
+use Rattle.lt_modes.specs.HandingOver.{hand_over_to}
 use Rattle.lt_modes.specs.Freezing.{freeze, freeze_at, frozen_by, targets}
-use Rattle.lt_modes.specs.SetMove.{Way, Parks, Goes, learn, dealt, body_of, reversed, sent_on, route, tell_of, take_body, arrive, ask_of, asked, take}
+use Rattle.lt_modes.specs.SetMove.{ask_of, asked}
+use Rattle.lt_modes.specs.Routing.{Way, Parks, Goes, learn, dealt, body_of, reversed, sent_on, route}
+use Rattle.lt_modes.specs.Telling.{tell_of}
+use Rattle.lt_modes.specs.Taking.{take_body, arrive, take}
 use Rattle.lt_modes.proofs.ServingLemmas.{queue_of-serve_one}
 use Rattle.lt_spec.specs.Facts.{times_parked, places_in_state, places_in_body, tokens_in}
 use Rattle.lt_lists.specs.Below.{one_if}

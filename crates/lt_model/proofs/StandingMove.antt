@@ -7,7 +7,7 @@ use Rattle.lt_modes.specs.declared.ask.Ask.{Ask}
 use Rattle.lt_modes.specs.declared.moves.Step.TheVariants.{Act, Take}
 use Rattle.lt_modes.specs.Script.{ScriptData}
 use Rattle.lt_modes.specs.State.{SetState, Letter, Post, times_in}
-use Rattle.lt_modes.specs.SetMove.{take}
+use Rattle.lt_modes.specs.Taking.{take}
 use Rattle.lt_lists.specs.Below.{put}
 use Rattle.lt_spec.specs.NodeMove.{NodeState, NodeMade, next_command, act_stamp, take_stamp, at_clock, one_made, node_act, node_take}
 use Rattle.lt_spec.specs.World.{World, is_some_letter, opened, put_mail, take_front, after_made, after}

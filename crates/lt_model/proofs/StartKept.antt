@@ -10,8 +10,9 @@ use Rattle.std.proofs.lemmas.List.{length-replicate, get_or-replicate}
 use Rattle.lt_modes.specs.declared.ask.Ask.{Ask}
 use Rattle.lt_modes.specs.Modes.{Modes, no_modes, has, bars}
 use Rattle.lt_modes.specs.Script.{ScriptData}
-use Rattle.lt_modes.specs.State.{SetState, Desk, Entry, Tell, Body, first_desk, first_entry, entry_of, record_of, times_in}
-use Rattle.lt_modes.specs.Serving.{next_service, next_draw}
+use Rattle.lt_modes.specs.State.{SetState, Desk, Entry, Tell, Body, first_state, first_desk, first_entry, entry_of, record_of, times_in}
+use Rattle.lt_modes.specs.Serving.{next_service}
+use Rattle.lt_modes.specs.HandingOver.{next_draw}
 use Rattle.lt_modes.specs.Fits.{Numbers, numbers_of}
 use Rattle.lt_modes.specs.Sound.{SoundSet}
 use Rattle.lt_lists.specs.Below.{sum_below, gather_below, one_if}
@@ -25,18 +26,7 @@ use Rattle.lt_modes.specs.declared.parts.Hoped.{Hoped}
 
 -- what a node keeps at the start, with the desk or without
 abbrev state_if : ℕ → Bool → SetState
-state_if nodes here = record {
-  held = [];
-  charge = no_modes;
-  frozen = no_modes;
-  number = 0;
-  firm = record { node = 0; epoch = 0 };
-  hoped = None;
-  pending = [];
-  parked = [];
-  desk = if here then Some (first_desk nodes) else None;
-  gone = [];
-}
+state_if nodes here = record (first_state nodes 0) { desk = if here then Some (first_desk nodes) else None }
 
 sound_if : (numbers : Numbers) (q : ℕ) (here : Bool) → 0 < numbers.nodes → SoundSet numbers q false false 0 (state_if numbers.nodes here)
 sound_if numbers q true h = record {

@@ -7,9 +7,13 @@ use Rattle.lt_modes.specs.declared.parts.Link.{Link}
 use Rattle.lt_modes.specs.Modes.{excludes_itself, held_modes}
 use Rattle.lt_modes.specs.Script.{ScriptData}
 use Rattle.lt_modes.specs.State.{SetState, Desk, Body, AskBody, TellBody, CopyBody, TokenBody, FreezeBody, Letter, Parked, ParkedAsk, ParkedTell, Post, silent}
-use Rattle.lt_modes.specs.Serving.{put_queue, owed_at, ask_at, queue_of, serve_one, serve_local, serve_copy, hand_over_to}
+use Rattle.lt_modes.specs.Serving.{put_queue, owed_at, ask_at, queue_of, serve_one, serve_local, serve_copy}
+use Rattle.lt_modes.specs.HandingOver.{hand_over_to}
 use Rattle.lt_modes.specs.Freezing.{freeze, freeze_at, frozen_by, targets, number_after}
-use Rattle.lt_modes.specs.SetMove.{Way, Parks, Goes, learn, dealt, body_of, reversed, sent_on, route, tell_of, take_body, arrive, ask_of, asked, take}
+use Rattle.lt_modes.specs.SetMove.{ask_of, asked}
+use Rattle.lt_modes.specs.Routing.{Way, Parks, Goes, learn, dealt, body_of, reversed, sent_on, route}
+use Rattle.lt_modes.specs.Telling.{tell_of}
+use Rattle.lt_modes.specs.Taking.{take_body, arrive, take}
 use Rattle.lt_model.specs.Invariant.{BodyKept}
 use Rattle.lt_lists.proofs.AllLemmas.{all_append, all_map, all_any}
 use Rattle.lt_model.proofs.Effects.{Fact, HoldsOf, EndEffects, ActEffects, route_ways, holds_silent, acts_by_effects, take_by_effects, ByEffects}

@@ -4,12 +4,17 @@ use Rattle.std.proofs.Common.{◌≡◌, ℕ, zero, suc, ◌<◌, length, Option
 use Rattle.std.specs.List.{AllByRecursion}
 use Rattle.lt_modes.specs.declared.mode.Mode.{Mode}
 use Rattle.lt_modes.specs.declared.stamp.Stamp.{Stamp}
-use Rattle.lt_modes.specs.declared.event.Event.TheVariants.{Try, Unlock, NotHeld, Change, Freeze, Wait, Withheld, Withdraw, Withdrawn, Void}
+use Rattle.lt_modes.specs.declared.event.Event.TheVariants.{Try, Unlock, NotHeld, Change, Freeze, Wait, Withheld, Void}
 use Rattle.lt_modes.specs.Modes.{bars, same_modes, count_of, take_lock, held_modes}
 use Rattle.lt_modes.specs.State.{SetState, Desk, Letter, Made, silent, then_do, Body, AskBody, TellBody, CopyBody, TokenBody, FreezeBody, Parked, ParkedAsk, ParkedTell}
-use Rattle.lt_modes.specs.Freezing.{can_grant, freeze, freeze_at, frozen_by, targets, number_after}
-use Rattle.lt_modes.specs.Serving.{queue_of, ask_at, next_service, next_draw, serve, serve_up_to, serve_step, serve_one, hand_over, hand_over_for, hand_over_to, answer_by, serve_local, serve_copy, without_gone, waits, is_gone, answer_event}
-use Rattle.lt_modes.specs.SetMove.{make_tell, finish, finish_by, arrive, answers, given, granted, ask_of, asked, locked, tried, unlocked, change_held, changed, lock, try, unlock, change, take, Way, Parks, Goes, learn, sent_on, route, tell_of, take_body, dropped, drop, asked_or_not, given_up, withdrawn, withdraw}
+use Rattle.lt_modes.specs.Freezing.{freeze, freeze_at, frozen_by, targets, number_after}
+use Rattle.lt_modes.specs.Granting.{can_grant}
+use Rattle.lt_modes.specs.Serving.{queue_of, ask_at, next_service, serve, serve_up_to, serve_step, serve_one, answer_by, serve_local, serve_copy, without_gone, is_gone, answer_event}
+use Rattle.lt_modes.specs.HandingOver.{next_draw, hand_over, hand_over_for, hand_over_to}
+use Rattle.lt_modes.specs.SetMove.{make_tell, finish, finish_by, answers, given, granted, ask_of, asked, locked, tried, unlocked, change_held, changed, lock, try, unlock, change, dropped, drop, asked_or_not, withdrawn, withdraw}
+use Rattle.lt_modes.specs.Taking.{arrive, take, take_body}
+use Rattle.lt_modes.specs.Routing.{Way, Parks, Goes, learn, sent_on, route}
+use Rattle.lt_modes.specs.Telling.{tell_of}
 use Rattle.lt_modes.specs.declared.ask.Ask.{Ask}
 use Rattle.lt_modes.specs.declared.event.Event.{Event}
 use Rattle.lt_lists.proofs.AllLemmas.{all_append, all_any, all_map}

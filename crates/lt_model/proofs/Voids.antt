@@ -1,12 +1,13 @@
 -- Asks that were given up: what a command makes of them, and what an answer to them is.
-use Rattle.std.proofs.Common.{◌≡◌, ℕ, List, [], ◌∷◌, Option, Some, None, Bool, true, false, refl, if◌then◌else◌}
+use Rattle.std.proofs.Common.{◌≡◌, ℕ, [], ◌∷◌, Bool, true, false, refl, if◌then◌else◌}
 use Rattle.lt_modes.specs.declared.stamp.Stamp.{Stamp}
 use Rattle.lt_modes.specs.declared.ask.Ask.{Ask}
 use Rattle.lt_modes.specs.declared.event.Event.TheVariants.{Wait, Withheld, Void, Withdraw}
 use Rattle.lt_modes.specs.State.{SetState, Made, without}
-use Rattle.lt_modes.specs.Serving.{without_gone, is_gone, waits, answered, answer_event, ask_at, served}
-use Rattle.lt_modes.specs.SetMove.{charged, answers, asked, retaken, asked_or_not, same_wish, given_up, withdrawn}
-use Rattle.lt_modes.specs.Waiting.{pending_ask}
+use Rattle.lt_modes.specs.Serving.{without_gone, is_gone, answered, answer_event, ask_at, served}
+use Rattle.lt_modes.specs.Waiting.{waits, pending_ask}
+use Rattle.lt_modes.specs.SetMove.{answers, asked, retaken, asked_or_not, same_wish, given_up, withdrawn}
+use Rattle.lt_modes.specs.Taking.{charged}
 
 -- a client asks, or takes an ask up again that it gave up, or neither
 pub asks_ways : (Q : Made → Type 0) (set : ℕ) (stamp : Stamp) (ask : Ask) (t : SetState)

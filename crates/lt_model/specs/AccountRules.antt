@@ -9,9 +9,14 @@ use Rattle.lt_modes.specs.Modes.{Modes, has, union, bars, covers, same_modes, co
 use Rattle.lt_modes.specs.declared.parts.Link.{Link}
 use Rattle.lt_modes.specs.Script.{ScriptData}
 use Rattle.lt_modes.specs.State.{SetState, Desk, Entry, Tell, Parked, ParkedAsk, ParkedTell, entry_of, record_of, own_owed, modes_at, others}
-use Rattle.lt_modes.specs.Serving.{told, tell_applied, ask_at, next_service, served, serve_copy, owing, leaving, without_desk, is_gone, is_void}
-use Rattle.lt_modes.specs.Freezing.{can_grant, frozen_by, is_target, freeze}
-use Rattle.lt_modes.specs.SetMove.{tell_of, make_tell, take_copy, take_freeze, take_token, learn, dealt, route, given, unlocked, asked, dropped, withdrawn, retaken}
+use Rattle.lt_modes.specs.Serving.{ask_at, next_service, served, serve_copy, owing, is_gone, is_void}
+use Rattle.lt_modes.specs.Telling.{told, tell_applied, tell_of}
+use Rattle.lt_modes.specs.HandingOver.{leaving, without_desk}
+use Rattle.lt_modes.specs.Freezing.{frozen_by, is_target, freeze}
+use Rattle.lt_modes.specs.Granting.{can_grant}
+use Rattle.lt_modes.specs.SetMove.{make_tell, given, unlocked, asked, dropped, withdrawn, retaken}
+use Rattle.lt_modes.specs.Taking.{take_copy, take_freeze, take_token}
+use Rattle.lt_modes.specs.Routing.{learn, dealt, route}
 use Rattle.lt_spec.specs.World.{World}
 use Rattle.lt_spec.specs.Facts.{state_at}
 use Rattle.lt_model.specs.OnWay.{Moment, tell_parked, account_of}

@@ -10,7 +10,9 @@ use Rattle.lt_modes.specs.Fits.{numbers_of}
 use Rattle.lt_modes.specs.Sound.{SoundSet}
 use Rattle.lt_modes.specs.declared.mode.Mode.{Mode}
 use Rattle.lt_modes.specs.declared.event.Event.{Event}
-use Rattle.lt_modes.specs.Serving.{is_newer, next_service, next_draw, is_gone}
+use Rattle.lt_modes.specs.Serving.{next_service, is_gone}
+use Rattle.lt_modes.specs.Telling.{is_newer}
+use Rattle.lt_modes.specs.HandingOver.{next_draw}
 use Rattle.lt_lists.specs.Below.{sum_below}
 use Rattle.lt_spec.specs.World.{World}
 use Rattle.lt_spec.specs.Facts.{state_at, token_count, OnWay, place_count, Comes, DeskIs}

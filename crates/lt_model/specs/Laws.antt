@@ -5,7 +5,7 @@ use Rattle.lt_modes.specs.declared.mode.Mode.{Mode}
 use Rattle.lt_modes.specs.declared.command.Command.TheVariants.{Try, Lock, Unlock, Change, DropAll, Withdraw}
 use Rattle.lt_modes.specs.declared.event.Event.{Event}
 use Rattle.lt_modes.specs.declared.event.Event.TheVariants.{Try as TryLine}
-use Rattle.lt_modes.specs.Freezing.{can_grant}
+use Rattle.lt_modes.specs.Granting.{can_grant}
 use Rattle.lt_modes.specs.declared.moves.Step.{Step}
 use Rattle.lt_modes.specs.declared.moves.Step.TheVariants.{Act, Take}
 use Rattle.lt_modes.specs.Script.{ScriptData}
@@ -13,7 +13,8 @@ use Rattle.lt_modes.specs.State.{Desk, TokenBody, SetState, Letter, Made, joined
 use Rattle.lt_modes.specs.declared.stamp.Stamp.{Stamp}
 use Rattle.lt_modes.specs.declared.command.Command.{Command}
 use Rattle.lt_modes.specs.Modes.{bars, held_modes}
-use Rattle.lt_modes.specs.SetMove.{finish, arrive, locked, tried, unlocked, changed, drop, withdrawn}
+use Rattle.lt_modes.specs.SetMove.{finish, locked, tried, unlocked, changed, drop, withdrawn}
+use Rattle.lt_modes.specs.Taking.{arrive}
 use Rattle.lt_lists.specs.Below.{put}
 use Rattle.lt_spec.specs.World.{Logged, World, start, is_enabled, move_stamp, node_move, after, world_after, IsRun, opened, after_made}
 use Rattle.lt_spec.specs.NodeMove.{next_command, related, NodeState, NodeMade, node_waits, act_stamp, take_stamp, at_clock, one_made, touched, joined_moves}

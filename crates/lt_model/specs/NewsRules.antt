@@ -4,8 +4,8 @@ use Rattle.lt_modes.specs.declared.stamp.Stamp.{Stamp}
 use Rattle.lt_modes.specs.Modes.{Modes, has_none, same_modes}
 use Rattle.lt_modes.specs.State.{SetState, Desk, Entry, entry_of, record_of}
 use Rattle.lt_modes.specs.Freezing.{map_from, frozen_by, is_target, targets, number_after, frozen_entry, freeze_at}
-use Rattle.lt_modes.specs.Serving.{settled, leaving, without_desk}
-use Rattle.lt_modes.specs.SetMove.{take_freeze, take_token}
+use Rattle.lt_modes.specs.HandingOver.{settled, leaving, without_desk}
+use Rattle.lt_modes.specs.Taking.{take_freeze, take_token}
 use Rattle.lt_law_accounts.specs.News.{News, Notice, sending, sparing, keeping, taking, news_leaving as leaving_news, arriving}
 
 -- the news of a node that keeps this for the set, with this entry in the desk

@@ -5,9 +5,12 @@ use Rattle.lt_modes.specs.declared.mode.Mode.{Mode}
 use Rattle.lt_modes.specs.declared.stamp.Stamp.{Stamp}
 use Rattle.lt_modes.specs.declared.parts.Link.{Link}
 use Rattle.lt_modes.specs.State.{SetState, Desk, Letter, Parked, Made, Post}
-use Rattle.lt_modes.specs.Serving.{serve, hand_over}
+use Rattle.lt_modes.specs.Serving.{serve}
+use Rattle.lt_modes.specs.HandingOver.{hand_over}
 use Rattle.lt_modes.specs.Freezing.{freeze}
-use Rattle.lt_modes.specs.SetMove.{learn, route, tell, finish, take_token, lock, try, unlock, change, drop, take, withdraw}
+use Rattle.lt_modes.specs.SetMove.{tell, finish, lock, try, unlock, change, drop, withdraw}
+use Rattle.lt_modes.specs.Routing.{learn, route}
+use Rattle.lt_modes.specs.Taking.{take_token, take}
 use Rattle.lt_spec.specs.World.{token_to}
 use Rattle.lt_spec.specs.Facts.{tokens_in}
 use Rattle.lt_lists.specs.Below.{one_if}

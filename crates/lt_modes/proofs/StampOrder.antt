@@ -2,7 +2,7 @@
 use Rattle.std.proofs.Common.{◌≡◌, ◌<◌, ◌≤◌, inl, inr, Bool, true, false, refl, arith, ◌∙◌, ◌&&◌, ◌==◌, nat_lt, IsTrue, IsFalse, eq-eqb, eqb-true, ltb-true, lt-ltb}
 use Rattle.std.proofs.lemmas.Bool.{both_ways, and_parts, and_from, or_cases, or_left, or_right}
 use Rattle.lt_modes.specs.declared.stamp.Stamp.{Stamp}
-use Rattle.lt_modes.specs.Serving.{is_newer}
+use Rattle.lt_modes.specs.Telling.{is_newer}
 
 -- stamps
 pub newer_by_clock : (x y : Stamp) → y.clock < x.clock → IsTrue (is_newer x y)

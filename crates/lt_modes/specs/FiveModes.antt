@@ -1,10 +1,12 @@
--- For each mode a number.
+-- The five modes of version 1, and what the sixth one leaves as it is; how sets of modes are counted and stored.
 use Rattle.std.specs.Prelude.{ℕ, ◌≡◌, ◌+◌, ◌<◌, ◌≤◌, ◌^◌, Bool, List, slice_index_or, position, unwrap_or, if◌then◌else◌, nat_lt, ◌==◌, true, false, ◌||◌, ◌&&◌, not, IsTrue, zero, suc, ◌/◌, ◌%◌, refl}
 use Rattle.std.proofs.Common.{arith, inl, inr, subst}
 use Rattle.std.proofs.lemmas.Bool.{and_parts, cases_lt, eqb-true}
 use Rattle.lt_modes.specs.declared.mode.Mode.{Mode}
 use Rattle.lt_modes.specs.Modes.{Modes, has, modes_by, same_mode, modes_in_order, conflicts, excludes_itself, any_mode, one, bars, is_within, covers, has_none, same_modes}
 use Rattle.lt_modes.specs.declared.mode.Mode.TheVariants.{IntentionRead, Read, Upgrade, IntentionWrite, ReadIntentionWrite, Write}
+
+-- For each mode a number.
 
 -- the mode's place among all modes
 abbrev pub place_of_mode : Mode → ℕ

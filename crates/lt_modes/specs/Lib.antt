@@ -3,9 +3,14 @@ pub mod ModeLaws
 pub mod FiveModes
 pub mod Script
 pub mod State
+pub mod Telling
+pub mod Granting
 pub mod Freezing
 pub mod Serving
-pub mod SetMove
+pub mod HandingOver
 pub mod Fits
-pub mod Sound
 pub mod Waiting
+pub mod Routing
+pub mod SetMove
+pub mod Taking
+pub mod Sound

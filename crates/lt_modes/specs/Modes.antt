@@ -1,4 +1,4 @@
--- Lock modes, the conflict table, and sets of modes.
+-- Lock modes, the conflict table, sets of modes, and the rows of held locks.
 use Rattle.std.specs.Prelude.{Bool, true, false, ◌||◌, ◌&&◌, not, List, [], ◌∷◌, ℕ, codes, if◌then◌else◌, Option, Some, None, ◌==◌, ◌+◌, ◌-◌, ◌++◌, position, filter, fold, remove, sum_by, slice_index_or, slice_set, bytes_eq}
 use Rattle.lt_modes.specs.declared.mode.Mode.{Mode}
 use Rattle.lt_modes.specs.declared.mode.Mode.TheVariants.{IntentionRead, Read, Upgrade, IntentionWrite, ReadIntentionWrite, Write}

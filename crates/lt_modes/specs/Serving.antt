@@ -1,55 +1,15 @@
--- What a tell changes in the entry of its node.
-use Rattle.std.specs.Prelude.{Bool, ◌||◌, ◌&&◌, ◌==◌, nat_lt, ℕ, List, if◌then◌else◌, filter, slice_set, not, zero, suc, ◌+◌, [], ◌∷◌, ◌++◌, Option, Some, None, length, remove, slice_index_or, map}
+-- Serving: how the desk's node serves the asks in its queue, one after the other.
+use Rattle.std.specs.Prelude.{Bool, ◌||◌, ◌&&◌, ◌==◌, ℕ, List, if◌then◌else◌, filter, not, zero, suc, ◌+◌, [], ◌∷◌, ◌++◌, Option, Some, None, length, remove, slice_index_or}
 use Rattle.std.specs.List.{list_any}
 use Rattle.lt_modes.specs.declared.stamp.Stamp.{Stamp}
-use Rattle.lt_modes.specs.declared.parts.Owed.{Owed}
-use Rattle.lt_modes.specs.State.{Desk, Entry, Tell, entry_of, SetState, CopyBody, no_ask, without, Made, silent, then_do, post_of, own_owed, modes_at, others, TokenBody, still_owed}
+use Rattle.lt_modes.specs.State.{Desk, Entry, entry_of, SetState, CopyBody, no_ask, without, Made, silent, then_do, post_of, own_owed, modes_at, others}
 use Rattle.lt_modes.specs.declared.mode.Mode.{Mode}
 use Rattle.lt_modes.specs.declared.ask.Ask.{Ask}
 use Rattle.lt_modes.specs.declared.parts.Row.{Row}
 use Rattle.lt_modes.specs.declared.event.Event.{Event}
-use Rattle.lt_modes.specs.declared.event.Event.TheVariants.{Grant, Change, Void, Copy, Token}
-use Rattle.lt_modes.specs.Modes.{Modes, no_modes, has, union, bars, with_mode, covers, add_lock, take_lock, other_modes, held_modes}
-
--- the first stamp is greater: by clock, then by node
-abbrev pub is_newer : Stamp → Stamp → Bool
-is_newer a b = nat_lt b.clock a.clock || (a.clock == b.clock && nat_lt b.node a.node)
-
-abbrev pub same_stamp : Stamp → Stamp → Bool
-same_stamp a b = a.clock == b.clock && a.node == b.node
-
-abbrev pub is_listed : List Stamp → Stamp → Bool
-is_listed stamps stamp = list_any (same_stamp stamp) stamps
-
--- the ask with this stamp may still be unanswered: it is in the list, or it was made later
-abbrev pub is_open : List Stamp → Stamp → Stamp → Bool
-is_open listed told_at stamp = is_listed listed stamp || is_newer stamp told_at
-
--- the owed asks that may still be unanswered after the tell
-abbrev pub left_owed : Tell → List Owed → List Owed
-left_owed tell owed = filter (λ (copy : Owed). is_open tell.pending tell.stamp copy.stamp) owed
-
--- the entry after a tell of its node; one that isn't newer changes nothing
-abbrev pub told : Tell → Entry → Entry
-told tell entry =
-    if is_newer tell.stamp entry.told_at
-    then record entry {
-      reported = tell.modes;
-      owed = left_owed tell entry.owed;
-      told_at = tell.stamp;
-      pending = tell.pending;
-    }
-    else entry
-
--- the desk with this entry for node x
-abbrev pub put_entry : Desk → ℕ → Entry → Desk
-put_entry desk x entry = record desk { entries = slice_set desk.entries x entry }
-
--- the desk after a tell
-abbrev pub tell_applied : Tell → Desk → Desk
-tell_applied tell desk = put_entry desk tell.node (told tell (entry_of desk tell.node))
-
--- How the desk's node serves the asks in the queue.
+use Rattle.lt_modes.specs.declared.event.Event.TheVariants.{Grant, Change, Void, Copy}
+use Rattle.lt_modes.specs.Modes.{Modes, no_modes, has, union, bars, with_mode, covers, add_lock, take_lock, other_modes}
+use Rattle.lt_modes.specs.Telling.{put_entry}
 
 abbrev pub queue_of_desk : Option Desk → List Ask
 queue_of_desk None = []
@@ -189,72 +149,3 @@ serve_up_to (suc n) set stamp s = serve_step set stamp (serve_up_to n set stamp)
 -- services until there is none
 abbrev pub serve : ℕ → Stamp → SetState → Made
 serve set stamp s = serve_up_to (length (queue_of s)) set stamp s
-
--- the ask is of another node, free, and first in the queue or without conflict at its own node
-abbrev pub may_draw : ℕ → SetState → Desk → Modes → ℕ → Ask → Bool
-may_draw me s desk before k ask =
-    not (ask.node == me) && (is_free me s desk before ask && (k == 0 || is_clear_at_home me s desk ask))
-
--- the first ask that may draw the desk to its node, of those from place k on
-abbrev pub draw_from : ℕ → SetState → Desk → Modes → ℕ → List Ask → Option ℕ
-draw_from me s desk before k [] = None
-draw_from me s desk before k (ask ∷ rest) =
-    if may_draw me s desk before k ask then Some k else draw_from me s desk (with_mode before ask.mode) (k + 1) rest
-
-abbrev pub move_at : ℕ → SetState → Option Desk → Option ℕ
-move_at me s None = None
-move_at me s (Some desk) = draw_from me s desk no_modes 0 desk.queue
-
--- the place of the ask to whose node the desk moves, where no service is left
-abbrev pub next_draw : ℕ → SetState → Option ℕ
-next_draw me s = move_at me s s.desk
-
--- an ask of the client is unanswered, and wasn't given up
-abbrev pub waits : SetState → ℕ → Bool
-waits s client = list_any (λ (ask : Ask). ask.client == client) s.pending && not (is_gone s client)
-
--- Handing over: the desk goes to another node, in a letter.
-
--- the stamps of asks
-abbrev pub stamps_of : List Ask → List Stamp
-stamps_of asks = map (λ (ask : Ask). ask.stamp) asks
-
--- the entry of the node that hands over: what it holds, and what it still waits for
-abbrev pub settled : Stamp → SetState → Entry → Entry
-settled stamp s entry = record entry {
-  reported = held_modes s.held;
-  owed = still_owed s.pending entry.owed;
-  told_at = stamp;
-  pending = stamps_of s.pending;
-}
-
--- the desk as it leaves
-abbrev pub leaving : Stamp → SetState → Desk → Desk
-leaving stamp s desk =
-    record (put_entry desk stamp.node (settled stamp s (entry_of desk stamp.node))) { epoch = desk.epoch + 1 }
-
--- the node without the desk, which went to node v with this epoch
-abbrev pub without_desk : SetState → ℕ → ℕ → SetState
-without_desk s v epoch = record s {
-  charge = held_modes s.held;
-  firm = record { node = v; epoch = epoch };
-  hoped = None;
-  desk = None;
-}
-
--- the token goes to node v; its letter carries the new link
-abbrev pub hand_over_to : ℕ → Stamp → SetState → ℕ → Option Desk → Made
-hand_over_to set stamp s v None = silent s
-hand_over_to set stamp s v (Some desk) = record {
-  state = without_desk s v (desk.epoch + 1);
-  posts = post_of set stamp (without_desk s v (desk.epoch + 1)) v (TokenBody (leaving stamp s desk)) ∷ [];
-  events = Token set v (desk.epoch + 1) ∷ [];
-}
-
-abbrev pub hand_over_for : ℕ → Stamp → SetState → Option ℕ → Made
-hand_over_for set stamp s None = silent s
-hand_over_for set stamp s (Some k) = hand_over_to set stamp s (ask_at s k).node s.desk
-
--- the desk goes to the node of the ask that draws it, where there is one
-abbrev pub hand_over : ℕ → Stamp → SetState → Made
-hand_over set stamp s = hand_over_for set stamp s (next_draw stamp.node s)

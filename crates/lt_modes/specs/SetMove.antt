@@ -1,90 +1,21 @@
--- The way of asks and tells to the desk.
-use Rattle.lt_modes.specs.Waiting.{pending_ask}
-use Rattle.std.specs.Prelude.{Bool, true, false, ◌&&◌, ◌==◌, not, nat_lt, ℕ, List, [], ◌∷◌, ◌++◌, Option, Some, None, if◌then◌else◌, is_some, fold}
-use Rattle.std.specs.List.{list_any}
+-- A move of one node for one set: what each command of a client does, and the end of a move.
+use Rattle.lt_modes.specs.Waiting.{pending_ask, waits}
+use Rattle.std.specs.Prelude.{Bool, true, false, ◌&&◌, ◌==◌, ℕ, [], ◌∷◌, ◌++◌, Option, Some, None, if◌then◌else◌}
 use Rattle.lt_modes.specs.declared.stamp.Stamp.{Stamp}
 use Rattle.lt_modes.specs.declared.ask.Ask.{Ask}
-use Rattle.lt_modes.specs.declared.parts.Link.{Link}
-use Rattle.lt_modes.specs.declared.parts.Hoped.{Hoped}
-use Rattle.lt_modes.specs.Modes.{excludes_itself, bars, same_modes, held_modes, Modes, with_mode, count_of, add_lock, take_lock, without_client, same_mode}
-use Rattle.lt_modes.specs.State.{SetState, Desk, Body, AskBody, TellBody, Parked, ParkedAsk, ParkedTell, entered, Made, silent, post_of, Tell, then_do, CopyBody, TokenBody, FreezeBody, Letter, without, no_ask, same_choice}
-use Rattle.lt_modes.specs.Serving.{is_newer, tell_applied, serve, hand_over, stamps_of, rows_after, end_event, give_up, is_gone, without_gone, waits}
-use Rattle.lt_modes.specs.Freezing.{freeze, is_holder, can_grant}
+use Rattle.lt_modes.specs.Modes.{bars, same_modes, held_modes, count_of, add_lock, take_lock, without_client, same_mode}
+use Rattle.lt_modes.specs.State.{SetState, Desk, ParkedAsk, ParkedTell, Made, silent, then_do, no_ask, same_choice}
+use Rattle.lt_modes.specs.Serving.{serve, give_up, is_gone, without_gone}
+use Rattle.lt_modes.specs.HandingOver.{hand_over}
+use Rattle.lt_modes.specs.Freezing.{freeze}
+use Rattle.lt_modes.specs.Granting.{is_holder, can_grant}
 use Rattle.lt_modes.specs.declared.mode.Mode.{Mode}
 use Rattle.lt_modes.specs.declared.event.Event.{Event}
 use Rattle.lt_modes.specs.declared.event.Event.TheVariants.{Grant, Wait, Try, Unlock, NotHeld, Change, Withdraw, Withdrawn, Withheld}
-
--- a link with a greater epoch becomes firm, and then nothing is hoped
-abbrev pub learn : Link → SetState → SetState
-learn link s = if nat_lt s.firm.epoch link.epoch then record s { firm = link; hoped = None } else s
-
--- the desk deals with it: an ask enters the queue, a tell is applied
-abbrev pub dealt : Desk → Parked → Desk
-dealt desk (ParkedAsk ask) = record desk { queue = entered desk.queue ask }
-dealt desk (ParkedTell tell) = tell_applied tell desk
-
--- where a node without the desk sends an ask or a tell: nowhere, since the token is on its way or an older ask
--- of its own brings it; or to a node, with the mark that it went by a hoped link, or without
-pub data Way : Type 0 where
-  Parks : Way
-  Goes : ℕ → Bool → Way
-
--- a taking ask among these is older
-abbrev pub is_behind : List Ask → Ask → Bool
-is_behind pending ask = list_any (λ (own : Ask). excludes_itself own.mode && is_newer ask.stamp own.stamp) pending
-
--- an unmarked ask goes by the hoped link where that is older, and else by the firm link
-abbrev pub hoped_way : Option Hoped → ℕ → Ask → Way
-hoped_way None firm ask = Goes firm false
-hoped_way (Some hoped) firm ask = if is_newer ask.stamp hoped.stamp then Goes hoped.node true else Goes firm false
-
--- the way of an ask, marked or not, from a node whose firm link names another
-abbrev pub ask_way : Bool → Ask → SetState → Way
-ask_way true ask s = if is_behind s.pending ask then Parks else Goes s.firm.node false
-ask_way false ask s = hoped_way s.hoped s.firm.node ask
-
-abbrev pub way_onward : Bool → Parked → SetState → Way
-way_onward marked (ParkedAsk ask) s = ask_way marked ask s
-way_onward marked (ParkedTell tell) s = Goes s.firm.node false
-
--- the way of an ask or a tell from node `me`, which hasn't the desk
-abbrev pub way : ℕ → Bool → Parked → SetState → Way
-way me marked item s = if s.firm.node == me then Parks else way_onward marked item s
-
-abbrev pub body_of : Parked → Bool → Body
-body_of (ParkedAsk ask) marked = AskBody ask marked
-body_of (ParkedTell tell) marked = TellBody tell
-
--- path reversal: a taking ask of another node that was sent on becomes the hoped link
-abbrev pub reversed : ℕ → Parked → SetState → SetState
-reversed me (ParkedAsk ask) s =
-    if excludes_itself ask.mode && not (ask.node == me)
-    then record s { hoped = Some (record { node = ask.node; stamp = ask.stamp }) }
-    else s
-reversed me (ParkedTell tell) s = s
-
-abbrev pub sent_on : ℕ → Stamp → Parked → SetState → Way → Made
-sent_on set stamp item s Parks = silent (record s { parked = s.parked ++ item ∷ [] })
-sent_on set stamp item s (Goes to marked) = record {
-  state = reversed stamp.node item s;
-  posts = post_of set stamp s to (body_of item marked) ∷ [];
-  events = [];
-}
-
-abbrev pub route_by : ℕ → Stamp → Bool → Parked → SetState → Option Desk → Made
-route_by set stamp marked item s (Some desk) = silent (record s { desk = Some (dealt desk item) })
-route_by set stamp marked item s None = sent_on set stamp item s (way stamp.node marked item s)
-
--- an ask or a tell, marked or not, is dealt with, parked or sent on
-abbrev pub route : ℕ → Stamp → Bool → Parked → SetState → Made
-route set stamp marked item s = route_by set stamp marked item s s.desk
+use Rattle.lt_modes.specs.Routing.{route}
+use Rattle.lt_modes.specs.Telling.{tell_of}
 
 -- The end of a move for a set that it touched.
-
--- what the node tells: its held modes and its unanswered asks
-abbrev pub tell_of : Stamp → SetState → Tell
-tell_of stamp s =
-    record { node = stamp.node; modes = held_modes s.held; pending = stamps_of s.pending; stamp = stamp }
 
 -- the node tells the desk what it holds, and its charge is what it told
 abbrev pub make_tell : ℕ → Stamp → SetState → Made
@@ -108,51 +39,7 @@ finish_by set stamp s (Some desk) = attend set stamp s
 abbrev pub finish : ℕ → Stamp → SetState → Made
 finish set stamp s = finish_by set stamp s s.desk
 
--- What a letter does at the node that takes it.
-
--- the charge after a copy of this mode: it grows where the desk isn't here
-abbrev pub charged : SetState → Ask → Modes
-charged s ask = if is_some s.desk then s.charge else with_mode s.charge ask.mode
-
--- a copy answers its ask; where that was given up, nothing but the charge is gained, and the end of the move tells the desk
-abbrev pub take_copy : ℕ → Ask → SetState → Made
-take_copy set ask s = record {
-  state = record s {
-    held = rows_after s ask;
-    pending = without s.pending ask.stamp;
-    gone = without_gone s.gone ask.client;
-    charge = charged s ask;
-  };
-  posts = [];
-  events = end_event set s ask ∷ [];
-}
-
--- a freeze is kept where its number is greater
-abbrev pub take_freeze : ℕ → Modes → SetState → SetState
-take_freeze number frozen s = if nat_lt s.number number then record s { frozen = frozen; number = number } else s
-
--- the desk is here from now on, and deals with the parked letters in order
-abbrev pub take_token : ℕ → Desk → SetState → SetState
-take_token me desk s = record s {
-  firm = record { node = me; epoch = desk.epoch };
-  hoped = None;
-  parked = [];
-  desk = Some (fold dealt desk s.parked);
-}
-
--- what the letter says is done
-abbrev pub take_body : ℕ → Stamp → Body → SetState → Made
-take_body set stamp (AskBody ask marked) s = route set stamp marked (ParkedAsk ask) s
-take_body set stamp (TellBody tell) s = route set stamp false (ParkedTell tell) s
-take_body set stamp (CopyBody ask) s = take_copy set ask s
-take_body set stamp (TokenBody desk) s = silent (take_token stamp.node desk s)
-take_body set stamp (FreezeBody number frozen) s = silent (take_freeze number frozen s)
-
--- the node learns the letter's link, and then does what it says
-abbrev pub arrive : Stamp → Letter → SetState → Made
-arrive stamp letter s = take_body letter.set stamp letter.body (learn letter.link s)
-
--- A move of one node for one set: a command of one of its clients, or a letter; then the end of the move.
+-- What a command does, before the end of its move.
 
 -- this state and this answer
 abbrev pub answers : Event → SetState → Made
@@ -251,6 +138,8 @@ abbrev pub withdrawn : ℕ → ℕ → ℕ → SetState → Made
 withdrawn set client other s =
     if waits s other then given_up set client other s else answers (Withdraw client other set false) s
 
+-- The whole move.
+
 -- a `lock` of the client at its node, in a move with this stamp
 abbrev pub lock : ℕ → Stamp → ℕ → Mode → SetState → Made
 lock set stamp client mode s = then_do (locked set stamp client mode s) (finish set stamp)
@@ -274,7 +163,3 @@ drop set stamp client s = finish set stamp (dropped client s)
 -- a `withdraw`: the client gives up what another one of its node, or it itself, waits for here
 abbrev pub withdraw : ℕ → Stamp → ℕ → ℕ → SetState → Made
 withdraw set stamp client other s = then_do (withdrawn set client other s) (finish set stamp)
-
--- a letter is taken
-abbrev pub take : Stamp → Letter → SetState → Made
-take stamp letter s = then_do (arrive stamp letter s) (finish letter.set stamp)

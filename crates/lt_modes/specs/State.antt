@@ -1,4 +1,4 @@
--- What a node keeps for one lock set, and what it sends, as plain data.
+-- What a node keeps for one lock set, and what it sends, as plain data; the order of the queue; records of the desk.
 use Rattle.std.specs.Prelude.{List, [], ◌∷◌, ℕ, ◌==◌, Bool, Option, Some, None, if◌then◌else◌, replicate, ◌++◌, true, false, ◌+◌, ◌&&◌, not, fold, insert, remove, position, length, count_by, zero, suc, filter, slice_index_or}
 use Rattle.std.specs.List.{list_any}
 use Rattle.lt_modes.specs.declared.stamp.Stamp.{Stamp}

@@ -1,11 +1,16 @@
--- Which asks of a set stand before a client's ask here.
-use Rattle.std.specs.Prelude.{Bool, false, ◌&&◌, ◌||◌, ◌==◌, ℕ, List, [], ◌∷◌, Option, find}
+-- Who waits for an ask of a set, and which asks stand before it here.
+use Rattle.std.specs.Prelude.{Bool, false, ◌&&◌, ◌||◌, ◌==◌, ℕ, List, [], ◌∷◌, Option, find, not}
 use Rattle.std.specs.List.{list_any}
 use Rattle.lt_modes.specs.declared.ask.Ask.{Ask}
 use Rattle.lt_modes.specs.Modes.{excludes_itself}
 use Rattle.lt_modes.specs.State.{SetState}
 use Rattle.lt_modes.specs.Fits.{parked_asks, has_client}
-use Rattle.lt_modes.specs.Serving.{queue_of, is_newer}
+use Rattle.lt_modes.specs.Serving.{queue_of, is_gone}
+use Rattle.lt_modes.specs.Telling.{is_newer}
+
+-- an ask of the client is unanswered, and wasn't given up
+abbrev pub waits : SetState → ℕ → Bool
+waits s client = list_any (λ (ask : Ask). ask.client == client) s.pending && not (is_gone s client)
 
 -- the client's first unanswered ask here, where it has one
 abbrev pub pending_ask : SetState → ℕ → Option Ask

@@ -1,5 +1,5 @@
 ghost use Rattle.std.specs.Prelude.{◌≡◌};
-ghost use Rattle.lt_modes.specs.Serving.{is_newer};
+ghost use Rattle.lt_modes.specs.Telling.{is_newer};
 
 /// When a move was made, and by whom.
 #[derive(Clone, Copy, Debug, Default, PartialEq, Eq, Hash)]

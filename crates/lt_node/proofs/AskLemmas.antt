@@ -3,7 +3,7 @@ use Rattle.std.proofs.Common.{◌≡◌, ◌∙◌, ◌≤◌, ℕ, zero, suc, �
 use Rattle.std.specs.Option.{option_or}
 use Rattle.std.proofs.lemmas.Bool.{cases_eq}
 use Rattle.lt_modes.specs.declared.ask.Ask.{Ask}
-use Rattle.lt_modes.specs.Serving.{waits}
+use Rattle.lt_modes.specs.Waiting.{waits}
 use Rattle.lt_lists.specs.Below.{any_below}
 use Rattle.lt_spec.specs.NodeMove.{NodeState}
 use Rattle.lt_core.specs.Steps.{live_ask}

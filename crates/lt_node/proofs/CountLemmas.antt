@@ -13,7 +13,7 @@ use Rattle.lt_lists.proofs.Members.{list_any-at}
 use Rattle.lt_lists.proofs.Searches.{same_count}
 use Rattle.lt_spec.specs.declared.limits.TheConstants.{MAX_SETS_OF_SERVICE}
 use Rattle.lt_core.specs.CoreData.{CoreData}
-use Rattle.lt_modes.specs.Serving.{waits}
+use Rattle.lt_modes.specs.Waiting.{waits}
 use Rattle.lt_node.specs.Sets.{WaitLess, WaitMore, TellWaiting, asks_of}
 
 abbrev one_here : Bool → ℕ

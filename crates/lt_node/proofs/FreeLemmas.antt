@@ -1,5 +1,6 @@
 -- Whether a client that waits may go on.
-use Rattle.std.proofs.Common.{◌≡◌, ◌⊎◌, false, ℕ, Some, ap, inl, inr, sym}
+use Rattle.std.proofs.Common.{◌≡◌, ◌⊎◌, ◌∙◌, ◌&&◌, Bool, false, true, ℕ, Some, ap, inl, inr, sym}
+use Rattle.std.proofs.Math.Bool.{and-false, and-true}
 use Rattle.lt_modes.specs.declared.command.Command.{Command}
 use Rattle.lt_modes.specs.declared.command.Command.TheVariants as commands
 use Rattle.lt_modes.specs.declared.mode.Mode.{Mode}
@@ -28,3 +29,9 @@ other_is n client command is = elim is [
     ]
   ]
 ]
+
+pub none_left : (free left : Bool) → left ≡ false → false ≡ (free && left)
+none_left free left isnt = sym (ap (λ (b : Bool). free && b) isnt ∙ and-false free)
+
+pub some_left : (free left : Bool) → left ≡ true → free ≡ (free && left)
+some_left free left is = sym (ap (λ (b : Bool). free && b) is ∙ and-true free)

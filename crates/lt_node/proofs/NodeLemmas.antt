@@ -10,8 +10,9 @@ use Rattle.lt_modes.specs.Modes.{locks_in}
 use Rattle.lt_modes.specs.Serving.{queue_of}
 use Rattle.lt_modes.specs.Fits.{parked_asks, asks_here}
 use Rattle.lt_lists.specs.Below.{put}
-use Rattle.lt_spec.specs.NodeMove.{NodeState, touched, desk_within, set_within}
-use Rattle.lt_spec.specs.declared.limits.TheConstants.{MAX_COMMANDS_OF_SERVICE}
+use Rattle.lt_spec.specs.NodeMove.{NodeState, touched}
+use Rattle.lt_spec.specs.Limits.{desk_within, set_within}
+use Rattle.lt_spec.specs.declared.limits.TheConstants.{MAX_CLIENTS, MAX_COMMANDS_OF_SERVICE}
 use Rattle.lt_desk.specs.DeskData.{OutData}
 use Rattle.lt_core.specs.CoreData.{CoreData, Does, HasRoom, HasMemory, waiting_here, epoch_of, freeze_number_of}
 use Rattle.lt_node.specs.NodeData.{NodeData, NodeDoes, IsNode, state_of, core_at, first_core, SameNode, KeptData, kept_of}
@@ -46,7 +47,7 @@ node_is m n same node = subst IsNode same node
 -- what a set keeps, in numbers
 pub record IsWithin (clock : ℕ) (s : SetState) : Type 0 where
   pub locks : locks_in s.held ≤ MAX_COMMANDS_OF_SERVICE
-  pub asks : waiting_here s ≤ 256
+  pub asks : waiting_here s ≤ MAX_CLIENTS
   pub epoch : epoch_of s.desk ≤ clock
   pub number : freeze_number_of s.desk ≤ clock
 
@@ -59,11 +60,11 @@ desk_numbers clock (Some desk) h =
 pub set_numbers : (clock : ℕ) (s : SetState) → set_within clock s ≡ true → IsWithin clock s
 set_numbers clock s h =
     let first = and_parts (nat_le (locks_in s.held) MAX_COMMANDS_OF_SERVICE) _ h in
-    let second = and_parts (nat_le (length (asks_here s)) 256) (desk_within clock s.desk) first.1 in
+    let second = and_parts (nat_le (length (asks_here s)) MAX_CLIENTS) (desk_within clock s.desk) first.1 in
     let desk = desk_numbers clock s.desk second.1 in
     record {
       locks = leb-true (locks_in s.held) MAX_COMMANDS_OF_SERVICE first.0;
-      asks = omega (arith, leb-true (length (asks_here s)) 256 second.0, length-append (parked_asks s) (queue_of s));
+      asks = omega (arith, leb-true (length (asks_here s)) MAX_CLIENTS second.0, length-append (parked_asks s) (queue_of s));
       epoch = desk.0;
       number = desk.1;
     }

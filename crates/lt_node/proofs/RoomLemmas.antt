@@ -14,7 +14,9 @@ use Rattle.lt_modes.specs.Script.{ScriptData, SetData, ClientData, family_at}
 use Rattle.lt_modes.specs.Fits.{fits, numbers_of}
 use Rattle.lt_modes.specs.State.{SetState, Letter, Post, Body as RulesBody, AskBody, TellBody, CopyBody, TokenBody, FreezeBody}
 use Rattle.lt_lists.proofs.AllLemmas.{all_weaker}
-use Rattle.lt_spec.specs.NodeMove.{NodeState, next_command, family, related, set_within}
+use Rattle.lt_spec.specs.NodeMove.{NodeState, next_command, family, related}
+use Rattle.lt_spec.specs.Limits.{set_within}
+use Rattle.lt_spec.specs.declared.limits.TheConstants.{MAX_CLIENTS, MAX_NODES}
 use Rattle.lt_desk.specs.DeskData.{OutData}
 use Rattle.lt_desk.specs.declared.letter.Letter.{Letter as AnyLetter}
 use Rattle.lt_desk.specs.declared.letter.Body.{Body}
@@ -39,7 +41,7 @@ use Rattle.lt_node.proofs.TouchedLemmas.{all_true_each, named_inside, related_no
 
 pub few_still : (old new : SetsData) (s : ℕ) → SameSets old new → HasFewAsks (core_in old s) → HasFewAsks (core_in new s)
 few_still old new s same few =
-    subst (λ (x : SetState). waiting_here x ≤ 256) (sym (ap (λ (k : KeptData). k.state) (same_core old new s same))) few
+    subst (λ (x : SetState). waiting_here x ≤ MAX_CLIENTS) (sym (ap (λ (k : KeptData). k.state) (same_core old new s same))) few
 
 pub sent_still : (old new : SetsData) (s : ℕ) → SameSets old new → most_sent (core_in new s) ≡ most_sent (core_in old s)
 sent_still old new s same = ap (λ (k : KeptData). most k.state + 2) (same_core old new s same)
@@ -55,7 +57,7 @@ pub record IsReservedTo (script : ScriptData) (set k sent : ℕ) (old now : Sets
   pub room : (s : ℕ) → s < k → (family_at script.sets s == family script set) ≡ true → HasMemory 0 (core_in now s)
   pub had : AllByRecursion (λ s. HasMemory 0 (core_in old s)) (related script set) → AllByRecursion (λ s. HasMemory 0 (core_in old s)) (related_from script set k)
   pub left : sent + sent_by old (related_from script set k) ≡ sent_by old (related script set)
-  pub few : sent ≤ k * 323
+  pub few : sent ≤ k * (MAX_CLIENTS + MAX_NODES + 3)
 
 pub reserved_none : (script : ScriptData) (set : ℕ) (sets : SetsData) → HaveFewAsks sets (related script set) → IsReservedTo script set 0 0 sets sets
 reserved_none script set sets few =
@@ -99,7 +101,7 @@ reserved_had script set k sent old now to inside mine memory =
 
 pub reserved_more : (script : ScriptData) (set k sent most : ℕ) (old now new : SetsData) → IsReservedTo script set k sent old now
     → k < length script.sets → (family_at script.sets k == family script set) ≡ true
-    → SameSets now new → ((s : ℕ) → s ≢ k → core_in new s ≡ core_in now s) → HasMemory 0 (core_in new k) → most ≡ most_sent (core_in new k) → most ≤ 323
+    → SameSets now new → ((s : ℕ) → s ≢ k → core_in new s ≡ core_in now s) → HasMemory 0 (core_in new k) → most ≡ most_sent (core_in new k) → most ≤ MAX_CLIENTS + MAX_NODES + 3
     → IsReservedTo script set (k + 1) (sent + most) old new
 reserved_more script set k sent most old now new to inside mine same others memory is few =
     let first = related_in script set k inside mine in
@@ -305,7 +307,7 @@ pub record IsLetterHere (n : NodeData) (letter : AnyLetter) (sets : SetsData) : 
   pub cores : core_at n ≡ core_in sets
   pub inside : letter.set < length sets.cores
   pub few : HasFewAsks (core_in sets letter.set)
-  pub asks : asks_in letter.body ≤ 256
+  pub asks : asks_in letter.body ≤ MAX_CLIENTS
 
 pub letter_here : (m n : NodeData) (letter : AnyLetter) (sets : SetsData) → m ≡ n → IsNode m → AreSetsOf m.script m.me sets → m.cores ≡ sets.cores
     → fits (numbers_of n.script) n.me n.clock ((state_of n).set letter.set) (letter_seen letter) ≡ true → leaves_room_to_take (state_of n) (letter_seen letter) ≡ true

@@ -7,7 +7,7 @@ use Rattle.std.proofs.lemmas.List.Folds.{sum_by-replicate}
 use Rattle.std.proofs.lemmas.List.Sums.{sum_by-set}
 use Rattle.std.proofs.Math.ListN.{get_or-map as map_read}
 use Rattle.lt_modes.specs.Freezing.{map_from}
-use Rattle.lt_modes.specs.Serving.{waits}
+use Rattle.lt_modes.specs.Waiting.{waits}
 use Rattle.lt_modes.specs.State.{first_state}
 use Rattle.lt_spec.specs.declared.limits.TheConstants.{MAX_SETS_OF_SERVICE}
 use Rattle.lt_core.specs.CoreData.{CoreData}

@@ -9,10 +9,11 @@ use Rattle.lt_modes.specs.declared.event.Event.{Event}
 use Rattle.lt_modes.specs.Fits.{Numbers, fits, head_fits, body_fits, token_fits, queue_fits, are_apart, has_client, is_at_home, parked_asks, numbers_of}
 use Rattle.lt_modes.specs.declared.stamp.Stamp.{Stamp}
 use Rattle.lt_modes.specs.Script.{ClientData}
-use Rattle.lt_modes.specs.SetMove.{take}
+use Rattle.lt_modes.specs.Taking.{take}
 use Rattle.lt_lists.specs.Below.{count_below}
 use Rattle.lt_lists.proofs.Searches.{one_less}
 use Rattle.lt_spec.specs.NodeMove.{at_clock, node_take, take_stamp, touched}
+use Rattle.lt_spec.specs.declared.limits.TheConstants.{MAX_CLIENTS}
 use Rattle.lt_desk.specs.declared.letter.Letter.{Letter}
 use Rattle.lt_desk.specs.declared.letter.Body.{Body}
 use Rattle.lt_desk.specs.declared.letter.Body.TheVariants as bodies
@@ -63,11 +64,11 @@ apart_front (ask ∷ rest) more h =
 
 -- what the token brings: few asks, and no number above its letter's clock
 record IsSmall (clock : ℕ) (desk : Desk) : Type 0 where
-  queue : length desk.queue ≤ 256
+  queue : length desk.queue ≤ MAX_CLIENTS
   epoch : desk.epoch ≤ clock
   number : desk.number ≤ clock
 
-small : (numbers : Numbers) (q : ℕ) (s : SetState) (clock : ℕ) (desk : Desk) → length numbers.homes ≤ 256 → token_fits numbers q s clock desk ≡ true → IsSmall clock desk
+small : (numbers : Numbers) (q : ℕ) (s : SetState) (clock : ℕ) (desk : Desk) → length numbers.homes ≤ MAX_CLIENTS → token_fits numbers q s clock desk ≡ true → IsSmall clock desk
 small numbers q s clock desk few h =
     let firm = and_parts (is_none s.desk) _ h in
     let epoch = and_parts (nat_le s.firm.epoch desk.epoch) _ firm.1 in
@@ -88,7 +89,7 @@ small numbers q s clock desk few h =
     }
 
 -- a letter brings few asks
-pub few_brought : (numbers : Numbers) (q clock : ℕ) (s : SetState) (body : Body) → length numbers.homes ≤ 256 → body_fits numbers q s clock (body_seen body) ≡ true → asks_in body ≤ 256
+pub few_brought : (numbers : Numbers) (q clock : ℕ) (s : SetState) (body : Body) → length numbers.homes ≤ MAX_CLIENTS → body_fits numbers q s clock (body_seen body) ≡ true → asks_in body ≤ MAX_CLIENTS
 few_brought numbers q clock s (bodies.Ask ask marked) few h = omega arith
 few_brought numbers q clock s (bodies.Tell tell) few h = omega arith
 few_brought numbers q clock s (bodies.Copy ask) few h = omega arith
@@ -96,7 +97,7 @@ few_brought numbers q clock s (bodies.Token d) few h = (small numbers q s clock 
 few_brought numbers q clock s (bodies.Freeze news) few h = omega arith
 
 -- there is room for what it says, with memory
-pub room_for_body : (numbers : Numbers) (q before sent now : ℕ) (core : CoreData) (body : Body) → length numbers.homes ≤ 256 → body_fits numbers q core.state sent (body_seen body) ≡ true
+pub room_for_body : (numbers : Numbers) (q before sent now : ℕ) (core : CoreData) (body : Body) → length numbers.homes ≤ MAX_CLIENTS → body_fits numbers q core.state sent (body_seen body) ≡ true
     → IsWithin before core.state → sent < now → HasMemory (asks_in body) core → RoomIn (waiting_here core.state + asks_in body + 2) body → RoomForBody now core body
 room_for_body numbers q before sent now core (bodies.Ask ask marked) few h within later memory room = tt
 room_for_body numbers q before sent now core (bodies.Tell tell) few h within later memory room = tt
@@ -130,7 +131,7 @@ fitting numbers q clock s letter h =
 
 -- What a node's take asks of the set.
 
-few_homes : (n : NodeData) → IsNode n → length (numbers_of n.script).homes ≤ 256
+few_homes : (n : NodeData) → IsNode n → length (numbers_of n.script).homes ≤ MAX_CLIENTS
 few_homes n node = omega (arith, length-map n.script.clients (λ (client : ClientData). client.node), node.is_script.few_clients)
 
 -- the letter fits its set, which keeps no more than it may
@@ -138,7 +139,7 @@ pub record IsTakenBy (n : NodeData) (letter : Letter) : Type 0 where
   pub set : letter.set < length n.script.sets
   pub within : IsWithin n.clock (core_at n letter.set).state
   pub fit : IsFitting (numbers_of n.script) n.me n.clock (core_at n letter.set).state letter
-  pub few : asks_in letter.body ≤ 256
+  pub few : asks_in letter.body ≤ MAX_CLIENTS
 
 pub taken_by : (n : NodeData) (letter : Letter) → IsNode n → fits (numbers_of n.script) n.me n.clock ((state_of n).set letter.set) (letter_seen letter) ≡ true
     → leaves_room_to_take (state_of n) (letter_seen letter) ≡ true → IsTakenBy n letter

@@ -10,11 +10,13 @@ use Rattle.lt_modes.specs.declared.stamp.Stamp.{Stamp}
 use Rattle.lt_lists.proofs.Searches.{any_below_none}
 use Rattle.lt_modes.specs.Fits.{has_client}
 use Rattle.lt_modes.specs.Script.{ScriptData}
-use Rattle.lt_modes.specs.Serving.{is_gone, waits}
+use Rattle.lt_modes.specs.Serving.{is_gone}
+use Rattle.lt_modes.specs.Waiting.{waits}
 use Rattle.lt_modes.specs.State.{SetState}
 use Rattle.lt_spec.specs.Script.{HasTargets}
-use Rattle.lt_spec.specs.NodeMove.{NodeState, at_clock, is_free_at, leaves_ask, locks_in_sets, next_command, node_waits, one_made, related, set_within, withdraws_itself}
-use Rattle.lt_spec.specs.declared.limits.TheConstants.{MAX_COMMANDS_OF_SERVICE}
+use Rattle.lt_spec.specs.NodeMove.{NodeState, at_clock, is_free_at, locks_in_sets, next_command, node_waits, one_made, related, withdraws_itself}
+use Rattle.lt_spec.specs.Limits.{leaves_ask, set_within}
+use Rattle.lt_spec.specs.declared.limits.TheConstants.{MAX_CLIENTS_OF_NODE, MAX_COMMANDS_OF_SERVICE}
 use Rattle.lt_desk.specs.DeskData.{OutData, FitsOut}
 use Rattle.lt_core.specs.declared.set_command.SetCommand.{SetCommand}
 use Rattle.lt_core.specs.declared.set_command.SetCommand.TheVariants.{Lock, Try, Unlock, Change, DropAll, Withdraw}
@@ -90,9 +92,9 @@ ready_after n mid out now command script me cores ready =
 
 -- where the client doesn't wait in the set, it may ask there
 leaves_by : (client : ℕ) (s : SetState) (has : Bool) → has_client client s.pending ≡ has → waits s client ≡ false → leaves_ask client s ≡ true
-    → is_gone s client ≡ false → length s.pending < 16
+    → is_gone s client ≡ false → length s.pending < MAX_CLIENTS_OF_NODE
 leaves_by client s true here idle leaves live = absurd (true≢false (sym (λ i. here i && not (live i)) ∙ idle))
-leaves_by client s false here idle leaves live = ltb-true (length s.pending) 16 (sym (ap (λ (b : Bool). b || nat_lt (length s.pending) 16) here) ∙ leaves)
+leaves_by client s false here idle leaves live = ltb-true (length s.pending) MAX_CLIENTS_OF_NODE (sym (ap (λ (b : Bool). b || nat_lt (length s.pending) MAX_CLIENTS_OF_NODE) here) ∙ leaves)
 
 -- a client that is free for another command than a `withdraw` of itself waits nowhere
 idle_at : (n : NodeData) (client s : ℕ) → (not (node_waits n.script (state_of n) client) || false) ≡ true → s < length n.script.sets

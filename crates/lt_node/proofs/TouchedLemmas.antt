@@ -17,7 +17,8 @@ use Rattle.lt_modes.specs.State.{Letter}
 use Rattle.lt_lists.proofs.Members.{some_equal}
 use Rattle.lt_lists.proofs.Searches.{any_below_none}
 use Rattle.lt_spec.specs.Script.{IsScript, HasTargets}
-use Rattle.lt_spec.specs.NodeMove.{NodeState, commands_of, next_command, family, related, set_within, node_within, leaves_ask, leaves_asks, locks_in_sets}
+use Rattle.lt_spec.specs.NodeMove.{NodeState, commands_of, next_command, family, related, locks_in_sets}
+use Rattle.lt_spec.specs.Limits.{set_within, node_within, leaves_ask, leaves_asks}
 use Rattle.lt_spec.specs.declared.limits.TheConstants.{MAX_COMMANDS_OF_SERVICE}
 use Rattle.lt_node.specs.Touched.{touched_sets, touched_by, named_set, sets_within, sets_leave_asks, drops_few, leaves_room_to_obey, leaves_room_to_act, leaves_room_to_take, leaves_room_in, with_dropped}
 use Rattle.lt_node.proofs.AdvanceLemmas.{targets_of}

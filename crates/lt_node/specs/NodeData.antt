@@ -10,6 +10,7 @@ use Rattle.lt_modes.specs.SetMove.{finish, drop}
 use Rattle.lt_modes.specs.State.{first_state, SetState, Made}
 use Rattle.lt_spec.specs.NodeMove.{NodeState, NodeMade}
 use Rattle.lt_spec.specs.Script.{IsScript}
+use Rattle.lt_spec.specs.declared.limits.TheConstants.{MAX_CLIENTS}
 use Rattle.lt_desk.specs.DeskData.{OutData}
 use Rattle.lt_desk.specs.declared.letter.Letter.{Letter}
 use Rattle.lt_desk.specs.LetterSeen.{body_seen, asks_in, RoomIn}
@@ -146,7 +147,7 @@ RoomToTake n letter out = RoomForLetter (core_at n letter.set) letter out
 
 -- no more asks wait in the set than a script has clients
 abbrev pub HasFewAsks : CoreData → Type 0
-HasFewAsks core = waiting_here core.state ≤ 256
+HasFewAsks core = waiting_here core.state ≤ MAX_CLIENTS
 
 -- what stays of a set where memory is taken
 pub record KeptData : Type 0 where

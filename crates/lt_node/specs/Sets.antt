@@ -6,7 +6,7 @@ use Rattle.lt_modes.specs.Fits.{has_client}
 use Rattle.lt_modes.specs.Freezing.{map_from}
 use Rattle.lt_modes.specs.Modes.{locks_of}
 use Rattle.lt_modes.specs.Script.{ScriptData}
-use Rattle.lt_modes.specs.Serving.{waits}
+use Rattle.lt_modes.specs.Waiting.{waits}
 use Rattle.lt_modes.specs.State.{Made, first_state}
 use Rattle.lt_lists.specs.Below.{count_below}
 use Rattle.lt_spec.specs.declared.limits.TheConstants.{MAX_SETS_OF_SERVICE}

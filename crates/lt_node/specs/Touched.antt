@@ -6,7 +6,8 @@ use Rattle.lt_modes.specs.declared.command.Command.TheVariants as commands
 use Rattle.lt_modes.specs.Script.{ScriptData}
 use Rattle.lt_modes.specs.State.{Letter}
 use Rattle.lt_modes.specs.Modes.{locks_of}
-use Rattle.lt_spec.specs.NodeMove.{NodeState, next_command, related, set_within, leaves_ask, locks_in_sets}
+use Rattle.lt_spec.specs.NodeMove.{NodeState, next_command, related, locks_in_sets}
+use Rattle.lt_spec.specs.Limits.{set_within, leaves_ask}
 use Rattle.lt_spec.specs.declared.limits.TheConstants.{MAX_COMMANDS_OF_SERVICE}
 use Rattle.lt_desk.specs.DeskData.{OutData}
 use Rattle.lt_core.specs.CoreData.{CoreData, HasMemory}

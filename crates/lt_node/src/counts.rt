@@ -57,6 +57,14 @@ fn waits_first(asks: &[Ask], gone: &[u16], k: usize) -> bool
 fn is_gone(gone: &[u16], client: u16) -> bool
     ensures { result ≡ list_any (λ other. other == client) gone.now }
 {
+    !gone.is_empty() && finds(gone, client)
+}
+
+// The same where they aren't none.
+#[inline(never)]
+fn finds(gone: &[u16], client: u16) -> bool
+    ensures { result ≡ list_any (λ other. other == client) gone.now }
+{
     gone.iter().any(|other| *other == client)
 }
 

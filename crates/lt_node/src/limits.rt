@@ -1,7 +1,8 @@
 // Whether what the node keeps leaves room for a move. Only the sets are read that the move touches.
 ghost use Rattle.std.specs.Prelude.{◌≡◌, ◌≤◌, ◌<◌, Some, IfSome, IsTrue, length};
 ghost use Rattle.lt_modes.specs.declared.command.Command.TheVariants as commands;
-ghost use Rattle.lt_spec.specs.NodeMove.{home, has_command, set_within, leaves_ask};
+ghost use Rattle.lt_spec.specs.NodeMove.{home, has_command};
+ghost use Rattle.lt_spec.specs.Limits.{set_within, leaves_ask};
 ghost use Rattle.lt_spec.specs.declared.limits.TheConstants.{MAX_COMMANDS_OF_SERVICE};
 ghost use Rattle.lt_desk.specs.LetterSeen.{letter_seen};
 ghost use Rattle.lt_node.specs.NodeData.{state_of};

@@ -202,15 +202,16 @@ impl Node {
     }
 
     /// Whether the client, of this node, has a command left, and doesn't wait or gives up by it what it waits for.
+    #[tactic(auto, using(crate::proofs::FreeLemmas::none_left, crate::proofs::FreeLemmas::some_left))]
     pub fn runnable(&self, client: u16) -> bool
         requires client { client < length self.now.script.clients }
         requires home { home self.now.script client ≡ self.now.me }
         ensures { result ≡ (is_free_at self.now.script (state_of self.now) client && has_command self.now.script (state_of self.now) client) }
     {
-        if self.waits(client) {
-            return self.withdraws_itself(client);
+        if !self.has_command(client) {
+            return false;
         }
-        self.has_command(client)
+        self.is_free(client)
     }
 
     /// The stamp of the next command that is made here.

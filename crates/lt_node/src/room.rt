@@ -2,7 +2,7 @@
 ghost use Rattle.std.specs.Prelude.{◌≡◌, ◌≢◌, ◌+◌, ◌≤◌, ◌<◌, ◌^◌, ℕ, length, IfOk, IsOk, IsTrue, OnOk, Some};
 ghost use Rattle.lt_modes.specs.Fits.{fits, numbers_of};
 ghost use Rattle.lt_spec.specs.NodeMove.{home, has_command, related};
-ghost use Rattle.lt_spec.specs.declared.limits.TheConstants.{MAX_SETS_OF_SERVICE};
+ghost use Rattle.lt_spec.specs.declared.limits.TheConstants.{MAX_CLIENTS, MAX_NODES, MAX_SETS_OF_SERVICE};
 ghost use Rattle.lt_desk.specs.LetterSeen.{letter_seen, body_seen, asks_in};
 ghost use Rattle.lt_core.specs.Bound.{brought};
 ghost use Rattle.lt_core.specs.CoreData.{HasMemory};
@@ -87,7 +87,7 @@ fn reserve_marked(sets: &mut Sets, set: u32) -> Result<u32, AllocError>
     ensures room { OnOk result (HasMemory 0 (core_in sets.new set)) }
     ensures mark { OnOk result (1 ≤ (core_in sets.new set).mark_room) }
     ensures sent { IfOk result (λ sent. sent ≡ most_sent (core_in sets.new set)) }
-    ensures small { IfOk result (λ sent. sent ≤ 323) }
+    ensures small { IfOk result (λ sent. sent ≤ MAX_CLIENTS + MAX_NODES + 3) }
     ensures full { HasMemory 0 (core_in sets.old set) → 1 ≤ (core_in sets.old set).mark_room → IsOk result }
 {
     sets.reserve_mark(set)?;
@@ -123,7 +123,7 @@ fn reserve_set(sets: &mut Sets, set: u32) -> Result<u32, AllocError>
     ensures others { (other : ℕ) → other ≢ set → core_in sets.new other ≡ core_in sets.old other }
     ensures room { OnOk result (HasMemory 0 (core_in sets.new set)) }
     ensures sent { IfOk result (λ sent. sent ≡ most_sent (core_in sets.new set)) }
-    ensures small { IfOk result (λ sent. sent ≤ 323) }
+    ensures small { IfOk result (λ sent. sent ≤ MAX_CLIENTS + MAX_NODES + 3) }
     ensures mark { (core_in sets.old set).mark_room ≤ (core_in sets.new set).mark_room }
     ensures full { HasMemory 0 (core_in sets.old set) → IsOk result }
 {
@@ -135,7 +135,7 @@ fn reserve_set(sets: &mut Sets, set: u32) -> Result<u32, AllocError>
 fn reserve_for(sets: &mut Sets, letter: &mut Letter, out: &mut Out) -> Result<(), AllocError>
     requires set { letter.old.set < length sets.old.cores }
     requires few { HasFewAsks (core_in sets.old letter.old.set) }
-    requires asks { asks_in letter.old.body ≤ 256 }
+    requires asks { asks_in letter.old.body ≤ MAX_CLIENTS }
     ensures sets { SameSets sets.old sets.new }
     ensures letter { letter_seen letter.new ≡ letter_seen letter.old }
     ensures out { (out.new.posts ≡ out.old.posts) × (out.new.events ≡ out.old.events) }
@@ -153,7 +153,7 @@ fn reserve_for(sets: &mut Sets, letter: &mut Letter, out: &mut Out) -> Result<()
 fn sent_for(sets: &Sets, set: u32, body: &Body) -> u32
     requires set { set < length sets.now.cores }
     requires few { HasFewAsks (core_in sets.now set) }
-    requires asks { asks_in body.now ≤ 256 }
+    requires asks { asks_in body.now ≤ MAX_CLIENTS }
     ensures { result ≡ most_sent (core_in sets.now set) + brought (body_seen body.now) }
 {
     sets.core(set).most_sent() + 2 + brought(body)
@@ -161,9 +161,9 @@ fn sent_for(sets: &Sets, set: u32, body: &Body) -> u32
 
 // How many asks and nodes come with what the letter says.
 fn brought(body: &Body) -> u32
-    requires { asks_in body.now + 64 < 2 ^ 32 }
+    requires { asks_in body.now + MAX_NODES < 2 ^ 32 }
     ensures brought { result ≡ brought (body_seen body.now) }
-    ensures within { result ≤ asks_in body.now + 64 }
+    ensures within { result ≤ asks_in body.now + MAX_NODES }
 {
     match body {
         Body::Token(desk) => desk.len() + u32::from(desk.nodes()),

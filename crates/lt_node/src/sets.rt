@@ -1,8 +1,9 @@
 // All sets of a node. One that was never touched takes four bytes.
 ghost use Rattle.std.specs.Prelude.{◌≡◌, ◌≢◌, ◌≤◌, ◌<◌, ◌+◌, ℕ, IfOk, IsOk, OnOk, length, slice_index_or};
-ghost use Rattle.lt_modes.specs.Serving.{waits};
-ghost use Rattle.lt_modes.specs.SetMove.{take};
+ghost use Rattle.lt_modes.specs.Waiting.{waits};
+ghost use Rattle.lt_modes.specs.Taking.{take};
 ghost use Rattle.lt_lists.specs.Below.{any_below};
+ghost use Rattle.lt_spec.specs.declared.limits.TheConstants.{MAX_CLIENTS};
 ghost use Rattle.lt_desk.specs.LetterSeen.{letter_seen, asks_in, RoomIn};
 ghost use Rattle.lt_desk.specs.DeskData.{FitsOut};
 ghost use Rattle.lt_core.specs.Bound.{RoomToSend};
@@ -118,6 +119,7 @@ impl Sets {
     }
 
     /// Makes a core for the set, where it has none.
+    #[inline(always)]
     pub(crate) fn touch(&mut self, set: u32) -> Result<(), AllocError>
         requires { set < length self.old.cores }
         ensures same { SameSets self.old self.new }
@@ -127,15 +129,27 @@ impl Sets {
         ensures had { HasMemory 0 (core_in self.old set) → self.new ≡ self.old }
         ensures mark { (core_in self.old set).mark_room ≤ (core_in self.new set).mark_room }
     {
-        let place = set as usize;
-        if self.places[place] != 0 {
+        if self.places[set as usize] != 0 {
             return Ok(());
         }
+        self.make(set)
+    }
+
+    // The same where it has none.
+    #[inline(never)]
+    fn make(&mut self, set: u32) -> Result<(), AllocError>
+        requires set { set < length self.old.cores }
+        requires untouched { slice_index_or self.old.places set 0 ≡ 0 }
+        ensures same { SameSets self.old self.new }
+        ensures others { (other : ℕ) → other ≢ set → core_in self.new other ≡ core_in self.old other }
+        ensures touched { OnOk result (IsTouched self.new set) }
+        ensures mark { (core_in self.old set).mark_room ≤ (core_in self.new set).mark_room }
+    {
         self.cores.reserve(1)?;
         let alloc = *self.cores.allocator();
         let core = Core::new(alloc, self.nodes, self.clients, self.me, set)?;
         self.cores.push_reserved(core);
-        self.places[place] = self.cores.len() as u32;
+        self.places[set as usize] = self.cores.len() as u32;
         Ok(())
     }
 
@@ -172,7 +186,7 @@ impl Sets {
     pub(crate) fn reserve_for(&mut self, set: u32, letter: &mut Letter) -> Result<(), AllocError>
         requires set { set < length self.old.cores }
         requires few { HasFewAsks (core_in self.old set) }
-        requires asks { asks_in letter.old.body ≤ 256 }
+        requires asks { asks_in letter.old.body ≤ MAX_CLIENTS }
         ensures same { SameSets self.old self.new }
         ensures others { (other : ℕ) → other ≢ set → core_in self.new other ≡ core_in self.old other }
         ensures letter { letter_seen letter.new ≡ letter_seen letter.old }

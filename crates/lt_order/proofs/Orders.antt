@@ -6,7 +6,7 @@ use Rattle.lt_modes.specs.declared.command.Command.{Command}
 use Rattle.lt_modes.specs.Script.{ScriptData}
 use Rattle.lt_spec.specs.NodeMove.{command_if}
 use Rattle.lt_spec.specs.Holdings.{Holding}
-use Rattle.lt_spec.specs.Script.{holds_none, keeps_order, may_hold_after, is_orderly_from, is_orderly, first_bad}
+use Rattle.lt_spec.specs.Ordered.{holds_none, keeps_order, may_hold_after, is_orderly_from, is_orderly, first_bad}
 use Rattle.lt_spec.proofs.FirstBad.{first_bad_is_exact}
 
 drop_first : {X : Type 0} (i : ℕ) (xs : List X) (d : X) → i < length xs → drop i xs ≡ slice_index_or xs i d ∷ drop (i + 1) xs

@@ -1,7 +1,7 @@
 // The locks that a client may hold, through what a command does.
 ghost use Rattle.std.specs.Prelude.{◌≡◌, ◌<◌, ◌++◌, ◌∷◌, [], filter, length, not, position, IfOk, IfSome, IsTrue, OnOk};
 ghost use Rattle.lt_spec.specs.Holdings.{same_holding, without_one, is_dropped};
-ghost use Rattle.lt_spec.specs.Script.{are_below, keeps_order, may_hold_after};
+ghost use Rattle.lt_spec.specs.Ordered.{are_below, keeps_order, may_hold_after};
 
 use crate::lock::Lock;
 use lt_modes::{Command, Mode};

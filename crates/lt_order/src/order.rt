@@ -1,5 +1,5 @@
 ghost use Rattle.std.specs.Prelude.{◌≡◌, ◌↔◌, ◌<◌, length, IsTrue, IsFalse, IfOk, IfSome};
-ghost use Rattle.lt_spec.specs.Script.{is_orderly, IsOrdered, first_bad};
+ghost use Rattle.lt_spec.specs.Ordered.{is_orderly, IsOrdered, first_bad};
 
 use crate::locks::make;
 use lt_script::Script;

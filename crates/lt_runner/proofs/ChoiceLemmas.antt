@@ -6,7 +6,7 @@ use Rattle.lt_modes.specs.State.{Letter, SetState}
 use Rattle.lt_modes.specs.Fits.{Numbers, head_fits, body_fits, fits, numbers_of}
 use Rattle.lt_desk.specs.LetterSeen.{letter_seen}
 use Rattle.lt_spec.specs.NodeMove.{home, is_free_at, has_command, NodeState}
-use Rattle.lt_spec.specs.FixedOrder.{can_act}
+use Rattle.lt_spec.specs.Plays.{can_act}
 use Rattle.lt_node.specs.NodeData.{state_of}
 use Rattle.lt_node.specs.Clients.{IsLeast, is_runnable_here}
 use Rattle.lt_node.specs.Touched.{leaves_room_to_act, leaves_room_to_take}

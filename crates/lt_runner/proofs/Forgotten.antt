@@ -1,7 +1,7 @@
 -- A runner that forgot its moves, or the commands, is one still.
 use Rattle.std.proofs.Common.{◌≡◌, ℕ, List, length, sym, ap, subst, arith}
 use Rattle.lt_spec.specs.World.{Logged, start}
-use Rattle.lt_spec.specs.FixedOrder.{Plays}
+use Rattle.lt_spec.specs.Plays.{Plays}
 use Rattle.lt_log.specs.LogData.{LogData}
 use Rattle.lt_mail.specs.Words.{sent_to}
 use Rattle.lt_node.specs.NodeData.{state_of}

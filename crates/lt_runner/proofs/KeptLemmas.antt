@@ -6,7 +6,7 @@ use Rattle.lt_modes.specs.Script.{ScriptData}
 use Rattle.lt_modes.specs.State.{Letter}
 use Rattle.lt_spec.specs.World.{start, Logged}
 use Rattle.lt_spec.specs.NodeMove.{NodeState}
-use Rattle.lt_spec.specs.FixedOrder.{Cause, can_make_move, made_of, logged_of, used_by, letters_for, Plays}
+use Rattle.lt_spec.specs.Plays.{Cause, can_make_move, made_of, logged_of, used_by, letters_for, Plays}
 use Rattle.lt_law_own_lines.specs.WaitingLaws.{NodeNames}
 use Rattle.lt_law_own_lines.proofs.Moves.{names_at_start}
 use Rattle.lt_law_plays.proofs.Appending.{plays_of_appended}

@@ -4,7 +4,7 @@ use Rattle.std.proofs.lemmas.List.Elements.{All-head, All-rest}
 use Rattle.lt_modes.specs.declared.moves.Step.TheVariants.{Act, Take}
 use Rattle.lt_modes.specs.State.{Letter, Post}
 use Rattle.lt_spec.specs.NodeMove.{NodeMade, node_act, node_take, act_stamp, take_stamp}
-use Rattle.lt_spec.specs.FixedOrder.{Cause, OfClient, OfLetter, can_make_move, made_of, letters_for, logged_of, used_by}
+use Rattle.lt_spec.specs.Plays.{Cause, OfClient, OfLetter, can_make_move, made_of, letters_for, logged_of, used_by}
 use Rattle.lt_law_own_lines.specs.WaitingLaws.{IsForPeer, ReachesPeers}
 use Rattle.lt_law_own_lines.proofs.Moves.{acts_reach_peers, takes_reach_peers}
 use Rattle.lt_desk.specs.DeskData.{OutData}

@@ -5,7 +5,7 @@ use Rattle.lt_modes.specs.State.{Letter}
 use Rattle.lt_modes.specs.Fits.{fits, numbers_of}
 use Rattle.lt_desk.specs.LetterSeen.{letter_seen}
 use Rattle.lt_spec.specs.NodeMove.{NodeState}
-use Rattle.lt_spec.specs.FixedOrder.{can_act}
+use Rattle.lt_spec.specs.Plays.{can_act}
 use Rattle.lt_node.specs.NodeData.{state_of}
 use Rattle.lt_node.specs.Touched.{leaves_room_to_act, leaves_room_to_take}
 use Rattle.lt_core.specs.declared.fits.TheConstants.{LAST_CLOCK}

@@ -6,7 +6,7 @@ use Rattle.lt_modes.specs.State as rules
 use Rattle.lt_modes.specs.State.{Letter}
 use Rattle.lt_spec.specs.NodeMove.{appended}
 use Rattle.lt_spec.specs.World.{Logged, start}
-use Rattle.lt_spec.specs.FixedOrder.{Plays}
+use Rattle.lt_spec.specs.Plays.{Plays}
 use Rattle.lt_law_own_lines.specs.WaitingLaws.{NodeNames}
 use Rattle.lt_desk.specs.LetterSeen.{letter_seen}
 use Rattle.lt_node.specs.NodeData.{state_of}

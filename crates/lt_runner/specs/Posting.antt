@@ -4,7 +4,7 @@ use Rattle.lt_modes.specs.declared.moves.Move.{Move}
 use Rattle.lt_modes.specs.State.{Post}
 use Rattle.lt_desk.specs.DeskData.{OutData}
 use Rattle.lt_law_own_lines.specs.WaitingLaws.{IsForPeer}
-use Rattle.lt_spec.specs.FixedOrder.{letters_for}
+use Rattle.lt_spec.specs.Plays.{letters_for}
 use Rattle.lt_mail.specs.declared.mail.Mail.{Mail}
 use Rattle.lt_mail.specs.Words.{in_at, end_at, outs_count, HasRoomFor, sent_to, SameEnds}
 use Rattle.lt_runner.specs.declared.parts.Parts.{Parts}

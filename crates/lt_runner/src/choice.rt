@@ -1,6 +1,6 @@
 // The move that a runner shows.
 ghost use Rattle.std.specs.Prelude.{◌≡◌, IfSome, IsTrue};
-ghost use Rattle.lt_spec.specs.FixedOrder.{can_act};
+ghost use Rattle.lt_spec.specs.Plays.{can_act};
 ghost use Rattle.lt_node.specs.NodeData.{state_of};
 ghost use Rattle.lt_runner.specs.Choices.{has_time, may_act, may_take, first_client, act_choice, next_choice};
 ghost use Rattle.lt_runner.specs.Kept.{RunnerInvariant};

@@ -102,7 +102,7 @@ least_is_told v st line =
     subst (IsLeastFault holds) (sym (told_first v st line (line_form v st line))) (least holds all_faults 1 (none_below_one holds) numbered_all)
 
 pub limits_are : LimitsAre
-limits_are = record { nodes = refl; nodes_of_first = refl; sets = refl; clients = refl; clients_of_first = refl; clients_of_node = refl; commands = refl; name = refl; line = refl }
+limits_are = record { nodes = refl; nodes_of_first = refl; sets = refl; clients = refl; clients_of_first = refl; clients_of_second = refl; clients_of_node = refl; commands = refl; name = refl; line = refl }
 
 pub numbers_are : NumbersAre
 numbers_are = refl

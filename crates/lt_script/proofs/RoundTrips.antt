@@ -7,6 +7,7 @@ use Rattle.std.proofs.lemmas.List.Sums.{sum_by-append, sum_by-cons}
 use Rattle.lt_modes.specs.Script.{ScriptData, SetData, ClientData, set_name, name_of_set, family_of_set, family_at, client_name, name_of_client, node_of_client, home_at}
 use Rattle.lt_modes.specs.declared.command.Command.{Command}
 use Rattle.lt_spec.specs.Script.{is_name, IsScript, IsShort, set_number, most_clients, load_of, client_number}
+use Rattle.lt_spec.specs.declared.limits.TheConstants.{MAX_CLIENTS_OF_NODE, MAX_NODES}
 use Rattle.lt_text.specs.Text.{spaced, text}
 use Rattle.lt_text.specs.Number.{number}
 use Rattle.lt_text.proofs.NumberLemmas.{number_decimal}
@@ -214,8 +215,8 @@ record ClientFits (s : ScriptData) (done : List ClientData) (x : ClientData) : T
   pub is_new : client_number (clients_only s done) x.name ≡ None
   pub few : length done < most_clients s.version
   pub on_node : x.node < s.nodes
-  pub few_nodes : x.node < 64
-  pub load : load_of done x.node < 16
+  pub few_nodes : x.node < MAX_NODES
+  pub load : load_of done x.node < MAX_CLIENTS_OF_NODE
 
 client_fits : (s : ScriptData) → IsScript s → (done : List ClientData) (x : ClientData) (rest : List ClientData) → done ++ x ∷ rest ≡ s.clients → ClientFits s done x
 client_fits s good done x rest e =
@@ -226,7 +227,7 @@ client_fits s good done x rest e =
     let node_at : home_at s.clients j ≡ x.node = ap node_of_client at in
     let on_node : x.node < s.nodes = subst (λ n. n < s.nodes) node_at (good.homes j inside) in
     let found : client_number s x.name ≡ Some j = subst (λ w. client_number s w ≡ Some j) name_at (good.clients_found j inside) in
-    let load : load_of (done ++ x ∷ rest) x.node ≤ 16 = subst (λ (l : List ClientData). load_of l x.node ≤ 16) (sym e) (good.loads x.node) in
+    let load : load_of (done ++ x ∷ rest) x.node ≤ MAX_CLIENTS_OF_NODE = subst (λ (l : List ClientData). load_of l x.node ≤ MAX_CLIENTS_OF_NODE) (sym e) (good.loads x.node) in
     let here : load_of (x ∷ rest) x.node ≡ 1 + load_of rest x.node =
     sum_by-cons (λ (y : ClientData). cond (y.node == x.node) 1 0) x rest ∙ ap (λ t. cond t 1 0 + load_of rest x.node) (eq-eqb x.node x.node refl) in
     record {
@@ -239,7 +240,7 @@ client_fits s good done x rest e =
       load = omega (arith, sum_by-append (λ (y : ClientData). cond (y.node == x.node) 1 0) done (x ∷ rest));
     }
 
-client_printed : (name : List ℕ) (node : ℕ) → is_name name ≡ true → node < 64 → IsPrintedLine (codes "client" ∷ name ∷ codes "at" ∷ decimal node ∷ [])
+client_printed : (name : List ℕ) (node : ℕ) → is_name name ≡ true → node < MAX_NODES → IsPrintedLine (codes "client" ∷ name ∷ codes "at" ∷ decimal node ∷ [])
 client_printed name node named small = record {
   are_printed = (refl, (name_printed name named, (refl, (number_printed node (omega arith), tt))));
   few = omega arith;
@@ -253,7 +254,7 @@ client_read s good done x rest e =
     let st : ScriptData = clients_only s done in
     let number_is : number (decimal x.node) ≡ Some x.node = number_decimal x.node (omega (arith, fits.few_nodes)) in
     line_read s.version (Some st) (client_words x) (ClientForm x.name (decimal x.node)) (client_printed x.name x.node fits.named fits.few_nodes) refl
-    (rw (number_is, lt-ltb x.node s.nodes fits.on_node, fits.named, fits.no_set, fits.is_new, lt-leb (most_clients s.version) (length done) fits.few, lt-leb 16 (load_of done x.node) fits.load))
+    (rw (number_is, lt-ltb x.node s.nodes fits.on_node, fits.named, fits.no_set, fits.is_new, lt-leb (most_clients s.version) (length done) fits.few, lt-leb MAX_CLIENTS_OF_NODE (load_of done x.node) fits.load))
     ∙ rw number_is refl
 
 pub clients_walk : (s : ScriptData) → IsScript s → (done rest : List ClientData) → done ++ rest ≡ s.clients → Walks s.version (map spaced (map client_words rest)) (clients_only s done) (clients_only s s.clients)

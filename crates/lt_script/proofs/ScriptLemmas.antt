@@ -8,7 +8,7 @@ use Rattle.std.proofs.lemmas.Option.{slice_get_read}
 use Rattle.lt_modes.specs.declared.command.Command.{Command}
 use Rattle.lt_modes.specs.declared.command.Command.TheVariants.{Lock, Try, Unlock, Change, DropAll, Withdraw}
 use Rattle.lt_modes.specs.Script.{ScriptData, SetData, ClientData, family_at, home_at, name_of_set, family_of_set, name_of_client, node_of_client}
-use Rattle.lt_spec.specs.declared.limits.TheConstants.{MAX_SETS_OF_SERVICE, MAX_CLIENTS, MAX_CLIENTS_OF_FIRST, MAX_CLIENTS_OF_NODE, MAX_COMMANDS_OF_SERVICE}
+use Rattle.lt_spec.specs.declared.limits.TheConstants.{MAX_SETS_OF_SERVICE, MAX_CLIENTS, MAX_CLIENTS_OF_FIRST, MAX_CLIENTS_OF_SECOND, MAX_CLIENTS_OF_NODE, MAX_COMMANDS_OF_SERVICE}
 use Rattle.lt_spec.specs.Script.{is_name, IsScript, IsFamilyOfNext, IsRequest, IsOfVersion, HasTargets, most_clients, load_of, set_number, client_number, is_declared}
 use Rattle.lt_script.specs.ByName.{has_parent, new_set}
 use Rattle.lt_script.specs.declared.script.by_name.SetByName.TheVariants.{Set, TooMany}
@@ -142,9 +142,12 @@ load_push : (clients : List ClientData) (x : ClientData) (node : ℕ) → load_o
 load_push clients x node = omega (arith, sum_by-append (λ (y : ClientData). cond (y.node == node) 1 0) clients (x ∷ []))
 
 most_within : (version : ℕ) → most_clients version ≤ MAX_CLIENTS
-most_within version = elim (version == 1) as (λ t. (if t then MAX_CLIENTS_OF_FIRST else MAX_CLIENTS) ≤ MAX_CLIENTS) [
+most_within version = elim (version == 1) as (λ t. (if t then MAX_CLIENTS_OF_FIRST else if version == 2 then MAX_CLIENTS_OF_SECOND else MAX_CLIENTS) ≤ MAX_CLIENTS) [
   | true ↦ omega arith
-  | false ↦ omega arith
+  | false ↦ elim (version == 2) as (λ t. (if t then MAX_CLIENTS_OF_SECOND else MAX_CLIENTS) ≤ MAX_CLIENTS) [
+    | true ↦ omega arith
+    | false ↦ omega arith
+  ]
 ]
 
 -- what is read at a place of the same list

@@ -2,7 +2,7 @@
 use Rattle.std.specs.Prelude.{◌≡◌, ℕ, ◌+◌, Bool, true, false, not, nat_lt, length, List, [], ◌∷◌, Option, Some, None, ◌==◌, slice_index, Result, Ok, Err, if◌then◌else◌, ◌<◌, ◌↔◌, ◌⊎◌, ◌++◌, is_none, codes, map, IsTrue, IsFalse, Contains}
 use Rattle.std.specs.List.{list_all}
 use Rattle.lt_modes.specs.Script.{ScriptData}
-use Rattle.lt_spec.specs.declared.limits.TheConstants.{MAX_LINE, MAX_NODES, MAX_NODES_OF_FIRST, MAX_SETS, MAX_CLIENTS, MAX_CLIENTS_OF_FIRST, MAX_CLIENTS_OF_NODE, MAX_COMMANDS, MAX_NAME}
+use Rattle.lt_spec.specs.declared.limits.TheConstants.{MAX_LINE, MAX_NODES, MAX_NODES_OF_FIRST, MAX_SETS, MAX_CLIENTS, MAX_CLIENTS_OF_FIRST, MAX_CLIENTS_OF_SECOND, MAX_CLIENTS_OF_NODE, MAX_COMMANDS, MAX_NAME}
 use Rattle.lt_spec.specs.Script.{is_reserved}
 use Rattle.lt_text.specs.Text.{lines, words}
 use Rattle.lt_script.specs.declared.fault.Fault.{Fault}
@@ -133,8 +133,9 @@ pub record LimitsAre : Type 0 where
   pub nodes : MAX_NODES ≡ 64
   pub nodes_of_first : MAX_NODES_OF_FIRST ≡ 16
   pub sets : MAX_SETS ≡ 8
-  pub clients : MAX_CLIENTS ≡ 256
+  pub clients : MAX_CLIENTS ≡ 1024
   pub clients_of_first : MAX_CLIENTS_OF_FIRST ≡ 64
+  pub clients_of_second : MAX_CLIENTS_OF_SECOND ≡ 256
   pub clients_of_node : MAX_CLIENTS_OF_NODE ≡ 16
   pub commands : MAX_COMMANDS ≡ 4096
   pub name : MAX_NAME ≡ 32

@@ -22,8 +22,9 @@ pub use cutting::line_end;
 pub use fault::{Fault, ReadError, ScriptFault};
 pub use laws::{law_faults, law_literals, law_print, law_read_is_short};
 pub use lt_spec::{
-    MAX_CLIENTS, MAX_CLIENTS_OF_FIRST, MAX_CLIENTS_OF_NODE, MAX_COMMANDS, MAX_COMMANDS_OF_SERVICE,
-    MAX_LINE, MAX_NAME, MAX_NODES, MAX_NODES_OF_FIRST, MAX_SETS, MAX_SETS_OF_SERVICE,
+    MAX_CLIENTS, MAX_CLIENTS_OF_FIRST, MAX_CLIENTS_OF_NODE, MAX_CLIENTS_OF_SECOND, MAX_COMMANDS,
+    MAX_COMMANDS_OF_SERVICE, MAX_LINE, MAX_NAME, MAX_NODES, MAX_NODES_OF_FIRST, MAX_SETS,
+    MAX_SETS_OF_SERVICE,
 };
 pub use name::is_name;
 pub use printing::print;

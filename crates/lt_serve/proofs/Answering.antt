@@ -2,7 +2,8 @@
 use Rattle.std.proofs.Common.{◌≡◌, ℕ, Bool, true, false, List, [], ◌∷◌, Option, Some, None, refl, sym, subst, ◌∙◌, ap, length, take, arith, inl, inr, option_map, if◌then◌else◌, codes, IsTrue, IsFalse, ◌⊎◌, bytes_eq, take_all}
 use Rattle.std.proofs.lemmas.Bool.{false≢true}
 use Rattle.lt_modes.specs.Script.{ScriptData}
-use Rattle.lt_spec.specs.Script.{IsScript, IsShort, IsOrdered}
+use Rattle.lt_spec.specs.Script.{IsScript, IsShort}
+use Rattle.lt_spec.specs.Ordered.{IsOrdered}
 use Rattle.lt_spec.specs.World.{Logged, world_after, IsRun, is_at_rest, anyone_waits, EndsBy}
 use Rattle.lt_spec.specs.declared.ending.Ending.{Ending}
 use Rattle.lt_spec.specs.declared.ending.Ending.TheVariants as ending
@@ -11,7 +12,7 @@ use Rattle.lt_text.specs.Number.{number}
 use Rattle.lt_gen.specs.Sizes.{can_make}
 use Rattle.lt_words.specs.declared.command.Command.{Command}
 use Rattle.lt_words.specs.declared.command.Command.TheVariants.{Sim, Make, Soak, Run, SimFirst, Check, Order}
-use Rattle.lt_words.specs.Grammar.{seed_of, make_of, command_of}
+use Rattle.lt_words.specs.Grammar.{seed_of, make_of, version_of, command_of}
 use Rattle.lt_law_invariant.proofs.FewAsks.{whole}
 use Rattle.lt_law_promises.specs.Promises.{RunsKeepPromises}
 use Rattle.lt_law_ordered.specs.OrderedLaws.{OrderedFinish}
@@ -71,16 +72,17 @@ if_may : (test : Bool) (this that : Option Command) → MayBeMade this → MayBe
 if_may true this that h k = h
 if_may false this that h k = k
 
-make_may : (nodes clients commands seed : Option ℕ) → MayBeMade (make_of nodes clients commands seed)
-make_may (Some nodes) (Some clients) (Some commands) (Some seed) = by_test (can_make nodes clients commands) refl
+make_may : (version nodes clients commands seed : Option ℕ) → MayBeMade (make_of version nodes clients commands seed)
+make_may (Some version) (Some nodes) (Some clients) (Some commands) (Some seed) = by_test (can_make version nodes clients commands) refl
   where
-    by_test : (test : Bool) → can_make nodes clients commands ≡ test → MayBeMade (if test then Some (Make nodes clients commands seed) else None)
+    by_test : (test : Bool) → can_make version nodes clients commands ≡ test → MayBeMade (if test then Some (Make version nodes clients commands seed) else None)
     by_test true e = e
     by_test false e = tt
-make_may (Some nodes) (Some clients) (Some commands) None = tt
-make_may (Some nodes) (Some clients) None seed = tt
-make_may (Some nodes) None commands seed = tt
-make_may None clients commands seed = tt
+make_may (Some version) (Some nodes) (Some clients) (Some commands) None = tt
+make_may (Some version) (Some nodes) (Some clients) None seed = tt
+make_may (Some version) (Some nodes) None commands seed = tt
+make_may (Some version) None clients commands seed = tt
+make_may None nodes clients commands seed = tt
 
 -- the numbers of a command are such that its script can be made
 pub may_be_made : (words : List (List ℕ)) → MayBeMade (command_of words)
@@ -92,8 +94,11 @@ may_be_made (word ∷ seed ∷ []) =
 may_be_made (word ∷ a ∷ b ∷ []) = tt
 may_be_made (word ∷ a ∷ b ∷ c ∷ []) = tt
 may_be_made (word ∷ nodes ∷ clients ∷ commands ∷ seed ∷ []) =
-    if_may (bytes_eq word (codes "make")) _ _ (make_may (number nodes) (number clients) (number commands) (seed_of seed)) tt
-may_be_made (word ∷ a ∷ b ∷ c ∷ d ∷ e ∷ rest) = tt
+    if_may (bytes_eq word (codes "make")) _ _ (make_may (Some 1) (number nodes) (number clients) (number commands) (seed_of seed)) tt
+may_be_made (word ∷ a ∷ b ∷ c ∷ d ∷ e ∷ []) = tt
+may_be_made (word ∷ nodes ∷ clients ∷ commands ∷ seed ∷ key ∷ version ∷ []) =
+    if_may (bytes_eq word (codes "make")) _ _ (make_may (version_of key version) (number nodes) (number clients) (number commands) (seed_of seed)) tt
+may_be_made (word ∷ a ∷ b ∷ c ∷ d ∷ e ∷ f ∷ g ∷ rest) = tt
 
 -- How a run ended: what is known of it then, and why it ended with a client waiting.
 
@@ -133,7 +138,7 @@ does_answered : (moves : ℕ) (command : Command) (status : Status) (left : Opti
     → JournalsBy moves command status left run text → IsEnding (outcome_of status) → IsAnswered command status
 does_answered moves SimFirst status left run text does h = h
 does_answered moves (Sim seed) status left run text does h = h
-does_answered moves (Make nodes clients commands seed) status left run text does h = does.0
+does_answered moves (Make version nodes clients commands seed) status left run text does h = does.0
 does_answered moves Check status left run text does h = does.done
 does_answered moves Run status left run text does h = h
 does_answered moves (Soak seed) status left run text does h = h

@@ -34,7 +34,7 @@ not_cut_by moves SimFirst node left run text never far does = not_cut moves node
 not_cut_by moves (Sim seed) node left run text never far does = not_cut moves node does.journals.script run never far does.journals.ran
 not_cut_by moves Run node left run text never far does = not_cut moves node does.journals.script run never far does.journals.ran
 not_cut_by moves (Soak seed) node left run text never far does = not_cut moves node (greatest_script seed) run never far does.ran
-not_cut_by moves (Make nodes clients commands seed) node left run text never far does = cut_not_done node does.0
+not_cut_by moves (Make version nodes clients commands seed) node left run text never far does = cut_not_done node does.0
 not_cut_by moves Check node left run text never far does = cut_not_done node does.done
 not_cut_by moves Order node left run text never far does = cut_not_done node does.done
 
@@ -65,7 +65,7 @@ answered_rests SimFirst status h uncut = ending_rests status h uncut
 answered_rests (Sim seed) status h uncut = ending_rests status h uncut
 answered_rests Run status h uncut = ending_rests status h uncut
 answered_rests (Soak seed) status h uncut = ending_rests status h uncut
-answered_rests (Make nodes clients commands seed) status h uncut = inl h
+answered_rests (Make version nodes clients commands seed) status h uncut = inl h
 answered_rests Check status h uncut = inl h
 answered_rests Order status h uncut = inl h
 

@@ -1,7 +1,7 @@
 -- When an answer is that a run is stuck.
 use Rattle.std.proofs.Common.{◌≡◌, ◌∙◌, ℕ, List, Option, Some, None, refl, sym, subst, Result, Ok}
 use Rattle.lt_modes.specs.Script.{ScriptData}
-use Rattle.lt_spec.specs.Script.{IsOrdered}
+use Rattle.lt_spec.specs.Ordered.{IsOrdered}
 use Rattle.lt_spec.specs.World.{Logged}
 use Rattle.lt_script.specs.declared.fault.ScriptFault.{ScriptFault}
 use Rattle.lt_script.specs.Reading.{read_of}
@@ -25,7 +25,7 @@ not_stuck (Some Run) left ordered stuck = denoted_not_stuck left ordered stuck
 not_stuck (Some (Soak seed)) left ordered stuck = stuck ordered
 not_stuck (Some Check) left ordered stuck = ordered
 not_stuck (Some Order) left ordered stuck = ordered
-not_stuck (Some (Make nodes clients commands seed)) left ordered stuck = ordered
+not_stuck (Some (Make version nodes clients commands seed)) left ordered stuck = ordered
 
 -- of bytes that denote an ordered script no run ended with a client waiting
 unordered : (moves : ℕ) (left : Option (List ℕ)) (run : List Logged) (text : List ℕ) → Journals moves Stuck left run text → IsUnordered left
@@ -45,7 +45,7 @@ by_stuck moves SimFirst left run text does = unordered moves left run text does.
 by_stuck moves (Sim seed) left run text does = unordered moves left run text does.journals
 by_stuck moves Run left run text does = unordered moves left run text does.journals
 by_stuck moves (Soak seed) left run text does = λ ordered. does.ran.ordered ordered refl
-by_stuck moves (Make nodes clients commands seed) left run text does = not_done does.0
+by_stuck moves (Make version nodes clients commands seed) left run text does = not_done does.0
 by_stuck moves Check left run text does = not_done does.done
 by_stuck moves Order left run text does = not_done does.done
 

@@ -3,7 +3,7 @@ use Rattle.std.specs.Prelude.{◌≡◌, ◌↔◌, Bool, true, false, ℕ, Opti
 use Rattle.lt_io.specs.Streams.{Rose, SourceState}
 use Rattle.lt_script.specs.declared.fault.ScriptFault.{ScriptFault}
 use Rattle.lt_script.specs.Reading.{read_of}
-use Rattle.lt_spec.specs.Script.{IsOrdered}
+use Rattle.lt_spec.specs.Ordered.{IsOrdered}
 use Rattle.lt_call.specs.Scripts.{HasFault, DenotesOrdered}
 use Rattle.lt_words.specs.declared.command.Command.{Command}
 use Rattle.lt_words.specs.declared.command.Command.TheVariants.{Run, SimFirst, Sim, Check, Make, Soak}
@@ -21,7 +21,7 @@ use Rattle.lt_serve.specs.declared.status.Status.TheVariants.{Stuck, Usage, Refu
 -- the command reads the source
 abbrev pub reads : Option Command → Bool
 reads None = false
-reads (Some (Make nodes clients commands seed)) = false
+reads (Some (Make version nodes clients commands seed)) = false
 reads (Some (Soak seed)) = false
 reads other = true
 
@@ -84,7 +84,7 @@ IsRefusal command left other = ⊥
 
 -- of a script that is to be made, the numbers are such that it can be
 abbrev pub CanBeMade : Command → Type 0
-CanBeMade (Make nodes clients commands seed) = can_make nodes clients commands ≡ true
+CanBeMade (Make version nodes clients commands seed) = can_make version nodes clients commands ≡ true
 CanBeMade other = Unit {0}
 
 -- why an input is no script and journal, as a status

@@ -1,7 +1,8 @@
 -- How a run ended, and what is known of a run that was made.
 use Rattle.std.specs.Prelude.{◌≡◌, ◌≢◌, ◌<◌, ◌≤◌, ℕ, List, Option, Some, None, length, take}
 use Rattle.lt_modes.specs.Script.{ScriptData}
-use Rattle.lt_spec.specs.Script.{IsScript, IsShort, IsOrdered}
+use Rattle.lt_spec.specs.Script.{IsScript, IsShort}
+use Rattle.lt_spec.specs.Ordered.{IsOrdered}
 use Rattle.lt_spec.specs.World.{Logged, IsRun, EndsBy, full_node}
 use Rattle.lt_spec.specs.Promised.{Promised}
 use Rattle.lt_spec.specs.declared.ending.Ending.{Ending}

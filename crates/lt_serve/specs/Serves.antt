@@ -25,7 +25,7 @@ pub record IsGood (command : Command) (before after : SourceState) : Type 0 wher
 -- `make`, `check` and `order` are done; every other command has made a run to its end, which is Done, Stuck or Cut:
 -- of which end it is, and that a node met its limit at Cut, `Did` speaks
 abbrev pub IsAnswered : Command → Status → Type 0
-IsAnswered (Make nodes clients commands seed) answer = answer ≡ Done
+IsAnswered (Make version nodes clients commands seed) answer = answer ≡ Done
 IsAnswered Check answer = answer ≡ Done
 IsAnswered Order answer = answer ≡ Done
 IsAnswered other answer = IsEnding (outcome_of answer)

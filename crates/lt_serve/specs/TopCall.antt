@@ -12,7 +12,8 @@ use Rattle.lt_law_journals.specs.Checking.{IsFinished}
 use Rattle.lt_spec.specs.Promised.{Promised}
 use Rattle.lt_checker.specs.Input.{DenotesBefore, IsJournalOf}
 use Rattle.lt_gen.specs.Generator.{script_of, seeded}
-use Rattle.lt_spec.specs.Script.{first_bad, IsScript, IsShort}
+use Rattle.lt_spec.specs.Script.{IsScript, IsShort}
+use Rattle.lt_spec.specs.Ordered.{first_bad}
 use Rattle.lt_tally.specs.Summary.{summary_of, summary_text}
 use Rattle.lt_script.specs.Printing.{print_of}
 use Rattle.lt_words.specs.declared.command.Command.{Command}
@@ -45,9 +46,9 @@ pub record JournalsThreads (moves : ℕ) (ending : Status) (left : Option (List 
   pub rising : AreRising run
   pub far : GoesFar moves journals.script run
 
--- the greatest script, made from the seed: 16 nodes, 64 clients and 4,096 commands
+-- the greatest script of version 1, made from the seed: 16 nodes, 64 clients and 4,096 commands
 abbrev pub greatest_script : ℕ → ScriptData
-greatest_script seed = script_of 16 64 4096 seed
+greatest_script seed = script_of 1 16 64 4096 seed
 
 -- the line `cut NODE` where the run was cut, or else the six lines of what it came to
 abbrev pub soak_text : ScriptData → List Logged → Option ℕ → List ℕ
@@ -97,7 +98,7 @@ pub record TellsOrder (ending : Status) (left : Option (List ℕ)) (run : List L
 abbrev pub JournalsBy : ℕ → Command → Status → Option (List ℕ) → List Logged → List ℕ → Type 0
 JournalsBy moves SimFirst ending left run text = JournalsInOrder First moves ending left run text
 JournalsBy moves (Sim seed) ending left run text = JournalsInOrder (Drawn (seeded seed)) moves ending left run text
-JournalsBy moves (Make nodes clients commands seed) ending left run text = Prints (script_of nodes clients commands seed) ending run text
+JournalsBy moves (Make version nodes clients commands seed) ending left run text = Prints (script_of version nodes clients commands seed) ending run text
 JournalsBy moves Check ending left run text = Checks ending left run text
 JournalsBy moves Run ending left run text = JournalsThreads moves ending left run text
 JournalsBy moves (Soak seed) ending left run text = Soaks seed moves ending run text

@@ -175,11 +175,12 @@ fn make<R: Threads + Sync, S: Source, G: Gate>(
             simulated(alloc, setup.moves, schedule, source)
         }
         Command::Make {
+            version,
             nodes,
             clients,
             commands,
             seed,
-        } => match printed(alloc, nodes, clients, commands, seed) {
+        } => match printed(alloc, version, nodes, clients, commands, seed) {
             Ok(made) => Ok(made),
             Err(_) => Err(Status::NoMemory),
         },

@@ -29,7 +29,7 @@ pub(crate) fn soaked<R: Threads + Sync, G: Gate>(
     requires workers { (0 < setup.workers) × (setup.workers ≤ MAX_WORKERS) }
     ensures { IfOk result (λ made. Soaks seed setup.moves made.ending made.run.entries made.text.items) }
 {
-    let script = lt_gen::script(alloc, 16, 64, 4_096, seed)?;
+    let script = lt_gen::script(alloc, 1, 16, 64, 4_096, seed)?;
     let (end, run) = run_nodes(rt, alloc, &script, setup, gate)?;
     let ending = Status::from(end);
     let text = soak_text(alloc, &script, &run, ending.cut())?;

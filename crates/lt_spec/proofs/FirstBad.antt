@@ -2,7 +2,7 @@
 use Rattle.std.proofs.Common.{◌≡◌, ℕ, zero, suc, ◌+◌, ◌<◌, ◌≤◌, inl, inr, length, Some, None, Bool, true, false, refl, sym, ap, arith, ◌∙◌, not, if◌then◌else◌, find}
 use Rattle.std.specs.List.{range_with_len}
 use Rattle.std.proofs.lemmas.Bool.{cases_eq}
-use Rattle.lt_spec.specs.Script.{is_orderly, FirstBadIsExact}
+use Rattle.lt_spec.specs.Ordered.{is_orderly, FirstBadIsExact}
 
 not_false : (b : Bool) → not b ≡ false → b ≡ true
 not_false true e = refl

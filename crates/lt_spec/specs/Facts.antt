@@ -1,10 +1,11 @@
--- What the laws say of a world: tokens, places of asks, and who waits for whom at rest.
+-- What the laws say of a world: tokens, places of asks, the reasons of waits at rest, and where the desk is.
 use Rattle.std.specs.Prelude.{◌≡◌, ◌==◌, ◌<◌, ℕ, ◌+◌, List, [], ◌∷◌, if◌then◌else◌, IsTrue, is_some, sum_by, Contains, Option, Some, None}
 use Rattle.lt_modes.specs.State.{times_in, same_ask, SetState, Body, AskBody, TellBody, CopyBody, TokenBody, FreezeBody, Letter, Parked, ParkedAsk, ParkedTell, Desk}
 use Rattle.lt_modes.specs.declared.ask.Ask.{Ask}
 use Rattle.lt_modes.specs.Modes.{excludes_itself}
 use Rattle.lt_modes.specs.Script.{ScriptData}
-use Rattle.lt_modes.specs.Serving.{queue_of, is_newer}
+use Rattle.lt_modes.specs.Serving.{queue_of}
+use Rattle.lt_modes.specs.Telling.{is_newer}
 use Rattle.lt_lists.specs.Below.{one_if, sum_below}
 use Rattle.lt_spec.specs.World.{World}
 

@@ -1,4 +1,4 @@
--- Who holds and who waits after event lines, read from the lines alone.
+-- Who holds and who waits: by the lines of a run alone, and in a world; and who waits for whom.
 use Rattle.lt_modes.specs.Serving.{is_gone}
 use Rattle.std.specs.Prelude.{Bool, ◌&&◌, ◌||◌, ◌==◌, not, ℕ, List, [], ◌∷◌, ◌++◌, Option, Some, None, if◌then◌else◌, IsTrue, fold, filter, flat_map, position, remove, count_by, AllPairs, ◌≡◌, Contains, false, IsFalse, ◌<◌, length, ◌≢◌, nat_lt}
 use Rattle.std.specs.List.{AllByRecursion}

@@ -1,8 +1,11 @@
 pub mod World
 pub mod NodeMove
+pub mod Limits
 pub mod Holdings
 pub mod Facts
 pub mod FixedOrder
+pub mod Plays
 pub mod Rings
 pub mod Script
+pub mod Ordered
 pub mod Promised

@@ -1,5 +1,5 @@
--- What a script says of a client and of a set.
-use Rattle.std.specs.Prelude.{◌==◌, Bool, ℕ, List, Option, Some, None, if◌then◌else◌, filter_map, ◌≡◌, [], ◌∷◌, ◌++◌, nat_lt, ◌+◌, max, length, slice_get, sum_by, ◌<◌, All, true, ◌&&◌, not, nat_le, false, ◌||◌}
+-- A move of one node: it makes a command of a client, or takes a letter; over all its sets.
+use Rattle.std.specs.Prelude.{◌==◌, Bool, ℕ, List, Option, Some, None, if◌then◌else◌, filter_map, ◌≡◌, [], ◌∷◌, ◌++◌, nat_lt, ◌+◌, max, length, slice_get, sum_by, ◌<◌, All, ◌&&◌, not, false, ◌||◌}
 use Rattle.std.specs.List.{AllByRecursion}
 use mathlib.Core.List.{IsPrefix}
 use Rattle.lt_modes.specs.declared.command.Command.{Command}
@@ -9,13 +9,14 @@ use Rattle.lt_modes.specs.declared.stamp.Stamp.{Stamp}
 use Rattle.lt_modes.specs.declared.command.Command.TheVariants.{Lock, Unlock, Try, Change, DropAll, Withdraw}
 use Rattle.lt_modes.specs.declared.event.Event.{Event}
 use Rattle.lt_modes.specs.declared.event.Event.TheVariants.{Busy, DropAll as Dropped}
-use Rattle.lt_modes.specs.State.{SetState, Letter, Made, Post, Desk}
-use Rattle.lt_modes.specs.Modes.{locks_of, locks_in}
-use Rattle.lt_modes.specs.Serving.{waits}
-use Rattle.lt_modes.specs.SetMove.{finish, lock, try, unlock, change, drop, withdraw, take}
-use Rattle.lt_modes.specs.Fits.{asks_here, has_client}
+use Rattle.lt_modes.specs.State.{SetState, Letter, Made, Post}
+use Rattle.lt_modes.specs.Modes.{locks_of}
+use Rattle.lt_modes.specs.Waiting.{waits}
+use Rattle.lt_modes.specs.SetMove.{finish, lock, try, unlock, change, drop, withdraw}
+use Rattle.lt_modes.specs.Taking.{take}
 use Rattle.lt_lists.specs.Below.{gather_below, any_below, put}
-use Rattle.lt_spec.specs.declared.limits.TheConstants.{MAX_COMMANDS_OF_SERVICE, MAX_CLIENTS, MAX_CLIENTS_OF_NODE}
+
+-- What a script says of a client and of a set.
 
 abbrev pub command_if : ℕ → ℕ × Command → Option Command
 command_if client request = if request.0 == client then Some request.1 else None
@@ -39,43 +40,6 @@ is_related script a b = family script a == family script b
 -- the sets of the set's family, in order
 abbrev pub related : ScriptData → ℕ → List ℕ
 related script s = places_from (λ k (set : SetData). set.family == family script s) 0 script.sets
-
--- Scripts that say the same of all but commands.
-
--- the script with these commands in place of its own
-abbrev pub with_commands : ScriptData → List (ℕ × Command) → ScriptData
-with_commands script commands = record script { commands = commands }
-
-abbrev pub AnyClient : ℕ → Type 0
-AnyClient client = Unit {0}
-
-abbrev pub IsHomeAt : ScriptData → ℕ → ℕ → Type 0
-IsHomeAt script q client = home script client ≡ q
-
--- with these commands the list of each client that passes goes on from what it is in the script
-abbrev pub GoOn : (ℕ → Type 0) → ScriptData → List (ℕ × Command) → Type 0
-GoOn pass script commands = (client : ℕ) → pass client → IsPrefix (commands_of script client) (commands_of (with_commands script commands) client)
-
--- the script with one command more, the last one of its client
-abbrev pub appended : ScriptData → ℕ → Command → ScriptData
-appended script client command = with_commands script (script.commands ++ (client, command) ∷ [])
-
--- the scripts differ in the commands of clients of other nodes alone: node q sees the same in both
-pub record SameAt (q : ℕ) (a b : ScriptData) : Type 0 where
-  pub rest : b ≡ with_commands a b.commands
-  pub own : (client : ℕ) → home a client ≡ q → commands_of b client ≡ commands_of a client
-
--- all of these commands are of clients of node q
-abbrev pub AreAt : ScriptData → ℕ → List (ℕ × Command) → Type 0
-AreAt script q commands = AllByRecursion (λ (request : ℕ × Command). home script request.0 ≡ q) commands
-
--- the script as node q knows it, once it appended these commands
-abbrev pub share_of : ScriptData → (ℕ → List (ℕ × Command)) → ℕ → ScriptData
-share_of script shares q = with_commands script (script.commands ++ shares q)
-
--- the script with all commands that its nodes appended
-abbrev pub joined_of : ScriptData → (ℕ → List (ℕ × Command)) → ScriptData
-joined_of script shares = with_commands script (script.commands ++ gather_below script.nodes shares)
 
 -- One move of a node: all its sets, and the commands of its clients.
 
@@ -196,6 +160,43 @@ abbrev pub node_take : ℕ → Letter → NodeState → NodeMade
 node_take q letter n =
     touched (at_clock (take_stamp q n letter).clock n) letter.set (take (take_stamp q n letter) letter (n.set letter.set))
 
+-- Scripts that say the same of all but commands.
+
+-- the script with these commands in place of its own
+abbrev pub with_commands : ScriptData → List (ℕ × Command) → ScriptData
+with_commands script commands = record script { commands = commands }
+
+abbrev pub AnyClient : ℕ → Type 0
+AnyClient client = Unit {0}
+
+abbrev pub IsHomeAt : ScriptData → ℕ → ℕ → Type 0
+IsHomeAt script q client = home script client ≡ q
+
+-- with these commands the list of each client that passes goes on from what it is in the script
+abbrev pub GoOn : (ℕ → Type 0) → ScriptData → List (ℕ × Command) → Type 0
+GoOn pass script commands = (client : ℕ) → pass client → IsPrefix (commands_of script client) (commands_of (with_commands script commands) client)
+
+-- the script with one command more, the last one of its client
+abbrev pub appended : ScriptData → ℕ → Command → ScriptData
+appended script client command = with_commands script (script.commands ++ (client, command) ∷ [])
+
+-- the scripts differ in the commands of clients of other nodes alone: node q sees the same in both
+pub record SameAt (q : ℕ) (a b : ScriptData) : Type 0 where
+  pub rest : b ≡ with_commands a b.commands
+  pub own : (client : ℕ) → home a client ≡ q → commands_of b client ≡ commands_of a client
+
+-- all of these commands are of clients of node q
+abbrev pub AreAt : ScriptData → ℕ → List (ℕ × Command) → Type 0
+AreAt script q commands = AllByRecursion (λ (request : ℕ × Command). home script request.0 ≡ q) commands
+
+-- the script as node q knows it, once it appended these commands
+abbrev pub share_of : ScriptData → (ℕ → List (ℕ × Command)) → ℕ → ScriptData
+share_of script shares q = with_commands script (script.commands ++ shares q)
+
+-- the script with all commands that its nodes appended
+abbrev pub joined_of : ScriptData → (ℕ → List (ℕ × Command)) → ScriptData
+joined_of script shares = with_commands script (script.commands ++ gather_below script.nodes shares)
+
 -- Which scripts runs are of: clients are on nodes of the script, and what commands name is of it.
 
 -- the command is for a set of the script, and a client whose locks it drops, or whose ask it gives up, is on the node of the
@@ -215,27 +216,3 @@ pub record IsWhole (script : ScriptData) : Type 0 where
   pub some_node : 0 < script.nodes
   pub homes : (client : ℕ) → client < length script.clients → home script client < script.nodes
   pub commands : All (λ (request : ℕ × Command). HasTargetsAt script request.0 request.1) script.commands
-
--- How much a node may keep for a set, and with which clocks.
-
--- neither the desk's epoch nor its freeze number is above the clock
-abbrev pub desk_within : ℕ → Option Desk → Bool
-desk_within clock None = true
-desk_within clock (Some desk) = nat_le desk.epoch clock && nat_le desk.number clock
-
--- no more locks of the set are held than a service has commands, and no more asks stand here than it has clients
-abbrev pub set_within : ℕ → SetState → Bool
-set_within clock s =
-    nat_le (locks_in s.held) MAX_COMMANDS_OF_SERVICE && (nat_le (length (asks_here s)) MAX_CLIENTS && desk_within clock s.desk)
-
--- so it is in each set of the script
-abbrev pub node_within : ScriptData → NodeState → Bool
-node_within script n = not (any_below (length script.sets) (λ s. not (set_within n.clock (n.set s))))
-
--- an ask of the client is unanswered here, or fewer are than a node may have clients
-abbrev pub leaves_ask : ℕ → SetState → Bool
-leaves_ask client s = has_client client s.pending || nat_lt (length s.pending) MAX_CLIENTS_OF_NODE
-
--- so it is in each set of the script
-abbrev pub leaves_asks : ScriptData → NodeState → ℕ → Bool
-leaves_asks script n client = not (any_below (length script.sets) (λ s. not (leaves_ask client (n.set s))))

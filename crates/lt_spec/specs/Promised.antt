@@ -1,4 +1,4 @@
--- Which clients have ended, and hold up others; clients that wait in a ring.
+-- What is promised of a run of a script (at the end), and the words in which it is promised.
 use Rattle.std.specs.Prelude.{◌≡◌, ℕ, List, length, Contains, IsTrue, IsFalse, ◌≢◌, ◌==◌, ◌≤◌, [], ◌∷◌, Option, Some, None, All, filter, ◌<◌, zero, suc, ◌++◌, if◌then◌else◌, take, Bool, drop, ◌↔◌, true, slice_get, false}
 use Rattle.lt_modes.specs.declared.mode.Mode.{Mode}
 use Rattle.lt_modes.specs.declared.event.Event.{Event}
@@ -11,9 +11,11 @@ use Rattle.lt_modes.specs.declared.moves.Step.TheVariants.{Act, Take}
 use Rattle.lt_modes.specs.State.{SetState, Body, Letter, Desk}
 use Rattle.lt_modes.specs.declared.stamp.Stamp.{Stamp}
 use Rattle.lt_modes.specs.Serving.{queue_of, ask_at, next_service, serve_one, serve, is_gone}
-use Rattle.lt_modes.specs.SetMove.{locked, tried, unlocked, changed, dropped, withdrawn, arrive, finish}
+use Rattle.lt_modes.specs.SetMove.{locked, tried, unlocked, changed, dropped, withdrawn, finish}
+use Rattle.lt_modes.specs.Taking.{arrive}
 use Rattle.lt_modes.specs.declared.event.Event.TheVariants.{Try as TryLine}
-use Rattle.lt_modes.specs.Freezing.{can_grant, frozen_by}
+use Rattle.lt_modes.specs.Freezing.{frozen_by}
+use Rattle.lt_modes.specs.Granting.{can_grant}
 use Rattle.lt_modes.specs.declared.ask.Ask.{Ask}
 use Rattle.lt_modes.specs.declared.parts.Row.{Row}
 use Rattle.lt_spec.specs.NodeMove.{home, has_command, related, next_command, NodeState, node_waits, act_stamp, take_stamp}
@@ -21,6 +23,8 @@ use Rattle.lt_spec.specs.Holdings.{Holding, holdings, waits_for, waits_behind_vo
 use Rattle.lt_spec.specs.Rings.{AreBelow, IsRing}
 use Rattle.lt_spec.specs.World.{World, is_waiting, Logged, is_enabled, move_stamp, after, world_after, IsRun, is_at_rest, anyone_waits}
 use Rattle.lt_spec.specs.Facts.{state_at, weight, token_count, place_count, IsFirstWaiter, IsLedToQueue, DeskIs}
+
+-- Which clients have ended, and hold up others; clients that wait in a ring.
 
 -- the client has made all its commands, and waits for nothing
 pub record HasEnded (script : ScriptData) (w : World) (client : ℕ) : Type 0 where

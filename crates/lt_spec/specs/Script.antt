@@ -1,108 +1,16 @@
--- Which lines answer which command of a client.
-use Rattle.std.specs.Prelude.{◌≡◌, ◌⊎◌, ◌-◌, Bool, ℕ, List, Some, slice_get, length, ◌↔◌, true, false, ◌&&◌, ◌==◌, not, nat_lt, Option, None, [], ◌∷◌, take, fold, IsTrue, IsFalse, ◌<◌, ◌||◌, nat_le, codes, slice_index, ◌≤◌, is_some, if◌then◌else◌, position, count_by, find, All, bytes_eq}
-use Rattle.std.specs.List.{list_all, range_with_len}
+-- When plain data is a script, and which lines answer its commands.
+use Rattle.std.specs.Prelude.{◌≡◌, ◌⊎◌, ◌-◌, Bool, ℕ, List, Some, slice_get, length, true, ◌&&◌, ◌==◌, not, Option, None, IsTrue, ◌<◌, ◌||◌, nat_le, codes, slice_index, ◌≤◌, is_some, if◌then◌else◌, position, count_by, All, bytes_eq}
+use Rattle.std.specs.List.{list_all}
 use Rattle.std.specs.Char.{is_ascii_alphabetic, is_ascii_alphanumeric}
 use Rattle.lt_modes.specs.declared.command.Command.{Command}
 use Rattle.lt_modes.specs.declared.command.Command.TheVariants.{Lock, Try, Unlock, Change, DropAll, Withdraw}
 use Rattle.lt_modes.specs.declared.event.Event.{Event}
-use Rattle.lt_modes.specs.declared.event.Event.TheVariants.{Grant, Try as Tried, Unlock as Unlocked, NotHeld, Change as Changed, DropAll as Dropped, Busy, Try as TryLine, Unlock as UnlockLine, Change as ChangeLine, DropAll as DropLine, Withdraw as WithdrawLine, Withdrawn, Withheld}
+use Rattle.lt_modes.specs.declared.event.Event.TheVariants.{Grant, Try as Tried, Unlock as Unlocked, NotHeld, Change as Changed, DropAll as Dropped, Busy, Withdraw as WithdrawLine, Withdrawn, Withheld}
 use Rattle.lt_modes.specs.Script.{ScriptData, SetData, ClientData, set_name, client_name, family_at, home_at}
 use Rattle.lt_modes.specs.FiveModes.{is_of_version}
-use Rattle.lt_spec.specs.Holdings.{lines_of, Holding, after_line}
+use Rattle.lt_spec.specs.Holdings.{lines_of}
 use Rattle.lt_spec.specs.World.{Logged, world_after, made_by, replies_of}
-use Rattle.lt_spec.specs.NodeMove.{commands_of}
-use Rattle.lt_spec.specs.declared.limits.TheConstants.{MAX_NAME, MAX_NODES, MAX_NODES_OF_FIRST, MAX_SETS, MAX_SETS_OF_SERVICE, MAX_CLIENTS, MAX_CLIENTS_OF_FIRST, MAX_CLIENTS_OF_NODE, MAX_COMMANDS, MAX_COMMANDS_OF_SERVICE}
-
--- the line is one with which this command of the client is answered
-abbrev pub AnswersCommand : ℕ → Command → Event → Type 0
-AnswersCommand client (Lock s mode) line =
-    (line ≡ Grant client s mode) ⊎ ((line ≡ Withdrawn client s mode) ⊎ (line ≡ Withheld client s mode))
-AnswersCommand client (Try s mode) line = (got : Bool) × (line ≡ Tried client s mode got)
-AnswersCommand client (Unlock s mode) line = (line ≡ Unlocked client s mode) ⊎ (line ≡ NotHeld client s mode)
-AnswersCommand client (Change s gives_up mode) line =
-    (line ≡ Changed client s gives_up mode)
-    ⊎ ((line ≡ NotHeld client s gives_up) ⊎ ((line ≡ Withdrawn client s mode) ⊎ (line ≡ Withheld client s mode)))
-AnswersCommand client (DropAll other s) line =
-    ((count : ℕ) × (line ≡ Dropped client other s count)) ⊎ (line ≡ Busy client other s)
-AnswersCommand client (Withdraw other s) line = (got : Bool) × (line ≡ WithdrawLine client other s got)
-
--- the client's commands have one at place k, which the line answers
-abbrev pub AnswersAt : ℕ → List Command → ℕ → Event → Type 0
-AnswersAt client commands k line =
-    (command : Command) × (slice_get commands k ≡ Some command) × AnswersCommand client command line
-
--- the line at place k of the replies answers the command at place k, for each k
-abbrev pub AnswersInTurn : ℕ → List Command → List Event → Type 0
-AnswersInTurn client commands replies =
-    (k : ℕ) (line : Event) → slice_get replies k ≡ Some line → AnswersAt client commands k line
-
--- how many commands of those that the client has made are not answered after the run
-abbrev pub unanswered_commands : ScriptData → List Logged → ℕ → ℕ
-unanswered_commands script run client =
-    made_by script (world_after script run) client - length (replies_of client (lines_of run))
-
--- Scripts whose clients ask for sets in order.
-
--- the line that answers the command where nothing stands against it
-abbrev pub best_answer : ℕ → Command → Event
-best_answer client (Lock s mode) = Grant client s mode
-best_answer client (Try s mode) = TryLine client s mode true
-best_answer client (Unlock s mode) = UnlockLine client s mode
-best_answer client (Change s gives_up mode) = ChangeLine client s gives_up mode
-best_answer client (DropAll other s) = DropLine client other s 0
-best_answer client (Withdraw other s) = WithdrawLine client other s true
-
--- what a client that may hold these locks may hold after the command
-abbrev pub may_hold_after : ScriptData → ℕ → List Holding → Command → List Holding
-may_hold_after script client locks command = after_line script locks (best_answer client command)
-
--- what a client may hold after its first k commands
-abbrev pub may_hold : ScriptData → ℕ → ℕ → List Holding
-may_hold script client k = fold (may_hold_after script client) [] (take k (commands_of script client))
-
--- each of the locks is of a set with a smaller number
-abbrev pub are_below : ℕ → List Holding → Bool
-are_below s locks = list_all (λ (lock : Holding). nat_lt lock.set s) locks
-
--- a client that may hold these locks asks for a set with a greater number than theirs; it changes no mode, and drops
--- only its own locks
-abbrev pub keeps_order : ℕ → List Holding → Command → Bool
-keeps_order client locks (Lock s mode) = are_below s locks
-keeps_order client locks (Try s mode) = are_below s locks
-keeps_order client locks (Unlock s mode) = true
-keeps_order client locks (Change s gives_up mode) = false
-keeps_order client locks (DropAll other s) = other == client
-keeps_order client locks (Withdraw other s) = true
-
--- there is no lock
-abbrev pub holds_none : List Holding → Bool
-holds_none [] = true
-holds_none (lock ∷ rest) = false
-
--- from these locks on each command keeps the order, and after the last one none may be held
-abbrev pub is_orderly_from : ScriptData → ℕ → List Holding → List Command → Bool
-is_orderly_from script client locks [] = holds_none locks
-is_orderly_from script client locks (command ∷ rest) =
-    keeps_order client locks command && is_orderly_from script client (may_hold_after script client locks command) rest
-
--- the client asks for sets in order, and releases all that it may hold
-abbrev pub is_orderly : ScriptData → ℕ → Bool
-is_orderly script client = is_orderly_from script client [] (commands_of script client)
-
--- so does each client of the script
-abbrev pub IsOrdered : ScriptData → Type 0
-IsOrdered script = (client : ℕ) → client < length script.clients → IsTrue (is_orderly script client)
-
--- the least client that doesn't
-abbrev pub first_bad : ScriptData → Option ℕ
-first_bad script = find (λ client. not (is_orderly script client)) (range_with_len 0 (length script.clients))
-
--- a script is ordered exactly where no client is named; the client that is named doesn't ask in order, and all before it do
-abbrev pub FirstBadIsExact : Type 0
-FirstBadIsExact = (script : ScriptData) → ((first_bad script ≡ None) ↔ IsOrdered script)
-    × ((client : ℕ) → first_bad script ≡ Some client
-    → (client < length script.clients) × IsFalse (is_orderly script client)
-    × ((earlier : ℕ) → earlier < client → IsTrue (is_orderly script earlier)))
+use Rattle.lt_spec.specs.declared.limits.TheConstants.{MAX_NAME, MAX_NODES, MAX_NODES_OF_FIRST, MAX_SETS, MAX_SETS_OF_SERVICE, MAX_CLIENTS, MAX_CLIENTS_OF_FIRST, MAX_CLIENTS_OF_SECOND, MAX_CLIENTS_OF_NODE, MAX_COMMANDS, MAX_COMMANDS_OF_SERVICE}
 
 -- The names of sets and clients.
 
@@ -126,7 +34,7 @@ most_nodes version = if version == 1 then MAX_NODES_OF_FIRST else MAX_NODES
 
 -- the most clients of a script of this version
 abbrev pub most_clients : ℕ → ℕ
-most_clients version = if version == 1 then MAX_CLIENTS_OF_FIRST else MAX_CLIENTS
+most_clients version = if version == 1 then MAX_CLIENTS_OF_FIRST else if version == 2 then MAX_CLIENTS_OF_SECOND else MAX_CLIENTS
 
 -- how many of the clients are on the node
 abbrev pub load_of : List ClientData → ℕ → ℕ
@@ -200,3 +108,33 @@ pub record IsScript (s : ScriptData) : Type 0 where
   pub few_commands : length s.commands ≤ MAX_COMMANDS_OF_SERVICE
   pub requests : All (IsRequest s.sets s.clients) s.commands
   pub modes : All (λ (request : ℕ × Command). IsOfVersion s.version request.1) s.commands
+
+-- Which lines answer which command of a client.
+
+-- the line is one with which this command of the client is answered
+abbrev pub AnswersCommand : ℕ → Command → Event → Type 0
+AnswersCommand client (Lock s mode) line =
+    (line ≡ Grant client s mode) ⊎ ((line ≡ Withdrawn client s mode) ⊎ (line ≡ Withheld client s mode))
+AnswersCommand client (Try s mode) line = (got : Bool) × (line ≡ Tried client s mode got)
+AnswersCommand client (Unlock s mode) line = (line ≡ Unlocked client s mode) ⊎ (line ≡ NotHeld client s mode)
+AnswersCommand client (Change s gives_up mode) line =
+    (line ≡ Changed client s gives_up mode)
+    ⊎ ((line ≡ NotHeld client s gives_up) ⊎ ((line ≡ Withdrawn client s mode) ⊎ (line ≡ Withheld client s mode)))
+AnswersCommand client (DropAll other s) line =
+    ((count : ℕ) × (line ≡ Dropped client other s count)) ⊎ (line ≡ Busy client other s)
+AnswersCommand client (Withdraw other s) line = (got : Bool) × (line ≡ WithdrawLine client other s got)
+
+-- the client's commands have one at place k, which the line answers
+abbrev pub AnswersAt : ℕ → List Command → ℕ → Event → Type 0
+AnswersAt client commands k line =
+    (command : Command) × (slice_get commands k ≡ Some command) × AnswersCommand client command line
+
+-- the line at place k of the replies answers the command at place k, for each k
+abbrev pub AnswersInTurn : ℕ → List Command → List Event → Type 0
+AnswersInTurn client commands replies =
+    (k : ℕ) (line : Event) → slice_get replies k ≡ Some line → AnswersAt client commands k line
+
+-- how many commands of those that the client has made are not answered after the run
+abbrev pub unanswered_commands : ScriptData → List Logged → ℕ → ℕ
+unanswered_commands script run client =
+    made_by script (world_after script run) client - length (replies_of client (lines_of run))

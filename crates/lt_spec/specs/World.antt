@@ -1,4 +1,4 @@
--- Logs and runs: moves with their events, in order.
+-- The world, its enabled moves and its runs; how a run ends, and which of its lines are whose.
 use Rattle.std.specs.Prelude.{List, ◌≡◌, Bool, true, false, ◌&&◌, ◌==◌, not, nat_lt, ℕ, [], ◌∷◌, ◌++◌, Option, Some, None, if◌then◌else◌, length, drop, IsTrue, ◌||◌, count_by, filter, filter_map}
 use Rattle.std.specs.List.{AllByRecursion}
 use Rattle.lt_modes.specs.declared.moves.Move.{Move}
@@ -13,6 +13,8 @@ use Rattle.lt_lists.specs.Below.{any_below, put, first_below}
 use Rattle.lt_spec.specs.NodeMove.{home, NodeState, NodeMade, no_move, has_command, node_waits, node_act, node_take, act_stamp, take_stamp, is_free_at}
 use Rattle.lt_spec.specs.declared.ending.Ending.{Ending}
 use Rattle.lt_spec.specs.declared.ending.Ending.TheVariants.{Done, Stuck, Cut}
+
+-- Logs: moves with their events, in order.
 
 -- a move that was made, and its events in order
 pub record Logged : Type 0 where

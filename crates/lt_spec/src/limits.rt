@@ -11,10 +11,13 @@ pub const MAX_SETS: u32 = 8;
 pub const MAX_SETS_OF_SERVICE: u32 = 65_536;
 
 /// The most clients of a script.
-pub const MAX_CLIENTS: u16 = 256;
+pub const MAX_CLIENTS: u16 = 1024;
 
 /// The most clients of a script of version 1.
 pub const MAX_CLIENTS_OF_FIRST: u16 = 64;
+
+/// The most clients of a script of version 2.
+pub const MAX_CLIENTS_OF_SECOND: u16 = 256;
 
 /// The most clients on one node.
 pub const MAX_CLIENTS_OF_NODE: u16 = 16;

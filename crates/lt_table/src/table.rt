@@ -2,7 +2,9 @@ ghost use Rattle.std.specs.Prelude.{◌≡◌, ◌≤◌, ◌<◌, ◌+◌, List
 ghost use Rattle.lt_modes.specs.declared.ask.Ask.{Ask};
 ghost use Rattle.lt_modes.specs.State.{SetState, Desk, first_entry, record_of, modes_of_owed, still_owed, own_part, others};
 ghost use Rattle.lt_modes.specs.Modes.{held_modes};
-ghost use Rattle.lt_modes.specs.Serving.{told, is_newer, owing, stamps_of, settled};
+ghost use Rattle.lt_modes.specs.Serving.{owing};
+ghost use Rattle.lt_modes.specs.Telling.{told, is_newer, stamps_of};
+ghost use Rattle.lt_modes.specs.HandingOver.{settled};
 ghost use Rattle.lt_table.specs.TableData.{entry_at, put_by, ask_with, told_frozen, nodes_with, AreTold, IsNextRecorded, NoRecordFrom};
 ghost use Rattle.lt_table.specs.Seen.{entry_seen, spare_in};
 

@@ -2,8 +2,8 @@ ghost use Rattle.std.specs.Prelude.{◌≡◌, ◌<◌, [], ◌∷◌, ◌++◌,
 ghost use Rattle.std.specs.List.{list_any};
 ghost use Rattle.lt_modes.specs.State.{without, has_stamp, same_ask};
 ghost use Rattle.lt_modes.specs.Fits.{has_client};
-ghost use Rattle.lt_modes.specs.SetMove.{is_behind};
-ghost use Rattle.lt_modes.specs.Serving.{stamps_of};
+ghost use Rattle.lt_modes.specs.Routing.{is_behind};
+ghost use Rattle.lt_modes.specs.Telling.{stamps_of};
 
 use crate::pending::Pending;
 use lt_modes::{Ask, Stamp};
@@ -21,7 +21,7 @@ pub struct Unanswered {
 impl Model for Unanswered {
     ghost use Rattle.std.specs.Prelude.{◌≡◌, ◌≤◌, List, vec_capacity};
     ghost use Rattle.lt_modes.specs.declared.ask.Ask.{Ask};
-    ghost use Rattle.lt_modes.specs.Serving.{stamps_of};
+    ghost use Rattle.lt_modes.specs.Telling.{stamps_of};
 
     ghost Value = { List Ask };
 

@@ -10,7 +10,7 @@ use Rattle.lt_modes.specs.Script.{ScriptData}
 use Rattle.lt_modes.specs.State.{Letter}
 use Rattle.lt_spec.specs.NodeMove.{NodeState}
 use Rattle.lt_spec.specs.World.{start}
-use Rattle.lt_spec.specs.FixedOrder.{Plays}
+use Rattle.lt_spec.specs.Plays.{Plays}
 use Rattle.lt_law_plays.specs.Merged.{Part, Joined}
 use Rattle.lt_law_plays.proofs.Appending.{plays_same_at}
 use Rattle.lt_node.specs.NodeData.{state_of}

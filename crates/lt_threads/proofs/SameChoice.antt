@@ -5,7 +5,7 @@ use Rattle.lt_modes.specs.declared.command.Command.{Command}
 use Rattle.lt_modes.specs.declared.command.Command.TheVariants.{Lock, Try, Unlock, Change, DropAll, Withdraw}
 use Rattle.lt_modes.specs.Script.{ScriptData}
 use Rattle.lt_spec.specs.NodeMove.{home, NodeState, node_waits, withdraws_itself, commands_of, with_commands, SameAt}
-use Rattle.lt_spec.specs.FixedOrder.{can_act}
+use Rattle.lt_spec.specs.Plays.{can_act}
 use Rattle.lt_desk.specs.LetterSeen.{letter_seen}
 use Rattle.lt_node.specs.Touched.{leaves_room_to_obey, leaves_room_to_act}
 use Rattle.lt_runner.specs.declared.choice.Choice.{Choice}

@@ -8,8 +8,9 @@ use Rattle.lt_modes.specs.State.{Letter}
 use Rattle.lt_lists.specs.Below.{any_below}
 use Rattle.lt_lists.proofs.Members.{contains_first}
 use Rattle.lt_lists.proofs.Searches.{any_below_at}
-use Rattle.lt_spec.specs.NodeMove.{home, NodeState, node_waits, node_within}
-use Rattle.lt_spec.specs.FixedOrder.{can_act}
+use Rattle.lt_spec.specs.NodeMove.{home, NodeState, node_waits}
+use Rattle.lt_spec.specs.Limits.{node_within}
+use Rattle.lt_spec.specs.Plays.{can_act}
 use Rattle.lt_spec.specs.World.{is_some_letter, has_mail, can_move, is_waiting}
 use Rattle.lt_script.proofs.NameLemmas.{element_at}
 use Rattle.lt_law_plays.specs.Merged.{Part, Joined}

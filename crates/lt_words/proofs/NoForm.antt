@@ -7,7 +7,7 @@ use Rattle.std.specs.Str.Parse.{digits_value, ParsesUnsigned}
 use Rattle.std.proofs.lemmas.Str.Parse.{IsDigitsTest, IsNumeralModel, numerals_by_value, parse_digits}
 use Rattle.lt_text.specs.Number.{are_digits, is_numeral, number}
 use Rattle.lt_words.specs.declared.command.Command.{Command}
-use Rattle.lt_words.specs.Grammar.{command_of, one_word, two_words, sim_of, seed_of, make_of, five_words, is_plain, has_verb, is_form}
+use Rattle.lt_words.specs.Grammar.{command_of, one_word, two_words, sim_of, seed_of, make_of, five_words, version_of, seven_words, is_plain, has_verb, is_form}
 
 pub none_found : (found : Option Command) → is_some found ≡ false → None ≡ found
 none_found None e = refl
@@ -36,15 +36,17 @@ no_word (b ∷ word) rest byte e differ = rw (hyphen_first b word e, differ) ref
 no_sim : (word : List ℕ) → is_plain word ≡ false → sim_of word ≡ None
 no_sim word e = rw (no_word word (codes "irst") 102 e refl, no_numeral word 20 e) refl
 
-no_make : (a b c d : Option ℕ) → (a ≡ None) ⊎ ((b ≡ None) ⊎ ((c ≡ None) ⊎ (d ≡ None))) → make_of a b c d ≡ None
-no_make None b c d h = refl
-no_make (Some a) None c d h = refl
-no_make (Some a) (Some b) None d h = refl
-no_make (Some a) (Some b) (Some c) None h = refl
-no_make (Some a) (Some b) (Some c) (Some d) (inl h) = absurd (cc)
-no_make (Some a) (Some b) (Some c) (Some d) (inr (inl h)) = absurd (cc)
-no_make (Some a) (Some b) (Some c) (Some d) (inr (inr (inl h))) = absurd (cc)
-no_make (Some a) (Some b) (Some c) (Some d) (inr (inr (inr h))) = absurd (cc)
+no_make : (v a b c d : Option ℕ) → (v ≡ None) ⊎ ((a ≡ None) ⊎ ((b ≡ None) ⊎ ((c ≡ None) ⊎ (d ≡ None)))) → make_of v a b c d ≡ None
+no_make None a b c d h = refl
+no_make (Some v) None b c d h = refl
+no_make (Some v) (Some a) None c d h = refl
+no_make (Some v) (Some a) (Some b) None d h = refl
+no_make (Some v) (Some a) (Some b) (Some c) None h = refl
+no_make (Some v) (Some a) (Some b) (Some c) (Some d) (inl h) = absurd (cc)
+no_make (Some v) (Some a) (Some b) (Some c) (Some d) (inr (inl h)) = absurd (cc)
+no_make (Some v) (Some a) (Some b) (Some c) (Some d) (inr (inr (inl h))) = absurd (cc)
+no_make (Some v) (Some a) (Some b) (Some c) (Some d) (inr (inr (inr (inl h)))) = absurd (cc)
+no_make (Some v) (Some a) (Some b) (Some c) (Some d) (inr (inr (inr (inr h)))) = absurd (cc)
 
 no_one_word : (verb : List ℕ) → is_plain verb ≡ false → one_word verb ≡ None
 no_one_word verb e = rw (no_word verb (codes "un") 114 e refl, no_word verb (codes "heck") 99 e refl, no_word verb (codes "rder") 111 e refl) refl
@@ -64,21 +66,46 @@ no_seed_word verb word e = elim (cases_Bool (bytes_eq verb (codes "sim"))) [
 no_five_words : (verb t u v w : List ℕ) → bytes_eq verb (codes "make") ≡ false → five_words verb t u v w ≡ None
 no_five_words verb t u v w e = rw e refl
 
-no_size : (verb t u v w : List ℕ) → (is_plain t && (is_plain u && (is_plain v && (is_plain w && true)))) ≡ false → five_words verb t u v w ≡ None
-no_size verb t u v w e = elim (cases_Bool (bytes_eq verb (codes "make"))) [
-  | inl h ↦ rw h (no_make (number t) (number u) (number v) (seed_of w) (elim (and_cases (is_plain t) (is_plain u && (is_plain v && (is_plain w && true))) e) [
-    | inl a ↦ inl (no_number t a)
-    | inr rest ↦ inr (elim (and_cases (is_plain u) (is_plain v && (is_plain w && true)) rest) [
-      | inl b ↦ inl (no_number u b)
-      | inr rest ↦ inr (elim (and_cases (is_plain v) (is_plain w && true) rest) [
-        | inl c ↦ inl (no_number v c)
-        | inr rest ↦ inr (elim (and_cases (is_plain w) true rest) [
-          | inl d ↦ no_seed w d
-          | inr never ↦ absurd (cc)
-        ])
-      ])
-    ])
-  ]))
+no_seven_words : (verb t u v w x y : List ℕ) → bytes_eq verb (codes "make") ≡ false → seven_words verb t u v w x y ≡ None
+no_seven_words verb t u v w x y e = rw e refl
+
+-- one of these words isn't plain, or the ones behind them
+module _ (t u v w : List ℕ) (rest : Bool) (version : Option ℕ) where
+  no_size : (is_plain t && (is_plain u && (is_plain v && (is_plain w && rest)))) ≡ false → (rest ≡ false → version ≡ None)
+      → make_of version (number t) (number u) (number v) (seed_of w) ≡ None
+  no_size e behind = no_make version (number t) (number u) (number v) (seed_of w) (elim (and_cases (is_plain t) (is_plain u && (is_plain v && (is_plain w && rest))) e) [
+    | inl a ↦ inr (inl (no_number t a))
+    | inr more ↦ elim (and_cases (is_plain u) (is_plain v && (is_plain w && rest)) more) [
+      | inl b ↦ inr (inr (inl (no_number u b)))
+      | inr more ↦ elim (and_cases (is_plain v) (is_plain w && rest) more) [
+        | inl c ↦ inr (inr (inr (inl (no_number v c))))
+        | inr more ↦ elim (and_cases (is_plain w) rest more) [
+          | inl d ↦ inr (inr (inr (inr (no_seed w d))))
+          | inr none ↦ inl (behind none)
+        ]
+      ]
+    ]
+  ])
+
+no_version : (x y : List ℕ) → (is_plain x && (is_plain y && true)) ≡ false → version_of x y ≡ None
+no_version x y e = elim (and_cases (is_plain x) (is_plain y && true) e) [
+  | inl a ↦ rw (no_word x (codes "ersion") 118 a refl) refl
+  | inr more ↦ elim (and_cases (is_plain y) true more) [
+    | inl b ↦ elim (cases_Bool (bytes_eq x (codes "version"))) [ inl h ↦ rw h (no_number y b) | inr h ↦ rw h refl ]
+    | inr never ↦ absurd (cc)
+  ]
+]
+
+no_five_plain : (verb t u v w : List ℕ) → (is_plain t && (is_plain u && (is_plain v && (is_plain w && true)))) ≡ false → five_words verb t u v w ≡ None
+no_five_plain verb t u v w e = elim (cases_Bool (bytes_eq verb (codes "make"))) [
+  | inl h ↦ rw h (no_size t u v w true (Some 1) e (λ never. absurd (cc)))
+  | inr h ↦ rw h refl
+]
+
+no_seven_plain : (verb t u v w x y : List ℕ) → (is_plain t && (is_plain u && (is_plain v && (is_plain w && (is_plain x && (is_plain y && true)))))) ≡ false
+    → seven_words verb t u v w x y ≡ None
+no_seven_plain verb t u v w x y e = elim (cases_Bool (bytes_eq verb (codes "make"))) [
+  | inl h ↦ rw h (no_size t u v w (is_plain x && (is_plain y && true)) (version_of x y) e (no_version x y))
   | inr h ↦ rw h refl
 ]
 
@@ -108,10 +135,20 @@ no_form (verb ∷ t ∷ u ∷ v ∷ w ∷ []) form =
       | inl none ↦ no_five_words verb t u v w none
       | inr some ↦ elim (and_cases (is_plain verb) (is_plain t && (is_plain u && (is_plain v && (is_plain w && true)))) some) [
         | inl e ↦ no_five_words verb t u v w (no_word verb (codes "ake") 109 e refl)
-        | inr rest ↦ no_size verb t u v w rest
+        | inr rest ↦ no_five_plain verb t u v w rest
       ]
     ]
-no_form (verb ∷ t ∷ u ∷ v ∷ w ∷ x ∷ rest) form = refl
+no_form (verb ∷ t ∷ u ∷ v ∷ w ∷ x ∷ []) form = refl
+no_form (verb ∷ t ∷ u ∷ v ∷ w ∷ x ∷ y ∷ []) form =
+    let behind = is_plain t && (is_plain u && (is_plain v && (is_plain w && (is_plain x && (is_plain y && true))))) in
+    elim (and_cases (has_verb (verb ∷ t ∷ u ∷ v ∷ w ∷ x ∷ y ∷ [])) (is_plain verb && behind) form) [
+      | inl none ↦ no_seven_words verb t u v w x y none
+      | inr some ↦ elim (and_cases (is_plain verb) behind some) [
+        | inl e ↦ no_seven_words verb t u v w x y (no_word verb (codes "ake") 109 e refl)
+        | inr rest ↦ no_seven_plain verb t u v w x y rest
+      ]
+    ]
+no_form (verb ∷ t ∷ u ∷ v ∷ w ∷ x ∷ y ∷ z ∷ rest) form = refl
 
 -- What parsing a word of digits gives.
 

@@ -37,21 +37,35 @@ two_words word seed =
     else None
 
 -- `make` with these numbers, where each word was one
-abbrev pub make_of : Option ℕ → Option ℕ → Option ℕ → Option ℕ → Option Command
-make_of (Some nodes) (Some clients) (Some commands) (Some seed) =
-    if can_make nodes clients commands then Some (Make nodes clients commands seed) else None
-make_of nodes clients commands seed = None
+abbrev pub make_of : Option ℕ → Option ℕ → Option ℕ → Option ℕ → Option ℕ → Option Command
+make_of (Some version) (Some nodes) (Some clients) (Some commands) (Some seed) =
+    if can_make version nodes clients commands then Some (Make version nodes clients commands seed) else None
+make_of version nodes clients commands seed = None
 
--- `make NODES CLIENTS COMMANDS SEED`
+-- `make NODES CLIENTS COMMANDS SEED`, which has version 1
 abbrev pub five_words : List ℕ → List ℕ → List ℕ → List ℕ → List ℕ → Option Command
 five_words word nodes clients commands seed =
-    if bytes_eq word (codes "make") then make_of (number nodes) (number clients) (number commands) (seed_of seed) else None
+    if bytes_eq word (codes "make") then make_of (Some 1) (number nodes) (number clients) (number commands) (seed_of seed)
+    else None
+
+-- `version VERSION`
+abbrev pub version_of : List ℕ → List ℕ → Option ℕ
+version_of word version = if bytes_eq word (codes "version") then number version else None
+
+-- `make NODES CLIENTS COMMANDS SEED version VERSION`
+abbrev pub seven_words : List ℕ → List ℕ → List ℕ → List ℕ → List ℕ → List ℕ → List ℕ → Option Command
+seven_words word nodes clients commands seed key version =
+    if bytes_eq word (codes "make")
+    then make_of (version_of key version) (number nodes) (number clients) (number commands) (seed_of seed)
+    else None
 
 -- the command that the words are
 abbrev pub command_of : List (List ℕ) → Option Command
 command_of (word ∷ []) = one_word word
 command_of (word ∷ seed ∷ []) = two_words word seed
 command_of (word ∷ nodes ∷ clients ∷ commands ∷ seed ∷ []) = five_words word nodes clients commands seed
+command_of (word ∷ nodes ∷ clients ∷ commands ∷ seed ∷ key ∷ version ∷ []) =
+    seven_words word nodes clients commands seed key version
 command_of words = None
 
 -- The commands as `clap` knows them, and what a parse finds.
@@ -59,6 +73,10 @@ command_of words = None
 -- an argument that has to be there
 abbrev pub needed : List ℕ → Rule
 needed id = record (new_rule id) { required = true; action = Some Set }
+
+-- an argument that may be missing
+abbrev pub optional : List ℕ → Rule
+optional id = record (new_rule id) { action = Some Set }
 
 -- a subcommand without arguments
 abbrev pub plain_app : List ℕ → App
@@ -76,9 +94,9 @@ sim_app = one_app (codes "sim") (codes "how")
 abbrev pub soak_app : App
 soak_app = one_app (codes "soak") (codes "seed")
 
--- `make NODES CLIENTS COMMANDS SEED`
+-- `make NODES CLIENTS COMMANDS SEED`, and maybe `version VERSION`
 abbrev pub make_app : App
-make_app = with_rule (with_rule (with_rule (with_rule (plain_app (codes "make")) (needed (codes "nodes"))) (needed (codes "clients"))) (needed (codes "commands"))) (needed (codes "seed"))
+make_app = with_rule (with_rule (with_rule (with_rule (with_rule (with_rule (plain_app (codes "make")) (needed (codes "nodes"))) (needed (codes "clients"))) (needed (codes "commands"))) (needed (codes "seed"))) (optional (codes "key"))) (optional (codes "version"))
 
 -- the program without its subcommands
 abbrev pub top_app : App
@@ -105,6 +123,7 @@ abbrev pub has_verb : List (List ℕ) → Bool
 has_verb (verb ∷ []) = is_some (one_word verb)
 has_verb (verb ∷ a ∷ []) = bytes_eq verb (codes "sim") || bytes_eq verb (codes "soak")
 has_verb (verb ∷ a ∷ b ∷ c ∷ d ∷ []) = bytes_eq verb (codes "make")
+has_verb (verb ∷ a ∷ b ∷ c ∷ d ∷ e ∷ f ∷ []) = bytes_eq verb (codes "make")
 has_verb words = false
 
 -- the words are plain and begin a command: a parse of them fails only for want of memory
@@ -115,9 +134,14 @@ is_form words = has_verb words && list_all is_plain words
 abbrev pub text_at : List ℕ → List Row → List ℕ
 text_at id rows = unwrap_or (first_of id rows) []
 
+-- the version that these texts name: version 1 if there are none
+abbrev pub version_in : List ℕ → List ℕ → Option ℕ
+version_in [] version = Some 1
+version_in (byte ∷ rest) version = version_of (byte ∷ rest) version
+
 -- `make` with the texts that a parse found
 abbrev pub make_in : List Row → Option Command
-make_in rows = make_of (number (text_at (codes "nodes") rows)) (number (text_at (codes "clients") rows)) (number (text_at (codes "commands") rows)) (seed_of (text_at (codes "seed") rows))
+make_in rows = make_of (version_in (text_at (codes "key") rows) (text_at (codes "version") rows)) (number (text_at (codes "nodes") rows)) (number (text_at (codes "clients") rows)) (number (text_at (codes "commands") rows)) (seed_of (text_at (codes "seed") rows))
 
 -- the command with this first word and these texts
 abbrev pub command_named : List ℕ → List Row → Option Command

@@ -3,10 +3,10 @@ ghost use Rattle.std.specs.List.{list_all};
 ghost use Rattle.std.specs.Str.{bytes_eq};
 ghost use Rattle.std.specs.String.{string_bytes};
 ghost use Rattle.clap.specs.Words.{rows_of, found_of, subcommand_rows_of};
-ghost use Rattle.lt_words.specs.Grammar.{command_of, one_word, two_words, sim_of, soak_of, five_words, text_at, make_in, command_in, command_named, is_form, has_verb, is_plain};
+ghost use Rattle.lt_words.specs.Grammar.{command_of, one_word, two_words, sim_of, soak_of, five_words, seven_words, version_in, text_at, make_in, command_in, command_named, is_form, has_verb, is_plain};
 
 use crate::grammar::parse;
-use crate::numbers::{make_of, seed_of};
+use crate::numbers::{make_of, seed_of, version_of};
 use clap::ArgMatches;
 use std::alloc::{AllocError, Global};
 
@@ -23,8 +23,9 @@ pub enum Command {
     },
     /// Tells whether a journal is that of a run of its script.
     Check,
-    /// Prints a script drawn from the seed.
+    /// Prints a script of this version drawn from the seed.
     Make {
+        version: u8,
         nodes: u8,
         clients: u16,
         commands: u32,
@@ -82,11 +83,22 @@ fn make_in(found: &ArgMatches<'_>) -> Option<Command>
     ensures { result ≡ make_in (rows_of (found_of found.now)) }
 {
     make_of(
+        version_in(text_at(found, "key"), text_at(found, "version")),
         text_at(found, "nodes"),
         text_at(found, "clients"),
         text_at(found, "commands"),
         text_at(found, "seed"),
     )
+}
+
+// The version that the texts behind the seed name: 1 if there are none.
+fn version_in(key: &str, version: &str) -> Option<u32>
+    ensures { result ≡ version_in key.now version.now }
+{
+    if key.is_empty() {
+        return Some(1);
+    }
+    version_of(key, version)
 }
 
 // Whether the words are a command, seen without memory.
@@ -97,6 +109,9 @@ fn is_command(words: &[String]) -> bool
         [word] => one_word(word).is_some(),
         [verb, word] => are_command(verb, word),
         [verb, nodes, clients, commands, seed] => is_make(verb, nodes, clients, commands, seed),
+        [verb, nodes, clients, commands, seed, key, version] => {
+            is_make_of(verb, nodes, clients, commands, seed, key, version)
+        }
         _ => false,
     }
 }
@@ -114,7 +129,21 @@ fn are_command(verb: &str, word: &str) -> bool
 fn is_make(verb: &str, nodes: &str, clients: &str, commands: &str, seed: &str) -> bool
     ensures { result ≡ is_some (five_words verb.now nodes.now clients.now commands.now seed.now) }
 {
-    verb == "make" && make_of(nodes, clients, commands, seed).is_some()
+    verb == "make" && make_of(Some(1), nodes, clients, commands, seed).is_some()
+}
+
+fn is_make_of(
+    verb: &str,
+    nodes: &str,
+    clients: &str,
+    commands: &str,
+    seed: &str,
+    key: &str,
+    version: &str,
+) -> bool
+    ensures { result ≡ is_some (seven_words verb.now nodes.now clients.now commands.now seed.now key.now version.now) }
+{
+    verb == "make" && make_of(version_of(key, version), nodes, clients, commands, seed).is_some()
 }
 
 // Whether the words begin as a command does, are as many as it has, and none of them begins with a hyphen.
@@ -130,7 +159,7 @@ fn has_verb(words: &[String]) -> bool
     match words {
         [verb] => one_word(verb).is_some(),
         [verb, _] => is_one_of(verb, "sim", "soak"),
-        [verb, _, _, _, _] => verb.as_str() == "make",
+        [verb, _, _, _, _] | [verb, _, _, _, _, _, _] => verb.as_str() == "make",
         _ => false,
     }
 }

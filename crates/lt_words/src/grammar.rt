@@ -4,7 +4,7 @@ ghost use Rattle.std.specs.Prelude.{◌≡◌, true, false, map, IfOk, IfErr};
 ghost use Rattle.std.specs.String.{string_bytes};
 ghost use Rattle.clap.specs.Words.{rule_of, kind_of, subcommand_of, subcommand_rows_of};
 ghost use Rattle.clap.specs.declared.error.kind.ErrorKind.TheVariants.{OutOfMemory};
-ghost use Rattle.lt_words.specs.Grammar.{needed, plain_app, one_app, make_app, top_app, lockrun, is_form};
+ghost use Rattle.lt_words.specs.Grammar.{needed, optional, plain_app, one_app, make_app, top_app, lockrun, is_form};
 ghost use Rattle.lt_words.specs.Apps.{IsApp, IsLockrun, AddsRule, AddsApp};
 
 use clap::{Arg, ArgAction, ArgMatches, Command, Error};
@@ -58,6 +58,14 @@ fn needed<'a>(alloc: Global, id: &'a str) -> Arg<'a>
     Arg::new(alloc, id).required(true).action(ArgAction::Set)
 }
 
+// An argument that may be missing.
+fn optional<'a>(alloc: Global, id: &'a str) -> Arg<'a>
+    ensures rule { rule_of result ≡ optional id.entry.now }
+    ensures local { result.global ≡ false }
+{
+    Arg::new(alloc, id).action(ArgAction::Set)
+}
+
 // Adds a subcommand without arguments.
 fn add_plain<'a>(
     alloc: Global,
@@ -97,6 +105,17 @@ fn one<'a>(alloc: Global, name: &'a str, id: &'a str) -> Result<Command<'a>, All
     plain(alloc, name).arg(needed(alloc, id))
 }
 
+// Adds an argument that may be missing to a subcommand.
+fn add_optional<'a>(
+    alloc: Global,
+    command: Command<'a>,
+    id: &'a str,
+) -> Result<Command<'a>, AllocError>
+    ensures { IfOk result (λ new. AddsRule command.entry new (optional id.entry.now)) }
+{
+    command.arg(optional(alloc, id))
+}
+
 // Adds an argument to a subcommand.
 fn add_argument<'a>(
     alloc: Global,
@@ -114,5 +133,7 @@ fn make<'a>(alloc: Global) -> Result<Command<'a>, AllocError>
     let with_nodes = one(alloc, "make", "nodes")?;
     let with_clients = add_argument(alloc, with_nodes, "clients")?;
     let with_commands = add_argument(alloc, with_clients, "commands")?;
-    add_argument(alloc, with_commands, "seed")
+    let with_seed = add_argument(alloc, with_commands, "seed")?;
+    let with_key = add_optional(alloc, with_seed, "key")?;
+    add_optional(alloc, with_key, "version")
 }

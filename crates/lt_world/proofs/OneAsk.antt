@@ -10,7 +10,8 @@ use Rattle.lt_modes.specs.declared.ask.Ask.{Ask}
 use Rattle.lt_modes.specs.Fits.{has_client, parked_asks}
 use Rattle.lt_modes.specs.Modes.{excludes_itself}
 use Rattle.lt_modes.specs.Script.{ScriptData}
-use Rattle.lt_modes.specs.Serving.{queue_of, is_newer, is_gone}
+use Rattle.lt_modes.specs.Serving.{queue_of, is_gone}
+use Rattle.lt_modes.specs.Telling.{is_newer}
 use Rattle.lt_modes.specs.Waiting.{pending_ask, is_before, stands_before, has_older, parked_behind}
 use Rattle.lt_lists.specs.Below.{any_below, sum_below}
 use Rattle.lt_lists.proofs.Members.{contains_first, contains_later, list_any-at, list_any-which}

@@ -10,7 +10,8 @@ use Rattle.lt_modes.specs.declared.stamp.Stamp.{Stamp}
 use Rattle.lt_lists.specs.Below.{put}
 use Rattle.lt_lists.proofs.Puts.{put-same, put-other}
 use Rattle.lt_spec.specs.Script.{IsScript}
-use Rattle.lt_spec.specs.NodeMove.{leaves_asks, home, NodeState, is_free_at, has_command, NodeMade, node_act, act_stamp}
+use Rattle.lt_spec.specs.NodeMove.{home, NodeState, is_free_at, has_command, NodeMade, node_act, act_stamp}
+use Rattle.lt_spec.specs.Limits.{leaves_asks}
 use Rattle.lt_spec.specs.World.{Logged, World, world_after, is_enabled, is_runnable, IsRun, put_mail, after_made, letter_for, node_move, move_stamp, has_mail, is_some_letter}
 use Rattle.lt_spec.specs.FixedOrder.{take_turn, senders, takes}
 use Rattle.lt_law_enabled.specs.OrderLaws.{HasLetter}

@@ -1,5 +1,5 @@
 use Rattle.std.proofs.Common.{◌≡◌, ◌∙◌, ◌∷◌, List, ap, fold, map, refl, sym}
-use Rattle.lt_modes.specs.SetMove.{dealt}
+use Rattle.lt_modes.specs.Routing.{dealt}
 use Rattle.lt_modes.specs.State.{Parked}
 use Rattle.lt_desk.specs.LetterSeen.{parked_seen}
 use Rattle.lt_core.proofs.StepLemmas.{no_longer, same_least, queue_dealt, room_to_deal, fewer_left, nothing_left, all_dealt}

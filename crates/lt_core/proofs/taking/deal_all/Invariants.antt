@@ -1,6 +1,6 @@
 use Rattle.std.proofs.Common.{◌≡◌, ◌≤◌, ◌+◌, length, map, fold, filter_map, deque_capacity}
 use Rattle.lt_modes.specs.Fits.{ask_if}
-use Rattle.lt_modes.specs.SetMove.{dealt}
+use Rattle.lt_modes.specs.Routing.{dealt}
 use Rattle.lt_desk.specs.LetterSeen.{parked_seen}
 use Rattle.lt_core.proofs.taking.deal_all.Given as goal
 

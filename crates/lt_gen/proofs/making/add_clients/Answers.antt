@@ -18,7 +18,7 @@ pub add_client-requires-clause-new : goal.add_client-requires-clause-new
 add_client-requires-clause-new c = rw (c.deref.ensures.value, c.in_ok-name.ensures) (name_is_new c.loop-client.script c.loop-client.client (ap (λ (s : ScriptData). s.sets) c.loop-client.invariant.made ∙ c.requires.sets) (rw c.loop-client.invariant.made refl) (omega (arith, c.loop-client-test.true, c.requires.few)))
 
 pub add_client-requires-clause-room : goal.add_client-requires-clause-room
-add_client-requires-clause-room c = rw (c.loop-client.invariant.made, c.requires.version) (omega (arith, clients_counted c.args.script.now.nodes c.loop-client.client, c.loop-client-test.true, c.requires.few))
+add_client-requires-clause-room c = rw c.loop-client.invariant.made (omega (arith, clients_counted c.args.script.now.nodes c.loop-client.client, c.loop-client-test.true, c.requires.few))
 
 pub add_client-requires-clause-load : goal.add_client-requires-clause-load
 add_client-requires-clause-load c = rw (c.loop-client.invariant.made, c.loop-client.invariant.nodes) (load_fits c.args.script.now.nodes c.loop-client.client c.nodes.ensures.kept.some_node (omega (arith, c.loop-client-test.true, c.requires.on_nodes)))

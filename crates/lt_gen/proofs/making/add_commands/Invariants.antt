@@ -8,7 +8,7 @@ invariant-loop-left l = record {
   others : l.script ≡ record l.fn.script { commands = l.script.commands };
   count : length l.script.commands + l.left ≡ l.commands;
   turns : l.turn + l.left ≤ l.commands;
-  parts : Making l.clients l.left l.turn l.draws l.script.commands (requests_in l.commands l.clients l.commands 0 l.fn.draws);
+  parts : Making l.sizes l.left l.turn l.draws l.script.commands (requests_in l.commands l.sizes l.commands 0 l.fn.draws);
 }
 
 abbrev pub decreases-loop-left : goal.decreases-loop-left

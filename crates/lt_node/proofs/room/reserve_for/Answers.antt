@@ -5,6 +5,7 @@ use Rattle.lt_core.specs.Bound.{brought}
 use Rattle.lt_node.specs.NodeData.{most_sent}
 use Rattle.lt_node.specs.Sets.{core_in}
 use Rattle.lt_modes.specs.State.{Letter}
+use Rattle.lt_spec.specs.declared.limits.TheConstants.{MAX_CLIENTS}
 use Rattle.lt_node.proofs.RoomLemmas.{few_still, same_asks, letter_sent}
 use Rattle.lt_node.proofs.TokenLemmas.{room_for}
 use Rattle.lt_node.proofs.room.reserve_for.Goals as goal
@@ -18,7 +19,7 @@ sent_for-sent-requires-clause-few c = few_still c.args.sets.now c.reserve_for.ne
 
 pub sent_for-sent-requires-clause-asks : goal.sent_for-sent-requires-clause-asks
 sent_for-sent-requires-clause-asks c =
-    subst (λ (n : ℕ). n ≤ 256) (sym (same_asks c.args.letter.now c.reserve_for.new.letter c.in_ok-reserve_for.ensures.letter)) c.requires.asks
+    subst (λ (n : ℕ). n ≤ MAX_CLIENTS) (sym (same_asks c.args.letter.now c.reserve_for.new.letter c.in_ok-reserve_for.ensures.letter)) c.requires.asks
 
 pub returns-clause-out : goal.returns-clause-out
 returns-clause-out c = (c.reserve.ensures.posts, c.reserve.ensures.events)

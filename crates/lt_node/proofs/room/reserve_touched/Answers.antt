@@ -5,6 +5,7 @@ use Rattle.lt_core.specs.CoreData.{HasMemory}
 use Rattle.lt_node.specs.NodeData.{HasFewAsks, most_sent}
 use Rattle.lt_node.specs.Sets.{core_in}
 use Rattle.lt_modes.specs.declared.command.Command.{Command}
+use Rattle.lt_spec.specs.declared.limits.TheConstants.{MAX_CLIENTS, MAX_NODES}
 use Rattle.lt_node.specs.Touched.{HaveFewAsks, HaveMemory, LeavesMark, named_set, sent_by, touched_sets}
 use Rattle.lt_node.proofs.RoomLemmas.{all_one, names_one, one_of, sent_by_one, touches_one, mark_one}
 use Rattle.lt_node.proofs.room.reserve_touched.Goals as goal
@@ -34,7 +35,7 @@ returns-in-Lock-clause-sent c =
 
 pub returns-in-Lock-clause-small : goal.returns-in-Lock-clause-small
 returns-in-Lock-clause-small c =
-    IfOk-weaker c.reserve_set.result (λ sent. sent ≤ 323) (λ sent. sent + 1 < 2 ^ 32) (λ sent small. omega (arith, small)) c.reserve_set.ensures.small
+    IfOk-weaker c.reserve_set.result (λ sent. sent ≤ MAX_CLIENTS + MAX_NODES + 3) (λ sent. sent + 1 < 2 ^ 32) (λ sent small. omega (arith, small)) c.reserve_set.ensures.small
 
 pub returns-in-Lock-clause-full : goal.returns-in-Lock-clause-full
 returns-in-Lock-clause-full c = λ memory mark.
@@ -99,7 +100,7 @@ returns-in-Withdraw-clause-sent c =
 
 pub returns-in-Withdraw-clause-small : goal.returns-in-Withdraw-clause-small
 returns-in-Withdraw-clause-small c =
-    IfOk-weaker c.reserve_marked.result (λ sent. sent ≤ 323) (λ sent. sent + 1 < 2 ^ 32) (λ sent small. omega (arith, small)) c.reserve_marked.ensures.small
+    IfOk-weaker c.reserve_marked.result (λ sent. sent ≤ MAX_CLIENTS + MAX_NODES + 3) (λ sent. sent + 1 < 2 ^ 32) (λ sent small. omega (arith, small)) c.reserve_marked.ensures.small
 
 pub returns-in-Withdraw-clause-full : goal.returns-in-Withdraw-clause-full
 returns-in-Withdraw-clause-full c = λ memory mark.

@@ -1,5 +1,5 @@
 use Rattle.std.proofs.Common.{◌<◌, ℕ, IsTrue}
-use Rattle.lt_spec.specs.Script.{is_orderly}
+use Rattle.lt_spec.specs.Ordered.{is_orderly}
 use Rattle.lt_order.proofs.order.first_bad.Given as goal
 
 -- the clients so far are in order

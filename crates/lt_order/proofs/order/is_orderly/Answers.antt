@@ -3,7 +3,7 @@ use Rattle.lt_modes.specs.declared.command.Command.{Command}
 use Rattle.lt_modes.specs.declared.command.Command.TheVariants.{Lock}
 use Rattle.lt_modes.specs.declared.mode.Mode.TheVariants.{IntentionRead}
 use Rattle.lt_spec.specs.Holdings.{Holding}
-use Rattle.lt_spec.specs.Script.{keeps_order, may_hold_after, is_orderly_from}
+use Rattle.lt_spec.specs.Ordered.{keeps_order, may_hold_after, is_orderly_from}
 use Rattle.lt_order.specs.declared.lock.Lock.{Lock as Kept}
 use Rattle.lt_order.proofs.Orders.{orderly_at, own_request, other_request, none_left, none_by_count}
 use Rattle.lt_order.proofs.order.is_orderly.Goals.{else-request-client-via-then-request-client+in_ok-make+else-not-branch, else-request-client-via-else-request-client}

@@ -1,5 +1,5 @@
 use Rattle.std.proofs.Common.{◌≡◌}
-use Rattle.lt_spec.specs.Script.{is_orderly}
+use Rattle.lt_spec.specs.Ordered.{is_orderly}
 use Rattle.lt_order.proofs.Orders.{orderly_at}
 use Rattle.lt_order.proofs.order.is_orderly.Given as goal
 

@@ -1,6 +1,6 @@
-use Rattle.std.proofs.Common.{◌∙◌, ap, is_some}
+use Rattle.std.proofs.Common.{◌∙◌, ap, arith, is_some}
 use Rattle.lt_words.specs.Grammar.{command_of}
-use Rattle.lt_words.proofs.Counted.{of_one, of_two, of_five}
+use Rattle.lt_words.proofs.Counted.{of_one, of_two, of_five, of_seven, other_counts}
 use Rattle.lt_words.proofs.command.is_command.Goals as goal
 
 pub returns-in-len1 : goal.returns-in-len1
@@ -22,3 +22,24 @@ returns-in-len5 c =
     c.deref-in-len5.result.now c.deref-in-len5-2.result.now c.deref-in-len5-3.result.now c.deref-in-len5-4.result.now c.deref-in-len5-5.result.now
     c.verb-item-then-words-lt6.is c.deref-in-len5.ensures c.nodes-item.is c.deref-in-len5-2.ensures c.clients-item.is c.deref-in-len5-3.ensures
     c.commands-item.is c.deref-in-len5-4.ensures c.seed-item.is c.deref-in-len5-5.ensures c.in-len5.len_at_least c.in-len5.len_below
+
+pub returns-in-len7 : goal.returns-in-len7
+returns-in-len7 c =
+    c.is_make_of.ensures
+    ∙ of_seven (λ words. is_some (command_of words)) c.args.words.now c.verb-item-then-words-lt8.result c.nodes-item-then-words-lt8.result c.clients-item-then-words-lt8.result c.commands-item-then-words-lt8.result c.seed-item-then-words-lt8.result c.key-item.result c.version-item.result
+    c.deref-in-len7.result.now c.deref-in-len7-2.result.now c.deref-in-len7-3.result.now c.deref-in-len7-4.result.now c.deref-in-len7-5.result.now c.deref-in-len7-6.result.now c.deref-in-len7-7.result.now
+    c.verb-item-then-words-lt8.is c.deref-in-len7.ensures c.nodes-item-then-words-lt8.is c.deref-in-len7-2.ensures c.clients-item-then-words-lt8.is c.deref-in-len7-3.ensures
+    c.commands-item-then-words-lt8.is c.deref-in-len7-4.ensures c.seed-item-then-words-lt8.is c.deref-in-len7-5.ensures
+    c.key-item.is c.deref-in-len7-6.ensures c.version-item.is c.deref-in-len7-7.ensures c.in-len7.len_at_least c.in-len7.len_below
+
+pub returns-in_default-2 : goal.returns-in_default-2
+returns-in_default-2 c = other_counts c.args.words.now (λ e. omega (arith, e, c.in_default.len_at_least, c.in_default.len_below)) (λ e. omega (arith, e, c.in_default.len_at_least, c.in_default.len_below))
+    (λ e. omega (arith, e, c.in_default.len_at_least, c.in_default.len_below)) (λ e. omega (arith, e, c.in_default.len_at_least, c.in_default.len_below))
+
+pub returns-in_default-3 : goal.returns-in_default-3
+returns-in_default-3 c = other_counts c.args.words.now (λ e. omega (arith, e, c.in_default.len_at_least, c.in_default.len_below)) (λ e. omega (arith, e, c.in_default.len_at_least, c.in_default.len_below))
+    (λ e. omega (arith, e, c.in_default.len_at_least, c.in_default.len_below)) (λ e. omega (arith, e, c.in_default.len_at_least, c.in_default.len_below))
+
+pub returns-in_default-4 : goal.returns-in_default-4
+returns-in_default-4 c = other_counts c.args.words.now (λ e. omega (arith, e, c.in_default.len_at_least)) (λ e. omega (arith, e, c.in_default.len_at_least))
+    (λ e. omega (arith, e, c.in_default.len_at_least)) (λ e. omega (arith, e, c.in_default.len_at_least))

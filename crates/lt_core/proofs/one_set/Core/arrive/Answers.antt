@@ -1,7 +1,8 @@
 use Rattle.std.proofs.Common.{◌≡◌, ◌∙◌, ℕ, Bool, true, false, None, ap, nat_lt, if◌then◌else◌, subst, sym}
 use Rattle.lt_modes.specs.Modes.{Modes}
 use Rattle.lt_modes.specs.State.{Made}
-use Rattle.lt_modes.specs.SetMove.{arrive, learn, take_body, take_freeze, take_token}
+use Rattle.lt_modes.specs.Taking.{arrive, take_body, take_freeze, take_token}
+use Rattle.lt_modes.specs.Routing.{learn}
 use Rattle.lt_modes.specs.declared.parts.Link.{Link}
 use Rattle.lt_modes.specs.declared.stamp.Stamp.{Stamp}
 use Rattle.lt_desk.specs.DeskData.{DeskData, OutData, FitsOut, out_after}

@@ -1,5 +1,6 @@
 use Rattle.lt_modes.specs.State.{then_do}
-use Rattle.lt_modes.specs.Serving.{serve, hand_over}
+use Rattle.lt_modes.specs.Serving.{serve}
+use Rattle.lt_modes.specs.HandingOver.{hand_over}
 use Rattle.lt_modes.specs.Freezing.{freeze}
 use Rattle.lt_core.proofs.NoticeLemmas.{does_then, fits_first, fits_after}
 use Rattle.lt_core.proofs.one_set.Core.attend.Goals as goal

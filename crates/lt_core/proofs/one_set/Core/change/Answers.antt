@@ -1,5 +1,5 @@
 use Rattle.std.proofs.Common.{◌≡◌, ◌≢◌, ◌∙◌, ◌==◌, ◌++◌, ℕ, [], ◌∷◌, Bool, Some, true, false, ap, append-nil, arith, eq-eqb, if◌then◌else◌, length-append, ne_eqb, refl, subst, sym}
-use Rattle.lt_modes.specs.Freezing.{can_grant}
+use Rattle.lt_modes.specs.Granting.{can_grant}
 use Rattle.lt_modes.specs.Modes.{count_of}
 use Rattle.lt_modes.specs.SetMove.{answers, change_held}
 use Rattle.lt_modes.specs.State.{Made, SetState}

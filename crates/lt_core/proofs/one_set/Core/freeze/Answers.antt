@@ -1,10 +1,10 @@
-use Rattle.std.proofs.Common.{◌≡◌, ◌∙◌, ◌-◌, Some, map, ap, sym, subst, refl, rules, deque_len, deque_capacity}
+use Rattle.std.proofs.Common.{◌≡◌, ◌∙◌, Some, ap, sym, subst, refl, rules}
 use Rattle.lt_modes.specs.State.{SetState, Desk, Made}
 use Rattle.lt_modes.specs.Freezing.{map_from, freeze, frozen_by, frozen_entry, number_after}
 use Rattle.lt_desk.specs.DeskData.{DeskData, told_nodes, bits_from, FitsOut}
-use Rattle.lt_desk.specs.LetterSeen.{parked_seen}
-use Rattle.lt_core.specs.CoreData.{CoreData, Does, desk_seen, room_by, tells_by}
+use Rattle.lt_core.specs.CoreData.{CoreData, Does, room_by}
 use Rattle.lt_core.proofs.NoticeLemmas.{freeze_fits, freeze_sent, freeze_draws}
+use Rattle.lt_core.proofs.StateSeen.{core_of, state_of}
 use Rattle.lt_core.proofs.one_set.Core.freeze.Goals as goal
 
 pub send_notices-requires-clause-fits : goal.send_notices-requires-clause-fits
@@ -13,18 +13,7 @@ send_notices-requires-clause-fits c =
     let stamp = c.args.stamp in
     let targets = c.freeze-targets.result in
     let desk : Desk = c.in-Some.desk.desk in
-    let s : SetState = record {
-      held = before.held.rows;
-      charge = before.charge;
-      frozen = before.frozen;
-      number = before.number;
-      firm = before.links.firm;
-      hoped = before.links.hoped;
-      pending = before.pending;
-      parked = map parked_seen before.parked.items;
-      desk = desk_seen before.desk;
-      gone = before.marks.clients;
-    } in
+    let s : SetState = state_of before in
     let here : s.desk ≡ Some desk = search rules in
     let made = c.freeze-targets.ensures.made before.set stamp s refl here in
     let left = c.freeze-targets.ensures.desk in
@@ -39,18 +28,7 @@ returns-clause-does c =
     let stamp = c.args.stamp in
     let targets = c.freeze-targets.result in
     let desk : Desk = c.in-Some.desk.desk in
-    let s : SetState = record {
-      held = before.held.rows;
-      charge = before.charge;
-      frozen = before.frozen;
-      number = before.number;
-      firm = before.links.firm;
-      hoped = before.links.hoped;
-      pending = before.pending;
-      parked = map parked_seen before.parked.items;
-      desk = desk_seen before.desk;
-      gone = before.marks.clients;
-    } in
+    let s : SetState = state_of before in
     let here : s.desk ≡ Some desk = search rules in
     let made = c.freeze-targets.ensures.made before.set stamp s refl here in
     let left = c.freeze-targets.ensures.desk in
@@ -59,15 +37,9 @@ returns-clause-does c =
     let after : c.freeze-targets.new.self.desk ≡ _ = ap (λ (d : DeskData). d.desk) left in
     let number : targets.number ≡ number_after (told_nodes stamp.node desk) desk.number = c.freeze-targets.ensures.number ∙ ap (λ (d : DeskData). d.desk.number) left in
     let modes : targets.modes ≡ frozen_by desk.queue = c.freeze-targets.ensures.modes in
-    let core : CoreData = record {
-      node = before.links.me;
-      set = before.set;
+    let core : CoreData = record (core_of before) {
       state = record s { frozen = targets.modes; number = targets.number; desk = Some c.freeze-targets.new.self.desk };
       room = room_by (Some c.freeze-targets.new.self) before.held.spare;
-      row_room = before.held.spare;
-      parked_room = deque_capacity before.parked - deque_len before.parked;
-      tell_room = tells_by before.spare;
-      mark_room = before.marks.room;
     } in
     subst (λ (old : CoreData). Does (freeze old.set stamp old.state) old c.args.out.now core c.send_notices.new.out) c.self.view_is
     (record {

@@ -1,15 +1,15 @@
-use Rattle.std.proofs.Common.{◌≡◌, ◌∙◌, ◌+◌, ◌≤◌, ◌<◌, ap, map, subst, sym}
+use Rattle.std.proofs.Common.{◌≡◌, ◌∙◌, ◌+◌, ◌≤◌, ◌<◌, ap, subst, sym}
 use Rattle.lt_modes.specs.Modes.{locks_in}
 use Rattle.lt_modes.specs.Serving.{answer_event}
 use Rattle.lt_modes.specs.SetMove.{answers}
 use Rattle.lt_modes.specs.State.{SetState}
 use Rattle.lt_held.specs.HeldData.{most_locks}
 use Rattle.lt_desk.specs.DeskData.{out_after}
-use Rattle.lt_desk.specs.LetterSeen.{parked_seen}
-use Rattle.lt_core.specs.CoreData.{CoreData, desk_seen, room_by}
+use Rattle.lt_core.specs.CoreData.{CoreData, room_by}
 use Rattle.lt_core.specs.Steps.{grant_ask}
 use Rattle.lt_core.proofs.CommandLemmas.{room_for_line, line_sent, room_by_more}
 use Rattle.lt_core.proofs.StepLemmas.{row_left}
+use Rattle.lt_core.proofs.StateSeen.{state_of}
 use Rattle.lt_core.proofs.one_set.Core.grant.Goals as goal
 
 pub give-requires-clause-spare : goal.give-requires-clause-spare
@@ -29,18 +29,7 @@ returns-clause-does c =
     let before = c.self.inside in
     let out = c.args.out.now in
     let ask = c.args.ask.now in
-    let s : SetState = record {
-      held = before.held.rows;
-      charge = before.charge;
-      frozen = before.frozen;
-      number = before.number;
-      firm = before.links.firm;
-      hoped = before.links.hoped;
-      pending = before.pending;
-      parked = map parked_seen before.parked.items;
-      desk = desk_seen before.desk;
-      gone = before.marks.clients;
-    } in
+    let s : SetState = state_of before in
     let after = (grant_ask before.set ask s).state in
     let held : record s { held = c.give.new.held.rows; pending = c.forget.new.self } ≡ after = λ i. record s { held = c.give.ensures.rows i; pending = c.forget.ensures i } in
     record {

@@ -1,7 +1,7 @@
 use Rattle.std.proofs.Common.{◌≡◌, ◌==◌, ◌&&◌, drop}
 use Rattle.std.specs.List.{list_any}
 use Rattle.lt_modes.specs.Modes.{excludes_itself}
-use Rattle.lt_modes.specs.Serving.{is_newer}
+use Rattle.lt_modes.specs.Telling.{is_newer}
 use Rattle.lt_modes.specs.declared.ask.Ask.{Ask}
 use Rattle.lt_core.proofs.one_set.Core.has_older.Given as goal
 

@@ -1,12 +1,13 @@
-use Rattle.std.proofs.Common.{◌≡◌, ◌∙◌, ◌+◌, ◌-◌, ◌≤◌, [], ◌∷◌, ◌++◌, map, ap, arith, refl, subst, sym, Some, deque_len, deque_capacity}
+use Rattle.std.proofs.Common.{◌≡◌, ◌∙◌, ◌+◌, ◌≤◌, [], ◌∷◌, ◌++◌, map, ap, arith, refl, subst, sym, Some}
 use Rattle.std.proofs.lemmas.List.{map-append}
 use Rattle.lt_modes.specs.State.{SetState, Made}
-use Rattle.lt_modes.specs.SetMove.{dealt, route, route_by}
+use Rattle.lt_modes.specs.Routing.{dealt, route, route_by}
 use Rattle.lt_desk.specs.DeskData.{out_after}
 use Rattle.lt_desk.specs.LetterSeen.{parked_seen}
-use Rattle.lt_core.specs.CoreData.{CoreData, HasRoom, desk_seen, room_by, tells_by, waiting_here}
+use Rattle.lt_core.specs.CoreData.{CoreData, HasRoom, desk_seen, waiting_here}
 use Rattle.lt_core.proofs.NoticeLemmas.{room_less, room_parked, out_silent}
 use Rattle.lt_core.proofs.StepLemmas.{place_left, room_dealt}
+use Rattle.lt_core.proofs.StateSeen.{core_of, state_of}
 use Rattle.lt_core.proofs.one_set.Core.route.Goals as goal
 
 pub deal-requires : goal.deal-requires
@@ -22,18 +23,7 @@ returns-in-Some-clause-does c =
     let before = c.self.inside in
     let item = parked_seen c.args.item in
     let out = c.args.out.now in
-    let s : SetState = record {
-      held = before.held.rows;
-      charge = before.charge;
-      frozen = before.frozen;
-      number = before.number;
-      firm = before.links.firm;
-      hoped = before.links.hoped;
-      pending = before.pending;
-      parked = map parked_seen before.parked.items;
-      desk = desk_seen before.desk;
-      gone = before.marks.clients;
-    } in
+    let s : SetState = state_of before in
     let here : s.desk ≡ Some c.in-Some.desk.desk = ap desk_seen c.in-Some.is in
     let after = record s { desk = Some (dealt c.in-Some.desk.desk item) } in
     let whole = λ (k : CoreData). route k.set c.args.stamp c.args.by_hoped item k.state in
@@ -49,27 +39,7 @@ pub returns-in-Some-clause-room : goal.returns-in-Some-clause-room
 returns-in-Some-clause-room c = λ k clock room.
     let before = c.self.inside in
     let left = c.deal.ensures in
-    let seen : CoreData = record {
-      node = before.links.me;
-      set = before.set;
-      state = record {
-        held = before.held.rows;
-        charge = before.charge;
-        frozen = before.frozen;
-        number = before.number;
-        firm = before.links.firm;
-        hoped = before.links.hoped;
-        pending = before.pending;
-        parked = map parked_seen before.parked.items;
-        desk = desk_seen before.desk;
-        gone = before.marks.clients;
-      };
-      room = room_by before.desk before.held.spare;
-      row_room = before.held.spare;
-      parked_room = deque_capacity before.parked - deque_len before.parked;
-      tell_room = tells_by before.spare;
-      mark_room = before.marks.room;
-    } in
+    let seen : CoreData = core_of before in
     room_dealt k clock seen before.desk c.in-Some.desk c.deal.new.desk before.held.spare (parked_seen c.args.item) (subst (HasRoom (k + 1) clock) (sym c.self.view_is) room)
     c.in-Some.is left.queue left.numbers left.room left.spare
 
@@ -79,18 +49,7 @@ returns-in-Park-clause-room c =
     let pushed = c.push_back_reserved.ensures in
     let parked : map parked_seen c.push_back_reserved.new.self.items ≡ map parked_seen before.parked.items ++ parked_seen c.args.item ∷ [] =
     ap (map parked_seen) pushed.items ∙ map-append parked_seen before.parked.items (c.args.item ∷ []) in
-    let state : SetState = record {
-      held = before.held.rows;
-      charge = before.charge;
-      frozen = before.frozen;
-      number = before.number;
-      firm = before.links.firm;
-      hoped = before.links.hoped;
-      pending = before.pending;
-      parked = map parked_seen before.parked.items;
-      desk = desk_seen before.desk;
-      gone = before.marks.clients;
-    } in
+    let state : SetState = state_of before in
     rw (← c.self.view_is)
     (λ k clock room. room_parked _ _ (parked_seen c.args.item) k clock (λ i. record state { parked = parked i }) refl (omega (arith, pushed.len, pushed.capacity)) (omega arith) room)
 

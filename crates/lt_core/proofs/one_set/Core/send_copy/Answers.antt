@@ -1,11 +1,11 @@
-use Rattle.std.proofs.Common.{◌≡◌, ◌∙◌, ◌+◌, ◌≤◌, ◌<◌, ◌++◌, [], ◌∷◌, Some, ap, length, map, refl, slice_index_or, subst, sym}
+use Rattle.std.proofs.Common.{◌≡◌, ◌∙◌, ◌+◌, ◌≤◌, ◌<◌, ◌++◌, [], ◌∷◌, Some, ap, length, refl, slice_index_or, subst, sym}
 use Rattle.lt_modes.specs.Serving.{ask_at, owed_at, queue_of_desk}
 use Rattle.lt_modes.specs.State.{SetState, CopyBody, no_ask, post_of}
 use Rattle.lt_modes.specs.declared.event.Event.TheVariants as event
 use Rattle.lt_desk.specs.DeskData.{OutData}
-use Rattle.lt_desk.specs.LetterSeen.{parked_seen}
 use Rattle.lt_core.specs.CoreData.{CoreData, desk_seen, room_by}
 use Rattle.lt_core.proofs.StepLemmas.{line_left, post_left, owed_left, desk_room}
+use Rattle.lt_core.proofs.StateSeen.{state_of}
 use Rattle.lt_core.proofs.one_set.Core.send_copy.Goals as goal
 
 pub copy-ask-requires-clause-place : goal.copy-ask-requires-clause-place
@@ -35,18 +35,7 @@ returns-clause-does c =
     let stamp = c.args.stamp in
     let out : OutData = c.args.out.now in
     let k = c.args.k in
-    let s : SetState = record {
-      held = before.held.rows;
-      charge = before.charge;
-      frozen = before.frozen;
-      number = before.number;
-      firm = before.links.firm;
-      hoped = before.links.hoped;
-      pending = before.pending;
-      parked = map parked_seen before.parked.items;
-      desk = desk_seen before.desk;
-      gone = before.marks.clients;
-    } in
+    let s : SetState = state_of before in
     let here : s.desk ≡ Some c.in-Some.desk.desk = ap desk_seen c.in-Some.is in
     let is : c.copy-ask.result ≡ ask_at s k = c.copy-ask.ensures.ask ∙ ap (λ o. slice_index_or (queue_of_desk o) k no_ask) (sym here) in
     let pushed = c.push_event.ensures in

@@ -1,12 +1,12 @@
-use Rattle.std.proofs.Common.{◌≡◌, ◌∙◌, ◌+◌, ◌<◌, [], ◌∷◌, ◌++◌, Some, None, length, slice_index_or, map, ap, refl, subst, sym}
+use Rattle.std.proofs.Common.{◌≡◌, ◌∙◌, ◌+◌, ◌<◌, [], ◌∷◌, ◌++◌, Some, None, length, slice_index_or, ap, refl, subst, sym}
 use Rattle.lt_modes.specs.declared.event.Event.TheVariants.{Token}
 use Rattle.lt_modes.specs.State.{SetState, Desk, TokenBody, post_of, no_ask}
-use Rattle.lt_modes.specs.Serving.{leaving, without_desk}
+use Rattle.lt_modes.specs.HandingOver.{leaving, without_desk}
 use Rattle.lt_link.specs.LinksData.{LinksData}
 use Rattle.lt_desk.specs.DeskData.{OutData}
-use Rattle.lt_desk.specs.LetterSeen.{parked_seen}
-use Rattle.lt_core.specs.CoreData.{CoreData, desk_seen}
+use Rattle.lt_core.specs.CoreData.{CoreData}
 use Rattle.lt_core.proofs.StepLemmas.{line_left, post_left}
+use Rattle.lt_core.proofs.StateSeen.{state_of}
 use Rattle.lt_core.proofs.one_set.Core.send_desk.Goals as goal
 
 pub hand_over-requires-clause-epoch : goal.hand_over-requires-clause-epoch
@@ -26,18 +26,7 @@ returns c =
     let desk : Desk = c.args.desk.desk in
     let out : OutData = c.args.out.now in
     let v = (slice_index_or desk.queue c.args.k no_ask).node in
-    let s : SetState = record {
-      held = before.held.rows;
-      charge = before.charge;
-      frozen = before.frozen;
-      number = before.number;
-      firm = before.links.firm;
-      hoped = before.links.hoped;
-      pending = before.pending;
-      parked = map parked_seen before.parked.items;
-      desk = desk_seen before.desk;
-      gone = before.marks.clients;
-    } in
+    let s : SetState = state_of before in
     let to : c.ask-to.result.node ≡ v = ap (λ ask. ask.node) c.ask-to.ensures in
     let left : c.hand_over.new.self.desk ≡ leaving stamp s desk =
     c.hand_over.ensures.desk (record s { desk = Some desk }) (record { here = refl; rows = refl; unanswered = c.stamps.ensures }) in

@@ -1,5 +1,5 @@
 use Rattle.std.proofs.Common.{◌≡◌, ◌∙◌, ◌++◌, [], ◌∷◌, ap, append-nil, subst, sym}
-use Rattle.lt_modes.specs.SetMove.{body_of, reversed}
+use Rattle.lt_modes.specs.Routing.{body_of, reversed}
 use Rattle.lt_modes.specs.State.{post_of}
 use Rattle.lt_desk.specs.DeskData.{OutData}
 use Rattle.lt_desk.specs.LetterSeen.{parked_seen}

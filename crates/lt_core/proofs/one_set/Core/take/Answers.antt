@@ -1,6 +1,7 @@
 use Rattle.std.proofs.Common.{sym, subst, ℕ}
 use Rattle.lt_modes.specs.State.{then_do}
-use Rattle.lt_modes.specs.SetMove.{arrive, finish}
+use Rattle.lt_modes.specs.SetMove.{finish}
+use Rattle.lt_modes.specs.Taking.{arrive}
 use Rattle.lt_desk.specs.LetterSeen.{letter_seen}
 use Rattle.lt_desk.specs.DeskData.{FitsOut}
 use Rattle.lt_core.specs.CoreData.{Does}

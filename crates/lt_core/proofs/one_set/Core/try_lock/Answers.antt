@@ -1,5 +1,5 @@
 use Rattle.std.proofs.Common.{◌≡◌, ◌∙◌, ◌<◌, ◌++◌, [], ◌∷◌, ℕ, Bool, true, false, None, ap, if◌then◌else◌, length, refl, subst, sym}
-use Rattle.lt_modes.specs.Freezing.{can_grant}
+use Rattle.lt_modes.specs.Granting.{can_grant}
 use Rattle.lt_modes.specs.SetMove.{answers, given}
 use Rattle.lt_modes.specs.State.{Made, SetState}
 use Rattle.lt_modes.specs.declared.event.Event.TheVariants as event

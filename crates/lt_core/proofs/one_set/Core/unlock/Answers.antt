@@ -1,4 +1,4 @@
-use Rattle.std.proofs.Common.{◌≡◌, ◌∙◌, ◌==◌, ◌<◌, ◌≤◌, ◌+◌, ℕ, Bool, true, false, ap, arith, if◌then◌else◌, length, map, refl, subst, sym}
+use Rattle.std.proofs.Common.{◌≡◌, ◌∙◌, ◌==◌, ◌<◌, ◌≤◌, ◌+◌, ℕ, Bool, true, false, ap, arith, if◌then◌else◌, length, refl, subst, sym}
 use Rattle.std.specs.Bool.{OnFalse}
 use Rattle.lt_modes.specs.Modes.{count_of, take_lock}
 use Rattle.lt_modes.specs.SetMove.{answers}
@@ -7,10 +7,10 @@ use Rattle.lt_modes.specs.declared.event.Event.TheVariants as event
 use Rattle.lt_modes.specs.declared.mode.Mode.{Mode}
 use Rattle.lt_held.specs.HeldData.{HeldData}
 use Rattle.lt_desk.specs.DeskData.{OutData, FitsOut, out_after}
-use Rattle.lt_desk.specs.LetterSeen.{parked_seen}
-use Rattle.lt_core.specs.CoreData.{CoreData, HasRoom, desk_seen}
+use Rattle.lt_core.specs.CoreData.{CoreData, HasRoom}
 use Rattle.lt_core.specs.declared.set_command.Answer.TheVariants.{NotHeld, Unlocked}
 use Rattle.lt_core.proofs.CommandLemmas.{room_for_line, line_sent, no_less, room_by_more, room_held, not_false, not_true}
+use Rattle.lt_core.proofs.StateSeen.{state_of}
 use Rattle.lt_core.proofs.one_set.Core.unlock.Goals as goal
 
 abbrev by_count : ℕ → ℕ → Mode → SetState → Bool → Made
@@ -47,18 +47,7 @@ returns-then-not-take-clause-does c =
     let line = event.NotHeld c.args.client before.set c.args.mode in
     let none = not_false (count_of before.held.rows c.args.client c.args.mode == 0) c.take.result c.take.ensures.taken c.if-not-take.true in
     let kept : c.take.new.self.rows ≡ before.held.rows = ap (λ (h : HeldData). h.rows) (subst (λ b. OnFalse b (c.take.new.self ≡ before.held)) c.if-not-take.true c.take.ensures.unchanged) in
-    let s : SetState = record {
-      held = before.held.rows;
-      charge = before.charge;
-      frozen = before.frozen;
-      number = before.number;
-      firm = before.links.firm;
-      hoped = before.links.hoped;
-      pending = before.pending;
-      parked = map parked_seen before.parked.items;
-      desk = desk_seen before.desk;
-      gone = before.marks.clients;
-    } in
+    let s : SetState = state_of before in
     let is = sym (ap (by_count before.set c.args.client c.args.mode s) none) in
     rw (← c.self.view_is)
     (record {
@@ -85,18 +74,7 @@ returns-clause-does c =
     let out = c.args.out.now in
     let line = event.Unlock c.args.client before.set c.args.mode in
     let some = not_true (count_of before.held.rows c.args.client c.args.mode == 0) c.take.result c.take.ensures.taken c.if-not-take.false in
-    let s : SetState = record {
-      held = before.held.rows;
-      charge = before.charge;
-      frozen = before.frozen;
-      number = before.number;
-      firm = before.links.firm;
-      hoped = before.links.hoped;
-      pending = before.pending;
-      parked = map parked_seen before.parked.items;
-      desk = desk_seen before.desk;
-      gone = before.marks.clients;
-    } in
+    let s : SetState = state_of before in
     let is = sym (ap (by_count before.set c.args.client c.args.mode s) some) in
     rw (← c.self.view_is)
     (record {

@@ -1,12 +1,13 @@
-use Rattle.std.proofs.Common.{◌≡◌, ◌-◌, ◌<◌, ◌++◌, [], ◌∷◌, List, false, length, map, subst, sym, deque_len, deque_capacity}
+use Rattle.std.proofs.Common.{◌≡◌, ◌<◌, ◌++◌, [], ◌∷◌, List, false, length, subst, sym}
 use Rattle.lt_modes.specs.State.{SetState, ParkedAsk}
-use Rattle.lt_modes.specs.SetMove.{ask_of, asked, route}
+use Rattle.lt_modes.specs.SetMove.{ask_of, asked}
+use Rattle.lt_modes.specs.Routing.{route}
 use Rattle.lt_modes.specs.declared.ask.Ask.{Ask}
 use Rattle.lt_desk.specs.DeskData.{FitsOut}
-use Rattle.lt_desk.specs.LetterSeen.{parked_seen}
-use Rattle.lt_core.specs.CoreData.{CoreData, Does, HasRoom, desk_seen, room_by, tells_by}
+use Rattle.lt_core.specs.CoreData.{CoreData, Does, HasRoom}
 use Rattle.lt_core.proofs.NoticeLemmas.{room_less}
 use Rattle.lt_core.proofs.CommandLemmas.{room_for_wait, asked_does, asked_fits}
+use Rattle.lt_core.proofs.StateSeen.{core_of, state_of}
 use Rattle.lt_core.proofs.one_set.Core.wait.Goals as goal
 
 pub push-requires : goal.push-requires
@@ -30,28 +31,8 @@ pub route-requires-clause-fits : goal.route-requires-clause-fits
 route-requires-clause-fits c =
     let before = c.self.inside in
     let stamp = c.args.stamp in
-    let s : SetState = record {
-      held = before.held.rows;
-      charge = before.charge;
-      frozen = before.frozen;
-      number = before.number;
-      firm = before.links.firm;
-      hoped = before.links.hoped;
-      pending = before.pending;
-      parked = map parked_seen before.parked.items;
-      desk = desk_seen before.desk;
-      gone = before.marks.clients;
-    } in
-    let seen : CoreData = record {
-      node = before.links.me;
-      set = before.set;
-      state = s;
-      room = room_by before.desk before.held.spare;
-      row_room = before.held.spare;
-      parked_room = deque_capacity before.parked - deque_len before.parked;
-      tell_room = tells_by before.spare;
-      mark_room = before.marks.room;
-    } in
+    let s : SetState = state_of before in
+    let seen : CoreData = core_of before in
     let mine = ask_of stamp c.args.client c.args.mode c.args.gives_up s in
     let ask : Ask = record mine { holder = c.is_holder.result } in
     let is : ask ≡ mine = λ i. record mine { holder = c.is_holder.ensures i } in
@@ -64,28 +45,8 @@ pub returns-clause-does : goal.returns-clause-does
 returns-clause-does c =
     let before = c.self.inside in
     let stamp = c.args.stamp in
-    let s : SetState = record {
-      held = before.held.rows;
-      charge = before.charge;
-      frozen = before.frozen;
-      number = before.number;
-      firm = before.links.firm;
-      hoped = before.links.hoped;
-      pending = before.pending;
-      parked = map parked_seen before.parked.items;
-      desk = desk_seen before.desk;
-      gone = before.marks.clients;
-    } in
-    let seen : CoreData = record {
-      node = before.links.me;
-      set = before.set;
-      state = s;
-      room = room_by before.desk before.held.spare;
-      row_room = before.held.spare;
-      parked_room = deque_capacity before.parked - deque_len before.parked;
-      tell_room = tells_by before.spare;
-      mark_room = before.marks.room;
-    } in
+    let s : SetState = state_of before in
+    let seen : CoreData = core_of before in
     let mine = ask_of stamp c.args.client c.args.mode c.args.gives_up s in
     let ask : Ask = record mine { holder = c.is_holder.result } in
     let is : ask ≡ mine = λ i. record mine { holder = c.is_holder.ensures i } in

@@ -2,7 +2,8 @@ use Rattle.std.proofs.Common.{◌≡◌, ◌∙◌, ◌+◌, ◌<◌, length, ta
 use Rattle.lt_modes.specs.Modes.{bars, one}
 use Rattle.lt_modes.specs.declared.ask.Ask.{Ask}
 use Rattle.lt_modes.specs.State.{modes_of_asks, no_ask}
-use Rattle.lt_modes.specs.Serving.{may_draw, next_service, next_draw, draw_from}
+use Rattle.lt_modes.specs.Serving.{next_service}
+use Rattle.lt_modes.specs.HandingOver.{may_draw, next_draw, draw_from}
 use Rattle.lt_modes.proofs.ModeAlgebra.{bars_of_none}
 use Rattle.lt_desk.specs.Picks.{first_of, is_service, IsInQueue}
 use Rattle.lt_desk.specs.declared.pick.Pick.TheVariants.{Local, Copy}

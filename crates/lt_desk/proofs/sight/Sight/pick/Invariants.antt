@@ -1,7 +1,8 @@
 use Rattle.std.proofs.Common.{◌≡◌, ◌<◌, drop, take, length, IfSome}
 use Rattle.lt_modes.specs.Modes.{bars}
 use Rattle.lt_modes.specs.State.{modes_of_asks}
-use Rattle.lt_modes.specs.Serving.{next_from, draw_from, next_service, next_draw}
+use Rattle.lt_modes.specs.Serving.{next_from, next_service}
+use Rattle.lt_modes.specs.HandingOver.{draw_from, next_draw}
 use Rattle.lt_desk.specs.Sights.{sight_state, desk_of}
 use Rattle.lt_desk.specs.Picks.{first_of}
 use Rattle.lt_desk.proofs.sight.Sight.pick.Given as goal

@@ -1,7 +1,7 @@
 use Rattle.std.proofs.Common.{◌∙◌, ◌<◌, ◌&&◌, Bool, Option, Some, ap, eq-eqb, length, ne_eqb, subst, sym}
 use Rattle.lt_modes.specs.declared.command.Command.{Command}
 use Rattle.lt_modes.specs.State.{SetState}
-use Rattle.lt_modes.specs.Serving.{waits}
+use Rattle.lt_modes.specs.Waiting.{waits}
 use Rattle.lt_spec.specs.NodeMove.{withdraws_itself}
 use Rattle.lt_node.specs.NodeData.{state_of}
 use Rattle.lt_node.specs.Touched.{named_set}

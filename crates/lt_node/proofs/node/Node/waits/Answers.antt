@@ -1,6 +1,6 @@
 use Rattle.std.proofs.Common.{◌∙◌, ℕ, ap, length, refl, sym}
 use Rattle.lt_lists.specs.Below.{any_below}
-use Rattle.lt_modes.specs.Serving.{waits}
+use Rattle.lt_modes.specs.Waiting.{waits}
 use Rattle.lt_core.specs.CoreData.{CoreData}
 use Rattle.lt_node.specs.NodeData.{NodeData, core_at}
 use Rattle.lt_node.proofs.NodeSets.{core_held}

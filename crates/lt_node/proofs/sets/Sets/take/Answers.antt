@@ -1,7 +1,7 @@
 use Rattle.std.proofs.Common.{◌∙◌, ap, length, subst, sym}
 use Rattle.lt_desk.specs.DeskData.{FitsOut}
 use Rattle.lt_desk.specs.LetterSeen.{letter_seen}
-use Rattle.lt_modes.specs.SetMove.{take}
+use Rattle.lt_modes.specs.Taking.{take}
 use Rattle.lt_core.specs.CoreData.{CoreData, HasRoom, RoomForBody}
 use Rattle.lt_node.specs.Sets.{SetsData}
 use Rattle.lt_node.proofs.CountLemmas.{few_left}

@@ -1,64 +1,21 @@
-use Rattle.std.proofs.Common.{◌++◌, ◌∙◌, List, [], ◌∷◌, ap, arith, length-set, slice_index_or, sym}
-use Rattle.lt_core.specs.CoreData.{CoreData}
-use Rattle.lt_node.specs.Sets.{SetsData, core_by}
-use Rattle.lt_node.proofs.SetsLemmas.{core_is_of, made_kept, made_other, made_touched, stored_more}
-use Rattle.lt_node.proofs.StoredLemmas.{core_seen, in_places, none_with_room, place_read, same_sets}
+use Rattle.std.proofs.Common.{◌∙◌, ap, arith, slice_index_or}
+use Rattle.lt_node.specs.Sets.{SetsData}
+use Rattle.lt_node.proofs.StoredLemmas.{in_places, none_with_room, place_read}
 use Rattle.lt_node.proofs.sets.Sets.touch.Goals as goal
 
 pub index-requires : goal.index-requires
 index-requires c = omega (arith, c.self.inside.places.ok.0, in_places c.self.inside.nodes c.self.inside.me c.self.inside.places.items c.self.inside.cores.items c.args.self.now c.self.view_is c.args.set c.requires)
-
-pub index_mut-requires : goal.index_mut-requires
-index_mut-requires c = omega (arith, c.self.inside.places.ok.0, in_places c.self.inside.nodes c.self.inside.me c.self.inside.places.items c.self.inside.cores.items c.args.self.now c.self.view_is c.args.set c.requires)
 
 pub returns-then-index-ne0-clause-touched : goal.returns-then-index-ne0-clause-touched
 returns-then-index-ne0-clause-touched c =
     let read = place_read c.self.inside.nodes c.self.inside.me c.self.inside.places.items c.self.inside.cores.items c.args.self.now c.self.view_is c.args.set c.index.result.now c.requires c.index.ensures in
     omega (arith, c.if-index-ne0.true, read, ap (λ (d : SetsData). slice_index_or d.places c.args.set 0) c.self.view_is)
 
-pub returns-in_err-reserve-clause-full : goal.returns-in_err-reserve-clause-full
-returns-in_err-reserve-clause-full c = λ memory. absurd (none_with_room c.self.inside.nodes c.self.inside.me c.self.inside.places.items c.self.inside.cores.items c.args.self.now c.self.view_is c.args.set (place_read c.self.inside.nodes c.self.inside.me c.self.inside.places.items c.self.inside.cores.items c.args.self.now c.self.view_is c.args.set c.index.result.now c.requires c.index.ensures ∙ c.if-index-ne0.false) memory)
+pub make-requires-clause-untouched : goal.make-requires-clause-untouched
+make-requires-clause-untouched c = omega (arith, ap (λ (d : SetsData). slice_index_or d.places c.args.set 0) c.self.view_is, place_read c.self.inside.nodes c.self.inside.me c.self.inside.places.items c.self.inside.cores.items c.args.self.now c.self.view_is c.args.set c.index.result.now c.requires c.index.ensures, c.if-index-ne0.false)
 
-pub returns-in_err-core-clause-full : goal.returns-in_err-core-clause-full
-returns-in_err-core-clause-full c = λ memory. absurd (none_with_room c.self.inside.nodes c.self.inside.me c.self.inside.places.items c.self.inside.cores.items c.args.self.now c.self.view_is c.args.set (place_read c.self.inside.nodes c.self.inside.me c.self.inside.places.items c.self.inside.cores.items c.args.self.now c.self.view_is c.args.set c.index.result.now c.requires c.index.ensures ∙ c.if-index-ne0.false) memory)
-
-pub invariant_of-self-2 : goal.invariant_of-self-2
-invariant_of-self-2 c =
-    stored_more c.self.inside.nodes c.self.inside.me c.self.inside.first c.self.inside.places.items c.self.inside.cores.items c.self.inside.waiting.items c.self.invariant c.args.set c.len.result c.in_ok-core.core c.push_reserved.new.self.items
-    (place_read c.self.inside.nodes c.self.inside.me c.self.inside.places.items c.self.inside.cores.items c.args.self.now c.self.view_is c.args.set c.index.result.now c.requires c.index.ensures ∙ c.if-index-ne0.false)
-    (in_places c.self.inside.nodes c.self.inside.me c.self.inside.places.items c.self.inside.cores.items c.args.self.now c.self.view_is c.args.set c.requires) (c.push_reserved.ensures.items ∙ ap (λ (l : List CoreData). l ++ c.in_ok-core.core ∷ []) c.reserve.ensures.items) (c.len.ensures ∙ c.push_reserved.new.self.ok.0)
-    (record { node = c.in_ok-core.ensures.place.0; set = c.in_ok-core.ensures.place.1 }) c.in_ok-core.ensures.state
-
-pub returns-clause-same : goal.returns-clause-same
-returns-clause-same c =
-    same_sets c.self.inside.nodes c.self.inside.me c.self.inside.places.items c.self.inside.cores.items c.args.self.now c.self.view_is _ c.push_reserved.new.self.items (length-set c.self.inside.places.items c.args.set c.len.result)
-    (made_kept c.self.inside.nodes c.self.inside.me c.self.inside.first c.self.inside.places.items c.self.inside.cores.items c.self.inside.waiting.items c.self.invariant c.args.set c.len.result c.in_ok-core.core c.push_reserved.new.self.items
-    (place_read c.self.inside.nodes c.self.inside.me c.self.inside.places.items c.self.inside.cores.items c.args.self.now c.self.view_is c.args.set c.index.result.now c.requires c.index.ensures ∙ c.if-index-ne0.false)
-    (in_places c.self.inside.nodes c.self.inside.me c.self.inside.places.items c.self.inside.cores.items c.args.self.now c.self.view_is c.args.set c.requires) (c.push_reserved.ensures.items ∙ ap (λ (l : List CoreData). l ++ c.in_ok-core.core ∷ []) c.reserve.ensures.items) (c.len.ensures ∙ c.push_reserved.new.self.ok.0)
-    (record { node = c.in_ok-core.ensures.place.0; set = c.in_ok-core.ensures.place.1 }) c.in_ok-core.ensures.state)
-
-pub returns-clause-others : goal.returns-clause-others
-returns-clause-others c = λ other differ.
-    core_is_of c.self.inside.nodes c.self.inside.me _ c.push_reserved.new.self.items other
-    ∙ made_other c.self.inside.nodes c.self.inside.me c.self.inside.first c.self.inside.places.items c.self.inside.cores.items c.self.inside.waiting.items c.self.invariant c.args.set c.len.result c.in_ok-core.core c.push_reserved.new.self.items
-    (place_read c.self.inside.nodes c.self.inside.me c.self.inside.places.items c.self.inside.cores.items c.args.self.now c.self.view_is c.args.set c.index.result.now c.requires c.index.ensures ∙ c.if-index-ne0.false)
-    (in_places c.self.inside.nodes c.self.inside.me c.self.inside.places.items c.self.inside.cores.items c.args.self.now c.self.view_is c.args.set c.requires) (c.push_reserved.ensures.items ∙ ap (λ (l : List CoreData). l ++ c.in_ok-core.core ∷ []) c.reserve.ensures.items) (c.len.ensures ∙ c.push_reserved.new.self.ok.0)
-    (record { node = c.in_ok-core.ensures.place.0; set = c.in_ok-core.ensures.place.1 }) c.in_ok-core.ensures.state other differ
-    ∙ sym (core_seen c.self.inside.nodes c.self.inside.me c.self.inside.places.items c.self.inside.cores.items c.args.self.now c.self.view_is other)
-
-pub returns-clause-touched : goal.returns-clause-touched
-returns-clause-touched c =
-    made_touched c.self.inside.nodes c.self.inside.me c.self.inside.first c.self.inside.places.items c.self.inside.cores.items c.self.inside.waiting.items c.self.invariant c.args.set c.len.result c.in_ok-core.core c.push_reserved.new.self.items
-    (place_read c.self.inside.nodes c.self.inside.me c.self.inside.places.items c.self.inside.cores.items c.args.self.now c.self.view_is c.args.set c.index.result.now c.requires c.index.ensures ∙ c.if-index-ne0.false)
-    (in_places c.self.inside.nodes c.self.inside.me c.self.inside.places.items c.self.inside.cores.items c.args.self.now c.self.view_is c.args.set c.requires) (c.push_reserved.ensures.items ∙ ap (λ (l : List CoreData). l ++ c.in_ok-core.core ∷ []) c.reserve.ensures.items) (c.len.ensures ∙ c.push_reserved.new.self.ok.0)
-    (record { node = c.in_ok-core.ensures.place.0; set = c.in_ok-core.ensures.place.1 }) c.in_ok-core.ensures.state
+pub returns-clause-full : goal.returns-clause-full
+returns-clause-full c = λ memory. absurd (none_with_room c.self.inside.nodes c.self.inside.me c.self.inside.places.items c.self.inside.cores.items c.args.self.now c.self.view_is c.args.set (place_read c.self.inside.nodes c.self.inside.me c.self.inside.places.items c.self.inside.cores.items c.args.self.now c.self.view_is c.args.set c.index.result.now c.requires c.index.ensures ∙ c.if-index-ne0.false) memory)
 
 pub returns-clause-had : goal.returns-clause-had
 returns-clause-had c = λ memory. absurd (none_with_room c.self.inside.nodes c.self.inside.me c.self.inside.places.items c.self.inside.cores.items c.args.self.now c.self.view_is c.args.set (place_read c.self.inside.nodes c.self.inside.me c.self.inside.places.items c.self.inside.cores.items c.args.self.now c.self.view_is c.args.set c.index.result.now c.requires c.index.ensures ∙ c.if-index-ne0.false) memory)
-
-pub returns-clause-mark : goal.returns-clause-mark
-returns-clause-mark c =
-    let none = place_read c.self.inside.nodes c.self.inside.me c.self.inside.places.items c.self.inside.cores.items c.args.self.now c.self.view_is c.args.set c.index.result.now c.requires c.index.ensures ∙ c.if-index-ne0.false in
-    let seen = core_seen c.self.inside.nodes c.self.inside.me c.self.inside.places.items c.self.inside.cores.items c.args.self.now c.self.view_is c.args.set
-    ∙ ap (core_by c.self.inside.nodes c.self.inside.me c.self.inside.cores.items c.args.set) none in
-    omega (arith, ap (λ (x : CoreData). x.mark_room) seen)

@@ -2,7 +2,7 @@ use Rattle.std.proofs.Common.{◌≡◌, ◌<◌, ◌==◌, ◌∙◌, ℕ, ap, 
 use Rattle.std.proofs.lemmas.List.{get_or_default}
 use Rattle.lt_lists.specs.Below.{any_below}
 use Rattle.lt_lists.proofs.Searches.{any_below_same}
-use Rattle.lt_modes.specs.Serving.{waits}
+use Rattle.lt_modes.specs.Waiting.{waits}
 use Rattle.lt_core.specs.CoreData.{CoreData}
 use Rattle.lt_node.specs.Sets.{core_in, core_of}
 use Rattle.lt_node.proofs.CountLemmas.{some_counted}

@@ -1,6 +1,6 @@
 use Rattle.std.proofs.Common.{◌∙◌, ap, arith, length, sym}
 use Rattle.lt_lists.proofs.Searches.{any_below_at}
-use Rattle.lt_modes.specs.Serving.{waits}
+use Rattle.lt_modes.specs.Waiting.{waits}
 use Rattle.lt_modes.specs.State.{SetState}
 use Rattle.lt_node.specs.Sets.{core_in}
 use Rattle.lt_node.proofs.sets.Sets.waits_in_some.Goals as goal

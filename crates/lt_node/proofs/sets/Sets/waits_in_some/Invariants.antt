@@ -1,5 +1,5 @@
 use Rattle.std.proofs.Common.{◌≡◌, false}
-use Rattle.lt_modes.specs.Serving.{waits}
+use Rattle.lt_modes.specs.Waiting.{waits}
 use Rattle.lt_lists.specs.Below.{any_below}
 use Rattle.lt_node.specs.Sets.{core_in}
 use Rattle.lt_node.proofs.sets.Sets.waits_in_some.Given as goal

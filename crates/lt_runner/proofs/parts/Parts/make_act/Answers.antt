@@ -1,5 +1,5 @@
 -- The client's next command is a move of the runner.
-use Rattle.lt_spec.specs.FixedOrder.{OfClient}
+use Rattle.lt_spec.specs.Plays.{OfClient}
 use Rattle.lt_spec.specs.NodeMove.{node_act}
 use Rattle.lt_node.specs.NodeData.{state_of}
 use Rattle.lt_runner.proofs.KeptLemmas.{kept_moved}

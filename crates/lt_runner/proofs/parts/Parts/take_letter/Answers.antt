@@ -1,7 +1,7 @@
 -- The letter's take is a move of the runner that had it in hand.
 use Rattle.std.proofs.Common.{refl, Some}
 use Rattle.lt_desk.specs.LetterSeen.{letter_seen}
-use Rattle.lt_spec.specs.FixedOrder.{OfLetter}
+use Rattle.lt_spec.specs.Plays.{OfLetter}
 use Rattle.lt_spec.specs.NodeMove.{node_take}
 use Rattle.lt_node.specs.NodeData.{state_of}
 use Rattle.lt_runner.proofs.KeptLemmas.{kept_moved}

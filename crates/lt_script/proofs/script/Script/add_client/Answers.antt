@@ -16,7 +16,7 @@ push-requires-clause-new c =
 pub push-requires-clause-few : goal.push-requires-clause-few
 push-requires-clause-few c =
     let room = subst (λ (v : ScriptData). length v.clients < most_clients v.version) (sym (c.self.view_is ∙ c.in_ok-own_parts.ensures)) c.requires.room in
-    rw (c.in-Some.ensures.value) (few_clients _ _ room)
+    rw (c.in-Some.ensures.value) (few_clients (script_data c.self.inside).version _ room)
 
 pub invariant_of-self : goal.invariant_of-self
 invariant_of-self c = c.self.invariant

@@ -1,5 +1,5 @@
 use Rattle.std.proofs.Common.{◌<◌, ◌∙◌, length, ap, arith, refl, rules, not}
-use Rattle.lt_modes.specs.Serving.{settled}
+use Rattle.lt_modes.specs.HandingOver.{settled}
 use Rattle.lt_table.specs.Seen.{entry_seen, spare_of}
 use Rattle.lt_table.proofs.StampLemmas.{settled_is}
 use Rattle.lt_table.proofs.KnownLemmas.{known_kept}

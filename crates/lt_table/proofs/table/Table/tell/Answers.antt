@@ -1,6 +1,6 @@
 use Rattle.std.proofs.Common.{◌<◌, length, ap, arith, refl, rules, not}
 use Rattle.lt_modes.specs.State.{Tell}
-use Rattle.lt_modes.specs.Serving.{told}
+use Rattle.lt_modes.specs.Telling.{told}
 use Rattle.lt_table.specs.Seen.{spare_of}
 use Rattle.lt_table.proofs.KnownLemmas.{known_kept}
 use Rattle.lt_table.proofs.RecountLemmas.{spare_set, entries_put, can_recount, recounted, still_kept}
