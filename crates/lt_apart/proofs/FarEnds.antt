@@ -6,11 +6,14 @@ use Rattle.lt_modes.specs.State.{Letter}
 use Rattle.lt_modes.specs.Script.{ScriptData}
 use Rattle.lt_mail.specs.declared.mail.Mail.{Mail}
 use Rattle.lt_mail.specs.declared.lane.InLane.{InLane}
-use Rattle.lt_mail.specs.Star.{AreFarEnds}
+use Rattle.lt_mail.specs.Star.{AreFarEnds, IsStar}
 use Rattle.lt_mail.specs.Words.{OutLane, out_at, in_at, outs_count, ins_count, sent_to, taken_from, Both, Alike, SameOut, SameIn, SameEnds, IsOpenLink}
 use Rattle.lt_runner.specs.declared.parts.Parts.{Parts}
-use Rattle.lt_live.proofs.SeatLists.{set_here, set_other}
+use Rattle.lt_live.specs.Live.{GoesOn}
+use Rattle.lt_live.proofs.SeatLists.{set_here, set_other, pushed, none_here}
+use Rattle.lt_live.specs.Stations.{StationData}
 use Rattle.lt_apart.specs.Remote.{AreCounts, HasFarEnds}
+use Rattle.lt_apart.specs.Telling.{OnlyLooks}
 
 linked : (o : Option OutLane) (i : Option InLane) (p : Option OutLane) (j : Option InLane) → Alike SameOut o p → Alike SameIn i j
     → Both IsOpenLink o i → Both IsOpenLink p j
@@ -71,4 +74,47 @@ far_ends_stay p q far later given brought h nodes near away taken sent = record 
   ends = far_ends_last p.mail q.mail far later h.ends near away;
   given_counts = counts_stay p.node.script.nodes q.node.script.nodes given (taken_from far) (taken_from later) nodes taken h.given_counts;
   brought_counts = counts_stay p.node.script.nodes q.node.script.nodes brought (sent_to far) (sent_to later) nodes sent h.brought_counts;
+}
+
+-- the runner goes on, and nothing went by them
+pub far_ends_go_on : (p q : Parts) (far later : Mail) (given brought : List ℕ) → HasFarEnds p far given brought → GoesOn p q
+    → SameEnds far later → ((node : ℕ) → taken_from later node ≡ taken_from far node) → ((node : ℕ) → sent_to later node ≡ sent_to far node)
+    → HasFarEnds q later given brought
+far_ends_go_on p q far later given brought h goes away taken sent =
+    far_ends_stay p q far later given brought h (ap (λ (s : ScriptData). s.nodes) goes.script) goes.ends away taken sent
+
+-- it looked at its rings
+pub far_ends_looked : (a b : StationData) (far later : Mail) (given brought : List ℕ) → HasFarEnds a.runner far given brought → OnlyLooks a b far later
+    → HasFarEnds b.runner later given brought
+far_ends_looked a b far later given brought h looks =
+    far_ends_stay a.runner b.runner far later given brought h (ap (λ (s : ScriptData). s.nodes) looks.runner.same.script) looks.runner.same.ends looks.ends
+    looks.given_stays looks.brought_stays
+
+-- None yet.
+
+abbrev no_letters : ℕ → List Letter
+no_letters node = []
+
+pub no_zero : AreCounts 0 [] no_letters
+no_zero = record { count = refl; each = λ node number e. none_here node number e }
+
+pub zero_more : (n : ℕ) (numbers : List ℕ) → AreCounts n numbers no_letters → AreCounts (n + 1) (numbers ++ 0 ∷ []) no_letters
+zero_more n numbers h = record {
+  count = omega (arith, length-append numbers (0 ∷ []), h.count);
+  each = λ node number e. elim (pushed numbers 0 node number e) [
+    | inl old ↦ h.each node number old
+    | inr new ↦ sym new.1
+  ];
+}
+
+-- the far ends of a runner that starts
+pub first_far_ends : (nodes me capacity : ℕ) (p : Parts) (mail far : Mail) (given brought : List ℕ) → IsStar nodes me capacity mail far → p.mail ≡ mail
+    → p.node.script.nodes ≡ nodes → AreCounts nodes given no_letters → AreCounts nodes brought no_letters → HasFarEnds p far given brought
+first_far_ends nodes me capacity p mail far given brought star is count given_none brought_none = record {
+  outs = star.far_fresh.outs ∙ sym count;
+  ins = star.far_fresh.ins ∙ sym count;
+  near = ap outs_count is ∙ (star.fresh.outs ∙ sym count);
+  ends = subst (λ (m : Mail). AreFarEnds m far) (sym is) star.ends;
+  given_counts = counts_stay nodes p.node.script.nodes given no_letters (taken_from far) count star.far_fresh.taken given_none;
+  brought_counts = counts_stay nodes p.node.script.nodes brought no_letters (sent_to far) count star.far_fresh.sent brought_none;
 }

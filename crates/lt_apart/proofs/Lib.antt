@@ -1,7 +1,7 @@
-pub mod Bringing
+pub mod BroughtIn
 pub mod FarEnds
 pub mod Frames
-pub mod Giving
+pub mod GivenOut
 pub mod Looking
 pub mod NodeFacts
 pub mod Standing

@@ -4,7 +4,7 @@ use Rattle.std.proofs.lemmas.Bool.{cases_eq}
 use Rattle.lt_modes.specs.State.{Letter}
 use Rattle.lt_mail.specs.declared.mail.Mail.{Mail}
 use Rattle.lt_mail.specs.Star.{AreFarEnds}
-use Rattle.lt_mail.specs.Words.{ring_given, sent_by, taken, known, out_at, in_at, on_out, on_in, sent_to, given_to, taken_from, known_from, outs_count, SameEnds}
+use Rattle.lt_mail.specs.Words.{ring_given, sent_by, taken, known, out_at, in_at, on_out, on_in, sent_to, given_to, taken_from, known_from, outs_count, SameEnds, AreLinkedAt}
 use Rattle.lt_mail.proofs.LookLemmas.{ends_same, ends_join}
 use Rattle.lt_runner.specs.declared.parts.Parts.{Parts}
 use Rattle.lt_runner.specs.Kept.{AsSeen, LooksTo, LooksFrom}
@@ -35,7 +35,7 @@ pub record LookedFrom (node : ℕ) (a b : StationData) (far far_now : Mail) : Ty
   pub whole : taken_from b.runner.mail node ++ known_from b.runner.mail node ≡ given_to far_now node
 
 -- all of a ring at the taking end
-all_in : Mail → ℕ → List Letter
+abbrev all_in : Mail → ℕ → List Letter
 all_in m node = taken_from m node ++ known_from m node
 
 same_in : (a b : Mail) (node : ℕ) → in_at b node ≡ in_at a node → all_in b node ≡ all_in a node
@@ -93,3 +93,10 @@ looked_none a far = record {
 -- far ends stay those of the runner that looked
 pub ends_looked : (a b : StationData) (far far_now : Mail) → OnlyLooks a b far far_now → AreFarEnds a.runner.mail far → AreFarEnds b.runner.mail far_now
 ends_looked a b far far_now h ends = far_ends_last a.runner.mail b.runner.mail far far_now ends h.runner.same.ends h.ends
+
+-- and then the ring from the node has its two ends there still
+pub linked_from : (node : ℕ) (a b : StationData) (far far_now : Mail) → LookedTo node a b far far_now → AreFarEnds a.runner.mail far
+    → node < outs_count a.runner.mail → AreLinkedAt node node far_now b.runner.mail
+linked_from node a b far far_now h ends below =
+    (far_ends_last a.runner.mail b.runner.mail far far_now ends h.looks.seen.same.ends h.ends).into node
+    (omega (arith, below, h.looks.seen.same.ends.counts.0))

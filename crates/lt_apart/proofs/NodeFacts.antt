@@ -23,8 +23,11 @@ use Rattle.lt_threads.specs.Meeting.{part_of, used_of}
 use Rattle.lt_threads.proofs.Joined.{used_is}
 use Rattle.lt_law_apart.specs.Apart.{NodeNow, IsNodeNow}
 use Rattle.lt_live.specs.OneNode.{IsOfScript}
-use Rattle.lt_live.specs.Stations.{StationData}
-use Rattle.lt_apart.specs.Telling.{KnowsRings}
+use Rattle.lt_live.specs.Served.{HasKeptRunner}
+use Rattle.lt_live.specs.Stations.{StationData, IsStation}
+use Rattle.lt_apart.specs.Remote.{HasFarEnds}
+use Rattle.lt_apart.specs.Telling.{KnowsRings, HasLooked}
+use Rattle.lt_apart.proofs.Standing.{script_lasts, seen_goes}
 
 -- what was sent is what the ring was given, and then what waits
 pub sent_is : (m : Mail) (node : ℕ) → sent_to m node ≡ given_to m node ++ waiting_to m node
@@ -85,37 +88,44 @@ node_is_now first x n s far is_script of own kept looked = record {
   given = λ q apart. given q;
 }
   where
-    abbrev p : Parts
-    p = s.runner
+    used_all : used_of s.runner ≡ kept.used
+    used_all = fun_ext (λ node. used_is s.runner kept node)
 
-    used_all : used_of p ≡ kept.used
-    used_all = fun_ext (λ node. used_is p kept node)
+    at_x : Plays s.runner.node.script x ((start s.runner.node.script).node x) s.runner.log.entries kept.used (sent_to s.runner.mail) (state_of s.runner.node)
+    at_x = subst (λ (k : ℕ). Plays s.runner.node.script k ((start s.runner.node.script).node k) s.runner.log.entries kept.used (sent_to s.runner.mail) (state_of s.runner.node)) of.me kept.plays
 
-    at_x : Plays p.node.script x ((start p.node.script).node x) p.log.entries kept.used (sent_to p.mail) (state_of p.node)
-    at_x = subst (λ (k : ℕ). Plays p.node.script k ((start p.node.script).node k) p.log.entries kept.used (sent_to p.mail) (state_of p.node)) of.me kept.plays
+    seen : Plays s.runner.node.script x ((start s.runner.node.script).node x) s.runner.log.entries (used_of s.runner) (sent_to s.runner.mail) (state_of s.runner.node)
+    seen = subst (λ (u : ℕ → List Letter). Plays s.runner.node.script x ((start s.runner.node.script).node x) s.runner.log.entries u (sent_to s.runner.mail) (state_of s.runner.node)) (sym used_all) at_x
 
-    seen : Plays p.node.script x ((start p.node.script).node x) p.log.entries (used_of p) (sent_to p.mail) (state_of p.node)
-    seen = subst (λ (u : ℕ → List Letter). Plays p.node.script x ((start p.node.script).node x) p.log.entries u (sent_to p.mail) (state_of p.node)) (sym used_all) at_x
+    plays : Plays (with_commands first s.runner.node.script.commands) x ((start first).node x) s.runner.log.entries (used_of s.runner) (sent_to s.runner.mail) (state_of s.runner.node)
+    plays = subst (λ (t : ScriptData). Plays t x ((start t).node x) s.runner.log.entries (used_of s.runner) (sent_to s.runner.mail) (state_of s.runner.node)) of.same seen
 
-    plays : Plays (with_commands first p.node.script.commands) x ((start first).node x) p.log.entries (used_of p) (sent_to p.mail) (state_of p.node)
-    plays = subst (λ (t : ScriptData). Plays t x ((start t).node x) p.log.entries (used_of p) (sent_to p.mail) (state_of p.node)) of.same seen
-
-    used : (q : ℕ) → IsPrefix (used_of p q) (sent_to far q)
+    used : (q : ℕ) → IsPrefix (used_of s.runner q) (sent_to far q)
     used q =
-        let hand = in_hand q p.hand in
-        let known_now = known_from p.mail q in
+        let hand = in_hand q s.runner.hand in
+        let known_now = known_from s.runner.mail q in
         let rest = waiting_to far q in
-        let took : taken_from p.mail q ≡ used_of p q ++ hand = kept.taken q ∙ ap (λ (letters : List Letter). letters ++ hand) (sym (used_is p kept q)) in
-        let all : sent_to far q ≡ ((used_of p q ++ hand) ++ known_now) ++ rest =
+        let took : taken_from s.runner.mail q ≡ used_of s.runner q ++ hand = kept.taken q ∙ ap (λ (letters : List Letter). letters ++ hand) (sym (used_is s.runner kept q)) in
+        let all : sent_to far q ≡ ((used_of s.runner q ++ hand) ++ known_now) ++ rest =
         sent_is far q ∙ (ap (λ (letters : List Letter). letters ++ rest) (sym (all_came n s far looked q)) ∙ ap (λ (letters : List Letter). (letters ++ known_now) ++ rest) took) in (
           hand ++ (known_now ++ rest),
-          sym (all ∙ (append_assoc (used_of p q ++ hand) known_now rest ∙ append_assoc (used_of p q) hand (known_now ++ rest))),
+          sym (all ∙ (append_assoc (used_of s.runner q ++ hand) known_now rest ∙ append_assoc (used_of s.runner q) hand (known_now ++ rest))),
         )
 
-    given : (q : ℕ) → IsPrefix (taken_from far q) (sent_to p.mail q)
+    given : (q : ℕ) → IsPrefix (taken_from far q) (sent_to s.runner.mail q)
     given q =
         let known_now = known_from far q in
-        let rest = waiting_to p.mail q in (
+        let rest = waiting_to s.runner.mail q in (
           known_now ++ rest,
-          sym (sent_is p.mail q ∙ (ap (λ (letters : List Letter). letters ++ rest) (sym (all_went n s far looked q)) ∙ append_assoc (taken_from far q) known_now rest)),
+          sym (sent_is s.runner.mail q ∙ (ap (λ (letters : List Letter). letters ++ rest) (sym (all_went n s far looked q)) ∙ append_assoc (taken_from far q) known_now rest)),
         )
+
+-- a node that looked at all its rings
+pub told_now : (first : ScriptData) (x : ℕ) (a b : StationData) (far far_now : Mail) (given brought : List ℕ) → HasFarEnds b.runner far_now given brought
+    → HasLooked a.runner.node.script.nodes a b far far_now → IsStation b.runner b.seats → HasKeptRunner b → IsOfScript first x a.runner
+    → IsNodeNow first x (now_by b.runner far_now)
+told_now first x a b far far_now given brought h looked station kept of =
+    node_is_now first x b.runner.node.script.nodes b far_now kept.is_script (script_lasts first x a.runner b.runner of (seen_goes a.runner b.runner looked.only.runner)) station.own kept.kept (record {
+      counts = (h.outs, h.ins, h.near, kept.kept.ins);
+      rings = λ node below. looked.rings node (omega (arith, below, ap (λ (s : ScriptData). s.nodes) looked.only.runner.same.script));
+    })

@@ -18,7 +18,14 @@ use Rattle.lt_live.specs.Stations.{StationData}
 use Rattle.lt_apart.specs.declared.fault.Refused.{Refused}
 use Rattle.lt_apart.specs.declared.fault.WireFault.{WireFault}
 use Rattle.lt_apart.specs.Faults.{IsWireCause}
-use Rattle.lt_apart.specs.Remote.{RemoteData, brought, given, wire_from, wire_to}
+use Rattle.lt_apart.specs.Remote.{RemoteData, me}
+
+-- how letters of the other node come, and how those for it go
+abbrev pub wire_from : RemoteData → ℕ → Wire
+wire_from r from = record { service = r.service; from = from; to = me r }
+
+abbrev pub wire_to : RemoteData → ℕ → Wire
+wire_to r to = record { service = r.service; from = me r; to = to }
 
 -- the frames of these letters, numbered from this one on
 abbrev pub frames : List ℕ → Wire → ℕ → List Letter → List ℕ

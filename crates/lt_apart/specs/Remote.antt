@@ -1,11 +1,12 @@
 -- A node in a process of its own.
 use Rattle.std.specs.Prelude.{◌≡◌, ◌<◌, ℕ, List, [], Some, length, slice_get}
 use Rattle.lt_modes.specs.Script.{ScriptData}
+use Rattle.lt_journal.specs.RunLines.{text_of}
 use Rattle.lt_modes.specs.State.{Letter}
 use Rattle.lt_mail.specs.declared.mail.Mail.{Mail}
+use Rattle.lt_script.specs.Printing.{print_of}
 use Rattle.lt_mail.specs.Star.{AreFarEnds}
 use Rattle.lt_mail.specs.Words.{outs_count, ins_count, sent_to, taken_from}
-use Rattle.lt_frames.specs.declared.frame.Wire.{Wire}
 use Rattle.lt_runner.specs.declared.parts.Parts.{Parts}
 use Rattle.lt_runner.specs.Kept.{AsSeen, RunnerInvariant}
 use Rattle.lt_threads.specs.Meeting.{part_of}
@@ -14,6 +15,7 @@ use Rattle.lt_live.specs.Live.{GoesOn}
 use Rattle.lt_live.specs.OneNode.{IsOpenNode}
 use Rattle.lt_live.specs.Stations.{StationData, StaySeated}
 use Rattle.lt_law_apart.specs.Apart.{NodeNow}
+use Rattle.lt_apart.specs.declared.journal.NodeJournal.{NodeJournal}
 
 -- the number and the key of its service, its station, and the far ends of the rings of the station's runner
 pub record RemoteData : Type 0 where
@@ -39,13 +41,6 @@ brought r from = sent_to r.far from
 -- the letters for the other node that were given out, in order
 abbrev pub given : RemoteData → ℕ → List Letter
 given r to = taken_from r.far to
-
--- how letters of the other node come, and how those for it go
-abbrev pub wire_from : RemoteData → ℕ → Wire
-wire_from r from = record { service = r.service; from = from; to = me r }
-
-abbrev pub wire_to : RemoteData → ℕ → Wire
-wire_to r to = record { service = r.service; from = me r; to = to }
 
 -- what can be said of the node by itself
 abbrev pub now_of : RemoteData → NodeNow
@@ -90,3 +85,8 @@ pub record IsOpenRemote (script : ScriptData) (node service : ℕ) (key : List �
 pub record StandsStill (a b : RemoteData) : Type 0 where
   pub runner : AsSeen a.station.runner b.station.runner
   pub seats : b.station.seats ≡ a.station.seats
+
+-- the texts of the script with the commands of the node's clients, and of the node's moves
+pub record IsJournalOf (r : RemoteData) (journal : NodeJournal) : Type 0 where
+  pub script : journal.script.items ≡ print_of r.station.runner.node.script
+  pub moves : journal.moves.items ≡ text_of r.station.runner.node.script r.station.runner.log.entries (Some (me r))

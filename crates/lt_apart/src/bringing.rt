@@ -4,8 +4,8 @@ ghost use Rattle.lt_modes.specs.State.{Letter};
 ghost use Rattle.lt_mail.specs.Words.{outs_count, sent_to, SameEnds};
 ghost use Rattle.lt_frames.specs.Causes.{IsUnfinished};
 ghost use Rattle.lt_frames.specs.Seen.{IsFrameAt};
-ghost use Rattle.lt_apart.specs.Remote.{AreCounts, brought, given, nodes, wire_from};
-ghost use Rattle.lt_apart.specs.Carrying.{BringsIn, BringsNext, OnlyBrings, StopsBringing, WaitsForMore, used_of};
+ghost use Rattle.lt_apart.specs.Remote.{AreCounts, brought, nodes};
+ghost use Rattle.lt_apart.specs.Carrying.{wire_from, BringsIn, BringsNext, OnlyBrings, StopsBringing, WaitsForMore, used_of};
 ghost use Rattle.lt_apart.specs.Faults.{IsWireCause};
 
 use crate::ends::Ends;

@@ -1,5 +1,5 @@
 // The far ends of a node's rings, and how many letters went through them.
-ghost use Rattle.std.specs.Prelude.{◌≡◌, IfOk};
+ghost use Rattle.std.specs.Prelude.{◌≡◌, [], IfOk};
 ghost use Rattle.lt_apart.specs.Remote.{AreCounts};
 
 use lt_mail::Mail;
@@ -15,6 +15,7 @@ pub(crate) struct Ends {
 }
 
 /// A zero for each node.
+#[tactic(auto, using(crate::proofs::FarEnds::no_zero))]
 pub(crate) fn no_letters(alloc: Global, nodes: u8) -> Result<Vec<u64>, AllocError>
     ensures { IfOk result (λ numbers. AreCounts nodes numbers.items (λ _. [])) }
 {

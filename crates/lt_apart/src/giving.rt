@@ -2,8 +2,8 @@
 ghost use Rattle.std.specs.Prelude.{◌≡◌, ◌<◌, ◌≤◌, Ok, Err, true, false, IfOk, OnErr};
 ghost use Rattle.lt_mail.specs.Words.{taken_from};
 ghost use Rattle.lt_frames.specs.declared.fault.WriteError.TheVariants as errors;
-ghost use Rattle.lt_apart.specs.Remote.{HasFarEnds, given, nodes, wire_to};
-ghost use Rattle.lt_apart.specs.Carrying.{GivesOut, OnlyGives, HasGivenAll, NextIsTooLong, gave};
+ghost use Rattle.lt_apart.specs.Remote.{HasFarEnds, CarriesNone, given, nodes};
+ghost use Rattle.lt_apart.specs.Carrying.{wire_to, GivesOut, OnlyGives, HasGivenAll, NextIsTooLong, gave};
 
 use crate::ends::Ends;
 use crate::remote::Remote;

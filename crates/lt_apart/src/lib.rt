@@ -5,11 +5,13 @@ mod bringing;
 mod ends;
 mod fault;
 mod giving;
+mod journal;
 mod laws;
 mod opening;
 mod remote;
 mod telling;
 
 pub use fault::{Refused, WireFault};
+pub use journal::NodeJournal;
 pub use laws::law_remote;
 pub use remote::Remote;

@@ -35,11 +35,12 @@ impl Remote {
         requires share { share ≤ most_share script.now }
         ensures { IfOk result (λ opened. IsOpenRemote script.now node service key.now limit places share opened.0 opened.1.items) }
     {
-        let (mail, far) = open_star(alloc, script.nodes(), node, LETTER_PLACES)?;
+        let nodes = script.nodes();
+        let (mail, far) = open_star(alloc, nodes, node, LETTER_PLACES)?;
         let ends = Ends {
             far,
-            given: no_letters(alloc, script.nodes())?,
-            brought: no_letters(alloc, script.nodes())?,
+            given: no_letters(alloc, nodes)?,
+            brought: no_letters(alloc, nodes)?,
         };
         let key = Vec::from_slice(alloc, key)?;
         let (station, sessions) = open_node(alloc, script, node, mail, limit, places, share)?;

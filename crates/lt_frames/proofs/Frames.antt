@@ -66,13 +66,13 @@ nothing_yet = Ok None
 abbrev pub one_found : Found → Result (Option Found) FrameFault
 one_found found = Ok (Some found)
 
-abbrev pub refused : FrameFault → Result (Option Found) FrameFault
-refused fault = Err fault
+abbrev pub has_fault : FrameFault → Result (Option Found) FrameFault
+has_fault fault = Err fault
 
 some_is : (x y : Found) → one_found x ≡ one_found y → x ≡ y
 some_is x y e = cc
 
-fault_is : (c d : FrameFault) → refused c ≡ refused d → c ≡ d
+fault_is : (c d : FrameFault) → has_fault c ≡ has_fault d → c ≡ d
 fault_is c d e = cc
 
 pub read_frames_are_written : ReadFramesAreWritten
@@ -85,7 +85,7 @@ read_frames_are_written key wire bytes found fits e = elim (outcome key wire byt
     neither : nothing_yet ≡ one_found found → ⊥
     neither e = cc
 
-    never : (fault : FrameFault) → refused fault ≡ one_found found → ⊥
+    never : (fault : FrameFault) → has_fault fault ≡ one_found found → ⊥
     never fault e = cc
 
     of_taken : IsTaken key wire bytes (frame_from key wire bytes)
@@ -109,10 +109,10 @@ frame_faults_have_causes key wire bytes fault fits e = elim (outcome key wire by
   | inr (inr taken) ↦ absurd (never (found_of key taken.0) (sym taken.1.1.1.1.1 ∙ e))
 ]
   where
-    neither : nothing_yet ≡ refused fault → ⊥
+    neither : nothing_yet ≡ has_fault fault → ⊥
     neither e = cc
 
-    never : (found : Found) → one_found found ≡ refused fault → ⊥
+    never : (found : Found) → one_found found ≡ has_fault fault → ⊥
     never found e = cc
 
 -- Frames one after the other.

@@ -16,7 +16,7 @@ use Rattle.lt_frames.specs.declared.frame.TheConstants.{HEAD, SEAL}
 use Rattle.lt_frames.specs.Reading.{Found, letter_in, frame_from}
 use Rattle.lt_frames.specs.Causes.{IsUnfinished, IsFrameCause, BeginWithFrame}
 use Rattle.lt_frames.specs.Seen.{frame_seen, on_wire, found_of, IsFrameAt, IsFound, FrameFails, FindsFrame}
-use Rattle.lt_frames.proofs.Frames.{nothing_yet, one_found, refused, frames_are_read, read_frames_are_written, frame_faults_have_causes}
+use Rattle.lt_frames.proofs.Frames.{nothing_yet, one_found, has_fault, frames_are_read, read_frames_are_written, frame_faults_have_causes}
 use Rattle.lt_frames.proofs.Outcomes.{IsTaken, outcome}
 
 abbrev Returned : Type 0
@@ -47,7 +47,7 @@ is_unfinished key wire bytes r fits given e =
       | inr (inr taken) ↦ absurd (neither (found_of key taken.0) (sym taken.1.1.1.1.1 ∙ none))
     ]
   where
-    never : (fault : FrameFault) → refused fault ≡ nothing_yet → ⊥
+    never : (fault : FrameFault) → has_fault fault ≡ nothing_yet → ⊥
     never fault e = cc
 
     neither : (found : Found) → one_found found ≡ nothing_yet → ⊥

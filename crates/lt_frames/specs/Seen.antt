@@ -10,6 +10,10 @@ use Rattle.lt_frames.specs.declared.fault.FrameError.TheVariants as errors
 use Rattle.lt_frames.specs.declared.frame.Frame.{Frame}
 use Rattle.lt_frames.specs.declared.frame.Wire.{Wire}
 
+-- the answer with this fault
+abbrev pub refused : FrameFault → Result (Option Frame) FrameError
+refused fault = Err (errors.Fault fault)
+
 -- a frame of the code as data
 abbrev pub frame_seen : Frame → Found
 frame_seen f = record { number = f.number; letter = letter_seen f.letter; size = f.size }

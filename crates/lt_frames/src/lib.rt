@@ -16,3 +16,4 @@ pub use frame::{Frame, HEAD, MAX_LETTER, SEAL, VERSION, Wire};
 pub use laws::law_frames;
 pub use reading::read_frame;
 pub use service::service_number;
+pub use writing::write_frame;

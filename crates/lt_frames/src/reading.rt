@@ -4,7 +4,7 @@ ghost use Rattle.lt_letters.specs.Reading.{whole_from};
 ghost use Rattle.lt_letters.specs.declared.fault.Fault.{Fault};
 ghost use Rattle.lt_frames.specs.Frames.{Numbered, frame_bytes, FrameFits};
 ghost use Rattle.lt_frames.specs.Reading.{frame_from, is_sealed, letter_in, rest_from};
-ghost use Rattle.lt_frames.specs.Seen.{FindsFrame, IsFrameAt, found_of};
+ghost use Rattle.lt_frames.specs.Seen.{refused, FindsFrame, IsFrameAt, found_of};
 ghost use Rattle.lt_frames.specs.Causes.{IsUnfinished, IsFrameCause, BeginWithFrame};
 ghost use Rattle.lt_frames.specs.declared.fault.FrameError.TheVariants as errors;
 ghost use Rattle.lt_frames.specs.declared.fault.FrameFault.TheVariants as faults;
@@ -96,17 +96,17 @@ pub fn read_frame(
     bytes: &[u8],
 ) -> Result<Option<Frame>, FrameError>
     ensures found { IfOk result (λ read. IfSome read (λ frame. IsFrameAt key.now wire bytes.now frame)) }
-    ensures again { (f : Numbered) (rest : List ℕ) → f.wire ≡ wire → FrameFits f → bytes.now ≡ frame_bytes key.now f ++ rest
-        → FindsFrame result (Ok (Some (found_of key.now f))) }
+    ensures again { (f : Numbered) (rest : List ℕ) → f.wire ≡ wire → FrameFits f
+        → bytes.now ≡ frame_bytes key.now f ++ rest → FindsFrame result (Ok (Some (found_of key.now f))) }
     ensures unfinished { result ≡ Ok None → IsUnfinished wire bytes.now }
     ensures memory { result ≡ Err errors.Memory → BeginWithFrame key.now wire bytes.now }
-    ensures too_long { result ≡ Err (errors.Fault faults.TooLong) → IsFrameCause key.now wire faults.TooLong bytes.now }
-    ensures version { result ≡ Err (errors.Fault faults.Version) → IsFrameCause key.now wire faults.Version bytes.now }
-    ensures service { result ≡ Err (errors.Fault faults.Service) → IsFrameCause key.now wire faults.Service bytes.now }
-    ensures sender { result ≡ Err (errors.Fault faults.Sender) → IsFrameCause key.now wire faults.Sender bytes.now }
-    ensures receiver { result ≡ Err (errors.Fault faults.Receiver) → IsFrameCause key.now wire faults.Receiver bytes.now }
-    ensures seal { result ≡ Err (errors.Fault faults.Seal) → IsFrameCause key.now wire faults.Seal bytes.now }
-    ensures letter { (fault : Fault) → result ≡ Err (errors.Fault (faults.Letter fault))
+    ensures too_long { result ≡ refused faults.TooLong → IsFrameCause key.now wire faults.TooLong bytes.now }
+    ensures version { result ≡ refused faults.Version → IsFrameCause key.now wire faults.Version bytes.now }
+    ensures service { result ≡ refused faults.Service → IsFrameCause key.now wire faults.Service bytes.now }
+    ensures sender { result ≡ refused faults.Sender → IsFrameCause key.now wire faults.Sender bytes.now }
+    ensures receiver { result ≡ refused faults.Receiver → IsFrameCause key.now wire faults.Receiver bytes.now }
+    ensures seal { result ≡ refused faults.Seal → IsFrameCause key.now wire faults.Seal bytes.now }
+    ensures letter { (fault : Fault) → result ≡ refused (faults.Letter fault)
         → IsFrameCause key.now wire (faults.Letter fault) bytes.now }
     ensures exact { FindsFrame result (frame_from key.now wire bytes.now) }
 {

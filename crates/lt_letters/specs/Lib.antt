@@ -3,3 +3,4 @@ pub mod Reading
 pub mod Causes
 pub mod Seen
 pub mod Laws
+pub mod Puts

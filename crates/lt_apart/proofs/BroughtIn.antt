@@ -1,17 +1,25 @@
 -- Letters that come in.
-use Rattle.std.proofs.Common.{◌≡◌, ◌≢◌, ◌<◌, ◌≤◌, ◌+◌, ◌⊎◌, ℕ, List, [], ◌∷◌, ◌++◌, Option, Some, None, length, take, drop, refl, sym, ap, subst, ◌∙◌, arith, inl, inr, slice_get, slice_set, append-nil, eq-eqb, ne_eqb, length-append}
+use Rattle.std.proofs.Common.{◌≡◌, ◌≢◌, ◌<◌, ◌≤◌, ◌+◌, ◌⊎◌, ℕ, List, [], ◌∷◌, ◌++◌, Option, Some, None, length, take, drop, refl, sym, ap, subst, ◌∙◌, arith, inl, inr, slice_get, slice_set, slice_index_or, append-nil, eq-eqb, ne_eqb, length-append}
 use Rattle.std.proofs.lemmas.List.{take_at}
+use Rattle.std.proofs.lemmas.Option.{slice_get-get_or}
 use Rattle.lt_modes.specs.State.{Letter}
+use Rattle.lt_modes.specs.State as rules
+use Rattle.lt_letters.specs.declared.fault.Fault.{Fault}
 use Rattle.lt_desk.specs.LetterSeen.{letter_seen}
 use Rattle.lt_mail.specs.declared.mail.Mail.{Mail}
-use Rattle.lt_mail.specs.Words.{taken, on_in, in_at, outs_count, sent_to, taken_from, if_to, SameEnds}
+use Rattle.lt_mail.specs.Words.{taken, on_in, in_at, outs_count, sent_to, waiting_to, taken_from, if_to, IsFullTo, SameEnds}
 use Rattle.lt_mail.proofs.LookLemmas.{ends_same}
+use Rattle.lt_frames.specs.declared.fault.FrameFault.{FrameFault}
+use Rattle.lt_frames.specs.declared.fault.FrameFault.TheVariants as causes
 use Rattle.lt_frames.specs.declared.frame.Frame.{Frame}
+use Rattle.lt_frames.specs.Causes.{IsFrameCause}
 use Rattle.lt_frames.specs.declared.frame.Wire.{Wire}
 use Rattle.lt_frames.specs.Frames.{Numbered, frame_bytes}
 use Rattle.lt_frames.specs.Seen.{IsFrameAt, frame_seen, on_wire}
 use Rattle.lt_frames.proofs.Parts.{frame_size}
 use Rattle.lt_apart.specs.Remote.{AreCounts, HasFarEnds}
+use Rattle.lt_apart.specs.declared.fault.WireFault.TheVariants.{Memory, Again, Missing}
+use Rattle.lt_apart.specs.Faults.{wire_fault, IsWireCause}
 use Rattle.lt_apart.specs.Carrying.{frames, BringsIn, OnlyBrings}
 use Rattle.lt_apart.proofs.FarEnds.{counts_more, counts_stay, far_ends_last}
 use Rattle.lt_runner.specs.declared.parts.Parts.{Parts}
@@ -94,3 +102,50 @@ far_ends_brought p f g given brought later from h ends only counts = record {
   given_counts = counts_stay p.node.script.nodes p.node.script.nodes given (taken_from f) (taken_from g) refl only.given_stays h.given_counts;
   brought_counts = subst (λ (n : ℕ). AreCounts n later (sent_to g)) (ends.counts.0 ∙ h.outs) counts;
 }
+
+-- Why nothing was taken in.
+
+-- the number at a place
+pub count_at : (n : ℕ) (numbers : List ℕ) (letters : ℕ → List Letter) (place d number : ℕ) → AreCounts n numbers letters → place < n
+    → number ≡ slice_index_or numbers place d → number ≡ length (letters place)
+count_at n numbers letters place d number h below is =
+    is ∙ h.each place (slice_index_or numbers place d) (slice_get-get_or numbers place d (omega (arith, below, h.count)))
+
+-- where a letter waits after a flush, the ring is full
+pub is_full : (m : Mail) (to : ℕ) → (waiting_to m to ≡ []) ⊎ IsFullTo m to → 0 < length (waiting_to m to) → IsFullTo m to
+is_full m to (inl none) some = absurd (omega (arith, some, ap (λ (letters : List rules.Letter). length letters) none))
+is_full m to (inr full) some = full
+
+pub again_cause : (key : List ℕ) (wire : Wire) (bytes : List ℕ) (frame : Frame) (letters : List Letter) → IsFrameAt key wire bytes frame
+    → frame.number < length letters → IsWireCause key wire letters Again bytes
+again_cause key wire bytes frame letters at less = (on_wire wire (frame_seen frame), (at.0, (refl, (at.1, (at.2.0, less)))))
+
+pub missing_cause : (key : List ℕ) (wire : Wire) (bytes : List ℕ) (frame : Frame) (letters : List Letter) → IsFrameAt key wire bytes frame
+    → length letters < frame.number → IsWireCause key wire letters Missing bytes
+missing_cause key wire bytes frame letters at less = (on_wire wire (frame_seen frame), (at.0, (refl, (at.1, (at.2.0, less)))))
+
+-- the frame finds no memory
+pub memory_cause : (key : List ℕ) (wire : Wire) (bytes : List ℕ) (frame : Frame) (letters : List Letter) → IsFrameAt key wire bytes frame
+    → IsWireCause key wire letters Memory bytes
+memory_cause key wire bytes frame letters at = (on_wire wire (frame_seen frame), (at.0, (refl, (at.1, at.2.0))))
+
+pub frame_cause : (key : List ℕ) (wire : Wire) (bytes : List ℕ) (letters : List Letter) (fault : FrameFault) → IsFrameCause key wire fault bytes
+    → IsWireCause key wire letters (wire_fault fault) bytes
+frame_cause key wire bytes letters causes.TooLong h = h
+frame_cause key wire bytes letters causes.Version h = h
+frame_cause key wire bytes letters causes.Service h = h
+frame_cause key wire bytes letters causes.Sender h = h
+frame_cause key wire bytes letters causes.Receiver h = h
+frame_cause key wire bytes letters causes.Seal h = h
+frame_cause key wire bytes letters (causes.Letter fault) h = h
+
+-- what holds of each fault holds of all
+pub by_fault : (P : FrameFault → Type 0) → P causes.TooLong → P causes.Version → P causes.Service → P causes.Sender → P causes.Receiver → P causes.Seal
+    → ((fault : Fault) → P (causes.Letter fault)) → (fault : FrameFault) → P fault
+by_fault P long version service sender receiver seal letter causes.TooLong = long
+by_fault P long version service sender receiver seal letter causes.Version = version
+by_fault P long version service sender receiver seal letter causes.Service = service
+by_fault P long version service sender receiver seal letter causes.Sender = sender
+by_fault P long version service sender receiver seal letter causes.Receiver = receiver
+by_fault P long version service sender receiver seal letter causes.Seal = seal
+by_fault P long version service sender receiver seal letter (causes.Letter fault) = letter fault
