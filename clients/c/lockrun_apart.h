@@ -12,8 +12,8 @@
 #include <string.h>
 #include <time.h>
 
-/* Beside the codes of lockrun.h: the time is over; the transport is broken. */
-enum { LOCKRUN_STILL_WAITS = 32, LOCKRUN_NO_CARRIER };
+/* Beside the codes of lockrun.h: the time is over; the transport is broken. And a time that is never over. */
+enum { LOCKRUN_STILL_WAITS = 32, LOCKRUN_NO_CARRIER, LOCKRUN_ALWAYS = -1 };
 
 /* For how many bytes of frames there is room at first; how many of a frame aren't of its letter; and after how many calls it is
  * looked whether something came, where none of them had to wait: else a caller that has all it wants would keep others out. */

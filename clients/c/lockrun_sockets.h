@@ -98,7 +98,9 @@ static inline int lockrun_sockets_connect(const struct sockaddr_un *name) {
  * is. 0 if it can't. */
 static inline int lockrun_sockets_begin(lockrun_sockets *sockets, lockrun_apart *apart, const char *folder) {
     uint32_t nodes = apart->nodes;
-    struct sockaddr_un name = {.sun_family = AF_UNIX};
+    struct sockaddr_un name;
+    memset(&name, 0, sizeof name);
+    name.sun_family = AF_UNIX;
     sockets->nodes = nodes;
     sockets->stream = (int *)malloc(nodes * sizeof(int));
     sockets->polls = (struct pollfd *)calloc(nodes, sizeof *sockets->polls);
