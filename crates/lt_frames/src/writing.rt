@@ -2,7 +2,7 @@
 ghost use Rattle.std.specs.Prelude.{◌≡◌, ◌≤◌, ◌<◌, ◌+◌, ◌++◌, Err, OnOk, OnErr, drop, length, replicate, take, vec_capacity};
 ghost use Rattle.sha2.specs.Sha256.{sha256};
 ghost use Rattle.lt_desk.specs.LetterSeen.{letter_seen};
-ghost use Rattle.lt_letters.specs.Puts.{Puts};
+ghost use Rattle.lt_letters.specs.Puts.{PutsBytes};
 ghost use Rattle.lt_letters.specs.Spelling.{letter_bytes};
 ghost use Rattle.lt_frames.specs.Frames.{head_bytes, frame_bytes, FrameFits};
 ghost use Rattle.lt_frames.specs.Seen.{frame_of};
@@ -28,7 +28,7 @@ fn seal_up(sealed: &mut [u8], key: &[u8], head: Head) -> [u8; 32]
 
 // Writes as many bytes as a head has, and then the letter.
 fn put_letter(out: &mut Vec<u8>, letter: &Letter) -> Result<(), AllocError>
-    ensures { Puts (replicate 23 0 ++ letter_bytes (letter_seen letter.now)) out.old out.new result }
+    ensures { PutsBytes (replicate 23 0 ++ letter_bytes (letter_seen letter.now)) out.old out.new result }
 {
     out.extend_from_slice(&[0; HEAD])?;
     write_letter(out, letter)

@@ -1,25 +1,22 @@
 -- Sessions in different processes were served in one run.
-use Rattle.std.proofs.Common.{◌≡◌, ℕ, List, length, Some, refl, sym, ap, subst, arith, ◌∙◌, slice_get, filter, ◌<◌}
+use Rattle.std.proofs.Common.{◌≡◌, ℕ, List, length, Some, refl, sym, subst, arith, slice_get, ◌<◌}
 use Rattle.std.proofs.lemmas.Option.{slice_get_within}
 use mathlib.Core.List.{IsPrefix}
-use Rattle.lt_modes.specs.Script.{ScriptData}
 use Rattle.lt_modes.specs.declared.command.Command.{Command}
-use Rattle.lt_spec.specs.NodeMove.{with_commands, commands_of, home}
+use Rattle.lt_spec.specs.NodeMove.{commands_of, home}
 use Rattle.lt_spec.specs.Holdings.{lines_of}
 use Rattle.lt_spec.specs.Script.{IsScript}
-use Rattle.lt_spec.specs.World.{is_of_node}
 use Rattle.lt_law_invariant.proofs.FewAsks.{whole}
-use Rattle.lt_law_apart.specs.Apart.{NodeNow, AreAllApart, commands_apart, script_apart, run_apart, IsApartRun}
+use Rattle.lt_law_apart.specs.Apart.{script_apart, run_apart, IsApartRun}
 use Rattle.lt_law_apart.proofs.Apart.{apart_run, apart_script, element_at}
 use Rattle.lt_live.specs.declared.ends.Session.{Session}
 use Rattle.lt_live.specs.declared.reply.Reply.{Reply}
 use Rattle.lt_live.specs.Words.{submitted, polled}
 use Rattle.lt_live.specs.Seats.{IsServedSession, replies_in}
-use Rattle.lt_live.specs.Live.{IsServedRun}
 use Rattle.lt_live.proofs.Finished.{replies_in_log}
 use Rattle.lt_live.proofs.Telling.{polled_in_turn}
 use Rattle.lt_law_sessions.proofs.Excluding.{still_is_held, sessions_exclude}
-use Rattle.lt_law_apart_sessions.specs.ApartSessions.{AreServedApart, ServedApart, ApartInTurn, HeldApart, ApartExclude}
+use Rattle.lt_law_apart_sessions.specs.ApartSessions.{ServedApart, ApartInTurn, HeldApart, ApartExclude}
 
 pub served_apart : ServedApart
 served_apart first nodes sessions h = record {

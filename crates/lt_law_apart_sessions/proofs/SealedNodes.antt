@@ -1,12 +1,12 @@
 -- What was carried in sealed frames is a first part of what was given out.
-use Rattle.std.proofs.Common.{◌≡◌, ◌≢◌, ℕ, List, [], Option, Some, None, Bool, cond, slice_get, refl, sym, ap, subst, ◌∙◌, eq-eqb, ◌==◌}
+use Rattle.std.proofs.Common.{◌≡◌, ◌≢◌, ℕ, List, [], Option, Bool, cond, slice_get, refl, ap, subst, ◌∙◌, eq-eqb, ◌==◌}
 use Rattle.std.proofs.lemmas.Bool.{ne_eqb}
 use mathlib.Core.List.{IsPrefix}
 use Rattle.lt_modes.specs.State.{Letter}
 use Rattle.lt_frames.specs.declared.frame.Wire.{Wire}
 use Rattle.lt_frames.proofs.Numbers.{sealed_are_prefix}
-use Rattle.lt_law_apart.specs.Apart.{NodeNow, AreCarried}
-use Rattle.lt_law_apart_sessions.specs.SealedNodes.{by_wire, given_of, brought_of, given_by, taken_by, AreSealed, CarriedIfSealed}
+use Rattle.lt_law_apart.specs.Apart.{NodeNow}
+use Rattle.lt_law_apart_sessions.specs.SealedNodes.{by_wire, given_of, brought_of, given_by, taken_by, CarriedIfSealed}
 
 -- between two nodes of the service
 by_own_wire : (service p q : ℕ) (letters : ℕ → ℕ → List Letter) → p ≢ q

@@ -5,7 +5,7 @@ use Rattle.std.specs.Global.{Global}
 use Rattle.std.specs.List.{flat_map}
 use Rattle.std.proofs.lemmas.List.{length-append}
 use Rattle.std.proofs.lemmas.List.Folds.{length-flat_map-take}
-use Rattle.lt_letters.specs.Puts.{Puts}
+use Rattle.lt_letters.specs.Puts.{PutsBytes}
 
 begins : (x a z : List ℕ) → take (length (x ++ a)) z ≡ x ++ a → take (length x) z ≡ x
 begins [] a z h = refl
@@ -18,10 +18,10 @@ begins (p ∷ x) a (q ∷ z) h =
 -- some of a text, and then more of it, for which there was no room
 pub part_fails : {E F : Type 0} (some b all : List ℕ) (x y z : Vec ℕ Global) (r : Result (Unit {0}) E) (q : Result (Unit {0}) F) (e : E)
     → length some + length b ≤ length all → y.items ≡ x.items ++ some → vec_capacity x ≤ vec_capacity y
-    → Puts b y z r → r ≡ Err e → IsErr q → Puts all x z q
+    → PutsBytes b y z r → r ≡ Err e → IsErr q → PutsBytes all x z q
 part_fails some b all x y z r (Ok done) e within is room p err bad = absurd cc
 part_fails {E = E} some b all x y z r (Err g) e within is room p err bad =
-    let failed : Puts {E = E} b y z (Err e) = subst (λ (s : Result (Unit {0}) E). Puts b y z s) err p in (
+    let failed : PutsBytes {E = E} b y z (Err e) = subst (λ (s : Result (Unit {0}) E). PutsBytes b y z s) err p in (
       begins x.items some z.items (subst (λ (t : List ℕ). take (length t) z.items ≡ t) is failed.0),
       (
         omega (arith, room, failed.1.0),
