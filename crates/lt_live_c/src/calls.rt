@@ -3,6 +3,7 @@ ghost use Rattle.std.specs.Prelude.{◌≡◌};
 ghost use Rattle.lt_spec.specs.Script.{set_number};
 ghost use Rattle.lt_live.specs.Words.{SameSession};
 ghost use Rattle.lt_live.specs.Live.{StationGoesOn};
+ghost use Rattle.lt_apart.specs.Remote.{CarriesNone};
 ghost use Rattle.lt_live_c.specs.Taking.{ContentGoesOn, OnStation, OnSession};
 ghost use Rattle.lt_live_c.specs.Forgetting.{ForgetsStation};
 ghost use Rattle.lt_live_c.specs.Calls.{TurnsStation, Submits, Polls, left_in, client_of, home_of_content, TellsSet, TellsNumber};
@@ -25,7 +26,7 @@ pub fn turn(content: &mut Content) -> u32
 {
     match content {
         Content::Station(station) => turn_of(station),
-        Content::Node(node) => number_of_turn(node.remote.turn(&Open)),
+        Content::Node(node) => turn_at(&mut node.remote),
         _ => WRONG_HANDLE,
     }
 }
@@ -63,7 +64,20 @@ fn forget_by(station: &mut Station, alloc: Global) -> u32
     }
 }
 
-fn forget_at(remote: &mut Remote, alloc: Global) -> u32 {
+fn turn_at(remote: &mut Remote) -> u32
+    ensures goes_on { StationGoesOn remote.old.station remote.new.station }
+    ensures turns { TurnsStation result remote.old.station remote.new.station }
+    ensures carried { CarriesNone remote.old remote.new }
+{
+    number_of_turn(remote.turn(&Open))
+}
+
+#[tactic(auto, using(crate::proofs::Forgetting::goes_on_join))]
+fn forget_at(remote: &mut Remote, alloc: Global) -> u32
+    ensures goes_on { StationGoesOn remote.old.station remote.new.station }
+    ensures forgets { ForgetsStation result remote.old.station remote.new.station }
+    ensures carried { CarriesNone remote.old remote.new }
+{
     let Ok(()) = remote.forget_moves() else {
         return NO_MEMORY;
     };

@@ -1,4 +1,7 @@
 // What the calls that carry letters do with what a handle stands for.
+ghost use Rattle.std.specs.Prelude.{◌≡◌, ◌<◌, ◌≤◌, length};
+ghost use Rattle.lt_live_c.specs.NodeCalls.{OnNode};
+ghost use Rattle.lt_live_c.specs.Nodes.{IsPeer, Sends, Receives, TellsPending};
 
 use crate::code::{BAD_ARGUMENT, FULL, MISFIT, NOTHING, OK, WRONG_HANDLE};
 use crate::content::Content;
@@ -8,32 +11,102 @@ use lt_apart::Remote;
 use std::alloc::Global;
 
 /// Puts whole frames for a node at the front of the buffer, as many as there is room for.
-pub fn send(content: &mut Content, to: u32, buffer: &mut [u8], length: &mut usize) -> u32 {
+pub fn send(content: &mut Content, to: u32, buffer: &mut [u8], length: &mut usize) -> u32
+    ensures { OnNode result to (Sends result to length.old length.new buffer.old buffer.new) content.old content.new }
+{
     match content {
-        Content::Node(node) if node.is_peer(to) => send_to(node, to as u8, buffer, length),
-        Content::Node(_) => BAD_ARGUMENT,
+        Content::Node(node) => match node.peer(to) {
+            Some(peer) => node.send(peer, buffer, length),
+            None => BAD_ARGUMENT,
+        },
         _ => WRONG_HANDLE,
     }
 }
 
-fn send_to(node: &mut Node, to: u8, buffer: &mut [u8], length: &mut usize) -> u32 {
-    let ready = &mut node.ready[usize::from(to)];
-    let mut used = 0;
-    loop {
-        let code = send_next(&mut node.remote, ready, to, &mut buffer[used..]);
-        match code {
-            Ok(size) => used += size,
-            Err(_) if used > 0 => {
-                *length = used;
-                return OK;
-            }
-            Err(code) => {
-                if code == FULL {
-                    *length = ready.len();
+/// Takes in the letters of a node whose frames stand at the front of the bytes.
+pub fn receive(
+    content: &mut Content,
+    alloc: Global,
+    from: u32,
+    bytes: &[u8],
+    used: &mut usize,
+) -> u32
+    ensures { OnNode result from (Receives result from used.old used.new bytes.now) content.old content.new }
+{
+    match content {
+        Content::Node(node) => match node.peer(from) {
+            Some(peer) => node.receive(alloc, peer, bytes, used),
+            None => BAD_ARGUMENT,
+        },
+        _ => WRONG_HANDLE,
+    }
+}
+
+/// Whether something waits to be sent to a node.
+pub fn pending(content: &mut Content, to: u32) -> u32
+    ensures { OnNode result to (TellsPending result to) content.old content.new }
+{
+    match content {
+        Content::Node(node) => match node.peer(to) {
+            Some(peer) => node.pending(peer),
+            None => BAD_ARGUMENT,
+        },
+        _ => WRONG_HANDLE,
+    }
+}
+
+impl Node {
+    fn send(&mut self, to: u8, buffer: &mut [u8], length: &mut usize) -> u32
+        requires { IsPeer self.old to }
+        ensures { Sends result to length.old length.new buffer.old buffer.new self.old self.new }
+    {
+        let ready = &mut self.ready[usize::from(to)];
+        let mut used = 0;
+        loop {
+            match send_next(&mut self.remote, ready, to, &mut buffer[used..]) {
+                Ok(size) => used += size,
+                Err(_) if used > 0 => {
+                    *length = used;
+                    return OK;
                 }
-                return code;
+                Err(code) => {
+                    if code == FULL {
+                        *length = ready.len();
+                    }
+                    return code;
+                }
             }
         }
+    }
+
+    fn receive(&mut self, alloc: Global, from: u8, bytes: &[u8], used: &mut usize) -> u32
+        requires { IsPeer self.old from }
+        ensures { Receives result from used.old used.new bytes.now self.old self.new }
+    {
+        if self.remote.misfit().is_some() {
+            return MISFIT;
+        }
+        match self.remote.bring_in(alloc, from, bytes) {
+            Ok(size) => {
+                *used = size;
+                OK
+            }
+            Err(refused) => {
+                *used = refused.used;
+                number_of_fault(refused.fault)
+            }
+        }
+    }
+
+    fn pending(&mut self, to: u8) -> u32
+        requires { IsPeer self.old to }
+        ensures { TellsPending result to self.old self.new }
+    {
+        let waits = self.remote.pending(to);
+        if waits || !self.ready[usize::from(to)].is_empty() {
+            return OK;
+        }
+        NOTHING
     }
 }
 
@@ -58,60 +131,4 @@ fn send_next(
     buffer[..size].copy_from_slice(ready);
     ready.clear();
     Ok(size)
-}
-
-/// Takes in the letters of a node whose frames stand at the front of the bytes.
-pub fn receive(
-    content: &mut Content,
-    alloc: Global,
-    from: u32,
-    bytes: &[u8],
-    used: &mut usize,
-) -> u32 {
-    match content {
-        Content::Node(node) if node.is_peer(from) => {
-            receive_from(&mut node.remote, alloc, from as u8, bytes, used)
-        }
-        Content::Node(_) => BAD_ARGUMENT,
-        _ => WRONG_HANDLE,
-    }
-}
-
-fn receive_from(
-    remote: &mut Remote,
-    alloc: Global,
-    from: u8,
-    bytes: &[u8],
-    used: &mut usize,
-) -> u32 {
-    if remote.misfit().is_some() {
-        return MISFIT;
-    }
-    match remote.bring_in(alloc, from, bytes) {
-        Ok(size) => {
-            *used = size;
-            OK
-        }
-        Err(refused) => {
-            *used = refused.used;
-            number_of_fault(refused.fault)
-        }
-    }
-}
-
-/// Whether a letter waits to be carried to a node.
-pub fn pending(content: &mut Content, to: u32) -> u32 {
-    match content {
-        Content::Node(node) if node.is_peer(to) => pending_for(node, to as u8),
-        Content::Node(_) => BAD_ARGUMENT,
-        _ => WRONG_HANDLE,
-    }
-}
-
-fn pending_for(node: &mut Node, to: u8) -> u32 {
-    if !node.ready[usize::from(to)].is_empty() || node.remote.pending(to) {
-        OK
-    } else {
-        NOTHING
-    }
 }

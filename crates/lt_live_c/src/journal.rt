@@ -44,26 +44,7 @@ impl Journal {
     pub fn of(alloc: Global, script: &Script, run: &Run) -> Result<Journal, AllocError>
         ensures { IfOk result (λ journal. TellsOf script.now run.now.entries journal) }
     {
-        Journal::cut(alloc, script, run, None)
-    }
-
-    /// The journal of a node's own moves: their lines, and the line `cut NODE`.
-    pub fn of_node(
-        alloc: Global,
-        script: &Script,
-        run: &Run,
-        node: u8,
-    ) -> Result<Journal, AllocError> {
-        Journal::cut(alloc, script, run, Some(node))
-    }
-
-    fn cut(
-        alloc: Global,
-        script: &Script,
-        run: &Run,
-        cut: Option<u8>,
-    ) -> Result<Journal, AllocError> {
-        let text = lt_journal::write(alloc, script, run, cut)?;
+        let text = lt_journal::write(alloc, script, run, None)?;
         let written = lt_script::print(alloc, script)?;
         let lines = closing_lines(alloc, script, run)?;
         Ok(Journal {

@@ -16,6 +16,7 @@ mod laws;
 mod limits;
 mod new_sets;
 mod node;
+mod node_opening;
 mod nodes;
 mod parts;
 mod service;
