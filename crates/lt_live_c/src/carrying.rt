@@ -86,16 +86,15 @@ impl Node {
         if self.remote.misfit().is_some() {
             return MISFIT;
         }
-        match self.remote.bring_in(alloc, from, bytes) {
+        let refused = match self.remote.bring_in(alloc, from, bytes) {
             Ok(size) => {
                 *used = size;
-                OK
+                return OK;
             }
-            Err(refused) => {
-                *used = refused.used;
-                number_of_fault(refused.fault)
-            }
-        }
+            Err(refused) => refused,
+        };
+        *used = refused.used;
+        number_of_fault(refused.fault)
     }
 
     fn pending(&mut self, to: u8) -> u32
