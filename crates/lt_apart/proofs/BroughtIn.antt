@@ -1,5 +1,6 @@
 -- Letters that come in.
-use Rattle.std.proofs.Common.{◌≡◌, ◌≢◌, ◌<◌, ◌≤◌, ◌+◌, ◌⊎◌, ℕ, List, [], ◌∷◌, ◌++◌, Option, Some, None, length, take, drop, refl, sym, ap, subst, ◌∙◌, arith, inl, inr, slice_get, slice_set, slice_index_or, append-nil, eq-eqb, ne_eqb, length-append}
+use Rattle.std.proofs.Common.{◌≡◌, ◌≢◌, ◌<◌, ◌≤◌, ◌+◌, ◌⊎◌, ℕ, List, [], ◌∷◌, ◌++◌, Option, Some, None, IfSome, Ok, Bool, if◌then◌else◌, nat_lt, length, take, drop, refl, sym, ap, subst, ◌∙◌, arith, inl, inr, slice_get, slice_set, slice_index_or, append-nil, eq-eqb, ne_eqb, length-append}
+use Rattle.std.proofs.lemmas.Bool.{cases_lt, lt-ltb, le-ltb}
 use Rattle.std.proofs.lemmas.List.{take_at}
 use Rattle.std.proofs.lemmas.Option.{slice_get-get_or}
 use Rattle.lt_modes.specs.State.{Letter}
@@ -8,7 +9,7 @@ use Rattle.lt_letters.specs.declared.fault.Fault.{Fault}
 use Rattle.lt_desk.specs.LetterSeen.{letter_seen}
 use Rattle.lt_mail.specs.declared.mail.Mail.{Mail}
 use Rattle.lt_mail.specs.Words.{taken, on_in, in_at, outs_count, sent_to, waiting_to, taken_from, if_to, IsFullTo, SameEnds}
-use Rattle.lt_mail.proofs.LookLemmas.{ends_same}
+use Rattle.lt_mail.proofs.LookLemmas.{ends_same, ends_join}
 use Rattle.lt_frames.specs.declared.fault.FrameFault.{FrameFault}
 use Rattle.lt_frames.specs.declared.fault.FrameFault.TheVariants as causes
 use Rattle.lt_frames.specs.declared.frame.Frame.{Frame}
@@ -18,9 +19,10 @@ use Rattle.lt_frames.specs.Frames.{Numbered, frame_bytes}
 use Rattle.lt_frames.specs.Seen.{IsFrameAt, frame_seen, on_wire}
 use Rattle.lt_frames.proofs.Parts.{frame_size}
 use Rattle.lt_apart.specs.Remote.{AreCounts, HasFarEnds}
+use Rattle.lt_apart.specs.declared.fault.WireFault.{WireFault}
 use Rattle.lt_apart.specs.declared.fault.WireFault.TheVariants.{Memory, Again, Missing}
-use Rattle.lt_apart.specs.Faults.{wire_fault, IsWireCause}
-use Rattle.lt_apart.specs.Carrying.{frames, BringsIn, OnlyBrings}
+use Rattle.lt_apart.specs.Faults.{wire_fault, IsWireCause, number_fault}
+use Rattle.lt_apart.specs.Carrying.{frames, BringsIn, BringsNext, OnlyBrings}
 use Rattle.lt_apart.proofs.FarEnds.{counts_more, counts_stay, far_ends_last}
 use Rattle.lt_runner.specs.declared.parts.Parts.{Parts}
 
@@ -78,14 +80,14 @@ brings_frame key wire frame before after bytes at number more = (
   record {
     letters = letter_seen frame.letter ∷ [];
     goes_on = more;
-    within = omega (arith, at.2.1, ap (λ (list : List ℕ). length list) at.1, length-append its at.0);
-    bytes_are = ap (λ (n : ℕ). take n bytes) at.2.1
-        ∙ (ap (take (length its)) at.1
+    within = omega (arith, at.1.1.1, ap (λ (list : List ℕ). length list) at.1.0, length-append its at.0);
+    bytes_are = ap (λ (n : ℕ). take n bytes) at.1.1.1
+        ∙ (ap (take (length its)) at.1.0
         ∙ (take_at its at.0 (length its) refl
         ∙ (ap (λ (n : ℕ). frame_bytes key (record { wire = wire; number = n; letter = letter_seen frame.letter })) number
         ∙ sym (append-nil _))));
   },
-  omega (arith, at.2.1, frame_size key (on_wire wire (frame_seen frame))),
+  omega (arith, at.1.1.1, frame_size key (on_wire wire (frame_seen frame))),
 )
   where
     its : List ℕ
@@ -118,16 +120,53 @@ is_full m to (inr full) some = full
 
 pub again_cause : (key : List ℕ) (wire : Wire) (bytes : List ℕ) (frame : Frame) (letters : List Letter) → IsFrameAt key wire bytes frame
     → frame.number < length letters → IsWireCause key wire letters Again bytes
-again_cause key wire bytes frame letters at less = (on_wire wire (frame_seen frame), (at.0, (refl, (at.1, (at.2.0, less)))))
+again_cause key wire bytes frame letters at less = (on_wire wire (frame_seen frame), (at.0, (refl, (at.1.0, (at.1.1.0, less)))))
 
 pub missing_cause : (key : List ℕ) (wire : Wire) (bytes : List ℕ) (frame : Frame) (letters : List Letter) → IsFrameAt key wire bytes frame
     → length letters < frame.number → IsWireCause key wire letters Missing bytes
-missing_cause key wire bytes frame letters at less = (on_wire wire (frame_seen frame), (at.0, (refl, (at.1, (at.2.0, less)))))
+missing_cause key wire bytes frame letters at less = (on_wire wire (frame_seen frame), (at.0, (refl, (at.1.0, (at.1.1.0, less)))))
+
+-- its number is the next one, or it is refused for it
+pub number_is : (number next : ℕ) → number_fault number next ≡ None → number ≡ next
+number_is number next none = elim (cases_lt number next) [
+  | inl less ↦ absurd (some_is_none (subst (λ (t : Bool). (if t then Some Again else if nat_lt next number then Some Missing else None) ≡ None) (lt-ltb number next less) none))
+  | inr past ↦ elim (cases_lt next number) [
+      | inl more ↦ absurd (some_is_none (subst (λ (t : Bool). (if t then Some Missing else None) ≡ None) (lt-ltb next number more)
+          (subst (λ (t : Bool). (if t then Some Again else if nat_lt next number then Some Missing else None) ≡ None) (le-ltb number next past) none)))
+      | inr least ↦ omega (arith, past, least)
+    ]
+]
+  where
+    some_is_none : {fault : WireFault} → Some fault ≡ None → ⊥
+    some_is_none e = absurd (cc)
+
+pub number_cause : (key : List ℕ) (wire : Wire) (bytes : List ℕ) (frame : Frame) (letters : List Letter) (next : ℕ) (fault : WireFault)
+    → IsFrameAt key wire bytes frame → length letters ≡ next → number_fault frame.number next ≡ Some fault → IsWireCause key wire letters fault bytes
+number_cause key wire bytes frame letters next fault at is refused = elim (cases_lt frame.number next) [
+  | inl less ↦ subst (λ (f : WireFault). IsWireCause key wire letters f bytes)
+      (the_fault (subst (λ (t : Bool). (if t then Some Again else if nat_lt next frame.number then Some Missing else None) ≡ Some fault) (lt-ltb frame.number next less) refused))
+      (again_cause key wire bytes frame letters at (omega (arith, less, is)))
+  | inr past ↦ later (subst (λ (t : Bool). (if t then Some Again else if nat_lt next frame.number then Some Missing else None) ≡ Some fault) (le-ltb frame.number next past) refused)
+]
+  where
+    the_fault : {a b : WireFault} → Some a ≡ Some b → a ≡ b
+    the_fault e = cc
+
+    none_is_some : {a : WireFault} → None ≡ Some a → ⊥
+    none_is_some e = absurd (cc)
+
+    later : (if nat_lt next frame.number then Some Missing else None) ≡ Some fault → IsWireCause key wire letters fault bytes
+    later e = elim (cases_lt next frame.number) [
+      | inl more ↦ subst (λ (f : WireFault). IsWireCause key wire letters f bytes)
+          (the_fault (subst (λ (t : Bool). (if t then Some Missing else None) ≡ Some fault) (lt-ltb next frame.number more) e))
+          (missing_cause key wire bytes frame letters at (omega (arith, more, is)))
+      | inr least ↦ absurd (none_is_some (subst (λ (t : Bool). (if t then Some Missing else None) ≡ Some fault) (le-ltb next frame.number least) e))
+    ]
 
 -- the frame finds no memory
 pub memory_cause : (key : List ℕ) (wire : Wire) (bytes : List ℕ) (frame : Frame) (letters : List Letter) → IsFrameAt key wire bytes frame
     → IsWireCause key wire letters Memory bytes
-memory_cause key wire bytes frame letters at = (on_wire wire (frame_seen frame), (at.0, (refl, (at.1, at.2.0))))
+memory_cause key wire bytes frame letters at = (on_wire wire (frame_seen frame), (at.0, (refl, (at.1.0, at.1.1.0))))
 
 pub frame_cause : (key : List ℕ) (wire : Wire) (bytes : List ℕ) (letters : List Letter) (fault : FrameFault) → IsFrameCause key wire fault bytes
     → IsWireCause key wire letters (wire_fault fault) bytes
@@ -149,3 +188,28 @@ by_fault P long version service sender receiver seal letter causes.Sender = send
 by_fault P long version service sender receiver seal letter causes.Receiver = receiver
 by_fault P long version service sender receiver seal letter causes.Seal = seal
 by_fault P long version service sender receiver seal letter (causes.Letter fault) = letter fault
+
+-- The letter of a frame, on its way into its ring.
+
+pub number_at : (f : Mail) (brought : List ℕ) (from place d : ℕ) → AreCounts (outs_count f) brought (sent_to f) → from < outs_count f → place ≡ from
+    → d ≡ slice_index_or brought place d → d ≡ length (sent_to f from)
+number_at f brought from place d h below at is =
+    count_at (outs_count f) brought (sent_to f) place d d h (omega (arith, below, at)) is ∙ ap (λ (k : ℕ). length (sent_to f k)) at
+
+pub all_put : (from : ℕ) (f g r h k : Mail) (letter : Letter) → ((node : ℕ) → sent_to g node ≡ sent_to f node) → ((node : ℕ) → sent_to r node ≡ sent_to g node)
+    → ((node : ℕ) → sent_to h node ≡ sent_to r node ++ if_to from letter node) → ((node : ℕ) → sent_to k node ≡ sent_to h node)
+    → (node : ℕ) → sent_to k node ≡ sent_to f node ++ if_to from letter node
+all_put from f g r h k letter flushed reserved put flushed_again node =
+    flushed_again node ∙ (put node ∙ ap (λ (letters : List Letter). letters ++ if_to from letter node) (reserved node ∙ flushed node))
+
+pub all_ends : (f g r h k : Mail) → SameEnds f g → SameEnds g r → SameEnds r h → SameEnds h k → SameEnds f k
+all_ends f g r h k a b c d = ends_join f h k (ends_join f r h (ends_join f g r a b) c) d
+
+pub found_is : (key : List ℕ) (wire : Wire) (bytes : List ℕ) (number : ℕ) (read : Option Frame) (frame : Frame) → read ≡ Some frame
+    → IfSome read (λ (f : Frame). IsFrameAt key wire bytes f × (f.number ≡ number)) → IsFrameAt key wire bytes frame × (frame.number ≡ number)
+found_is key wire bytes number read frame is found =
+    subst (λ (o : Option Frame). IfSome o (λ (f : Frame). IsFrameAt key wire bytes f × (f.number ≡ number))) is found
+
+pub brought_is : (key : List ℕ) (wire : Wire) (read : Option ℕ) (size : ℕ) (before after : List Letter) (bytes : List ℕ) → read ≡ Some size
+    → BringsNext key wire (Ok read) before after bytes → BringsIn key wire size before after bytes × (0 < size)
+brought_is key wire read size before after bytes is h = subst (λ (o : Option ℕ). BringsNext key wire (Ok o) before after bytes) is h

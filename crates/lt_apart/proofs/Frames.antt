@@ -55,6 +55,16 @@ gives_more key wire m n one two three out mid last h k = record {
     all = frames_more key wire (length one) h.letters k.letters
         ∙ ap (λ (n : ℕ). frames key wire (length one) h.letters ++ frames key wire n k.letters) later
 
+-- and then nothing more
+pub gives_same : (key : List ℕ) (wire : Wire) (n : ℕ) (one two three : List Letter) (out mid last : List ℕ) → GivesOut key wire n one two out mid
+    → three ≡ two → last ≡ mid → GivesOut key wire n one three out last
+gives_same key wire n one two three out mid last h same bytes = record {
+  letters = h.letters;
+  count_is = h.count_is;
+  goes_on = same ∙ h.goes_on;
+  bytes = bytes ∙ h.bytes;
+}
+
 -- nothing was brought in
 pub brings_none : (key : List ℕ) (wire : Wire) (before after : List Letter) (bytes : List ℕ) → after ≡ before → BringsIn key wire 0 before after bytes
 brings_none key wire before after bytes same = record {
@@ -82,3 +92,13 @@ brings_more key wire used size one two three bytes h k = record {
     all : frames key wire (length one) (h.letters ++ k.letters) ≡ frames key wire (length one) h.letters ++ frames key wire (length two) k.letters
     all = frames_more key wire (length one) h.letters k.letters
         ∙ ap (λ (n : ℕ). frames key wire (length one) h.letters ++ frames key wire n k.letters) later
+
+-- and then nothing more
+pub brings_same : (key : List ℕ) (wire : Wire) (used : ℕ) (one two three : List Letter) (bytes : List ℕ) → BringsIn key wire used one two bytes
+    → three ≡ two → BringsIn key wire used one three bytes
+brings_same key wire used one two three bytes h same = record {
+  letters = h.letters;
+  goes_on = same ∙ h.goes_on;
+  within = h.within;
+  bytes_are = h.bytes_are;
+}

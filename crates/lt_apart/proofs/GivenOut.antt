@@ -1,5 +1,5 @@
 -- Letters that go out.
-use Rattle.std.proofs.Common.{◌≡◌, ◌≢◌, ◌<◌, ◌≤◌, ◌+◌, ◌==◌, ◌⊎◌, ℕ, List, [], ◌∷◌, ◌++◌, Option, Some, None, Bool, true, false, if◌then◌else◌, length, refl, sym, ap, subst, ◌∙◌, arith, inl, inr, slice_get, slice_set, append-nil, append_assoc, eq-eqb, ne_eqb}
+use Rattle.std.proofs.Common.{◌≡◌, ◌≢◌, ◌<◌, ◌≤◌, ◌+◌, ◌==◌, ◌⊎◌, ℕ, List, [], ◌∷◌, ◌++◌, Option, Some, None, Bool, true, false, if◌then◌else◌, length, refl, sym, ap, subst, ◌∙◌, arith, inl, inr, slice_get, slice_set, slice_index_or, MatchBool, length-append, append-nil, append_assoc, eq-eqb, ne_eqb}
 use mathlib.Core.List.{IsPrefix}
 use Rattle.lt_modes.specs.State.{Letter}
 use Rattle.lt_modes.specs.Script.{ScriptData}
@@ -7,6 +7,7 @@ use Rattle.lt_letters.specs.Spelling.{letter_bytes}
 use Rattle.lt_frames.specs.declared.frame.TheConstants.{MAX_LETTER}
 use Rattle.lt_frames.specs.declared.frame.Wire.{Wire}
 use Rattle.lt_frames.specs.Frames.{frame_bytes}
+use Rattle.lt_frames.specs.Seen.{frame_of}
 use Rattle.lt_mail.specs.declared.mail.Mail.{Mail}
 use Rattle.lt_mail.specs.Words.{sent_by, on_out, out_at, sent_to, given_to, waiting_to, taken_from, known_from, if_from, if_to, SameEnds}
 use Rattle.lt_mail.proofs.LookLemmas.{ends_same}
@@ -17,7 +18,9 @@ use Rattle.lt_threads.proofs.Each.{seen_self}
 use Rattle.lt_live.specs.declared.ends.Seat.{Seat}
 use Rattle.lt_live.specs.Stations.{StationData}
 use Rattle.lt_apart.specs.Remote.{AreCounts, HasFarEnds}
-use Rattle.lt_apart.specs.Carrying.{frames, GivesOut, OnlyGives, HasGivenAll, NextIsTooLong}
+use Rattle.lt_apart.specs.Carrying.{frames, GivesOut, OnlyGives, HasGivenAll, HaveNoNumber, NextIsTooLong}
+use Rattle.lt_apart.proofs.BroughtIn.{count_at}
+use Rattle.lt_apart.proofs.Frames.{gives_one}
 use Rattle.lt_apart.proofs.FarEnds.{counts_more, counts_stay, far_ends_last, far_ends_stay}
 use Rattle.lt_apart.proofs.NodeFacts.{sent_is}
 
@@ -128,3 +131,42 @@ taken_only to a f g letter outs taken = record {
   others = λ node apart.
       taken node ∙ (ap (λ (more : List Letter). taken_from f node ++ more) (if_other to node letter apart) ∙ append-nil (taken_from f node));
 }
+
+-- the number of the next letter
+pub next_number : (n : ℕ) (given : List ℕ) (f g : Mail) (to place d : ℕ) → AreCounts n given (taken_from f) → to < n → place ≡ to
+    → d ≡ slice_index_or given place d → taken_from g to ≡ taken_from f to → d ≡ length (taken_from g to)
+next_number n given f g to place d h below at is same =
+    count_at n given (taken_from f) place d d h (omega (arith, below, at)) is
+    ∙ (ap (λ (k : ℕ). length (taken_from f k)) at ∙ ap (λ (letters : List Letter). length letters) (sym same))
+
+-- the last number was given
+pub no_number : (letters : List Letter) (number : ℕ) → number ≡ length letters → number ≡ 18446744073709551615 → HaveNoNumber letters
+no_number letters number is last = omega (arith, is, last)
+
+-- one letter went out, with its frame
+pub gave_one : (key : List ℕ) (wire : Wire) (f g h : Mail) (out out_now : List ℕ) (number : ℕ) (first letter : Letter)
+    → taken_from g wire.to ≡ taken_from f wire.to → ((node : ℕ) → taken_from h node ≡ taken_from g node ++ if_from wire.to letter node)
+    → number ≡ length (taken_from g wire.to) → first ≡ letter → out_now ≡ out ++ frame_bytes key (frame_of wire number first)
+    → GivesOut key wire 1 (taken_from f wire.to) (taken_from h wire.to) out out_now
+gave_one key wire f g h out out_now number first letter same taken is same_letter bytes =
+    gives_one key wire (taken_from f wire.to) (taken_from h wire.to) out out_now letter more
+    (bytes ∙ (ap (λ (n : ℕ). out ++ frame_bytes key (frame_of wire n first)) (is ∙ ap (λ (letters : List Letter). length letters) same)
+    ∙ ap (λ (l : Letter). out ++ frame_bytes key (frame_of wire (length (taken_from f wire.to)) l)) same_letter))
+  where
+    more : taken_from h wire.to ≡ taken_from f wire.to ++ letter ∷ []
+    more = taken wire.to ∙ (ap (λ (x : List Letter). taken_from g wire.to ++ x) (if_here wire.to letter) ∙ ap (λ (x : List Letter). x ++ letter ∷ []) same)
+
+-- whether a letter waits
+pub pending_is : (to : ℕ) (p : Parts) (f : Mail) (answer : Bool) → taken_from f to ++ known_from f to ≡ given_to p.mail to
+    → (known_from f to ≡ [] → waiting_to p.mail to ≡ []) → MatchBool answer (0 < length (known_from f to)) (known_from f to ≡ [])
+    → MatchBool answer (length (taken_from f to) < length (sent_to p.mail to)) (sent_to p.mail to ≡ taken_from f to)
+pending_is to p f true whole moves some =
+    omega (
+      arith,
+      some,
+      ap (λ (letters : List Letter). length letters) (sent_is p.mail to),
+      length-append (given_to p.mail to) (waiting_to p.mail to),
+      ap (λ (letters : List Letter). length letters) whole,
+      length-append (taken_from f to) (known_from f to),
+    )
+pending_is to p f false whole moves none = all_given to p f whole moves none

@@ -2,11 +2,13 @@
 use Rattle.std.proofs.Common.{◌≡◌, ℕ, List, [], sym, ap, subst, ◌∙◌}
 use Rattle.lt_modes.specs.declared.command.Command.{Command}
 use Rattle.lt_modes.specs.Script.{ScriptData}
-use Rattle.lt_spec.specs.NodeMove.{with_commands, AreAt}
+use Rattle.lt_spec.specs.NodeMove.{with_commands, AreAt, commands_of}
+use Rattle.lt_spec.specs.Holdings.{lines_of}
 use Rattle.lt_runner.specs.declared.parts.Parts.{Parts}
 use Rattle.lt_runner.specs.Kept.{AsSeen}
 use Rattle.lt_live.specs.Live.{GoesOn}
-use Rattle.lt_apart.specs.Telling.{OpenedIsOfScript, ScriptLasts}
+use Rattle.lt_live.specs.Seats.{IsServedSession}
+use Rattle.lt_apart.specs.Telling.{OpenedIsOfScript, ScriptLasts, ToldIsServed}
 
 pub opened_is_of_script : OpenedIsOfScript
 opened_is_of_script script node service key limit places share r sessions opened = record {
@@ -32,3 +34,7 @@ seen_goes p q seen = record {
   limit = seen.same.limit;
   ends = seen.same.ends;
 }
+
+pub told_is_served : ToldIsServed
+told_is_served script r s of served =
+    subst (λ (t : ScriptData). IsServedSession (commands_of t s.client) (lines_of r.station.runner.log.entries) s.client s) of.same served

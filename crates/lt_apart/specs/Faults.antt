@@ -1,5 +1,5 @@
 -- Why a frame was not taken in.
-use Rattle.std.specs.Prelude.{◌≡◌, ◌<◌, ℕ, List, ◌++◌, length}
+use Rattle.std.specs.Prelude.{◌≡◌, ◌<◌, ℕ, List, ◌++◌, Option, Some, None, if◌then◌else◌, nat_lt, length}
 use Rattle.lt_modes.specs.State.{Letter}
 use Rattle.lt_frames.specs.declared.fault.FrameFault.{FrameFault}
 use Rattle.lt_frames.specs.declared.fault.FrameFault.TheVariants as frames
@@ -18,6 +18,10 @@ wire_fault frames.Sender = Sender
 wire_fault frames.Receiver = Receiver
 wire_fault frames.Seal = Seal
 wire_fault (frames.Letter fault) = NoLetter fault
+
+-- what is wrong with a frame of this number, where that is the next one
+abbrev pub number_fault : ℕ → ℕ → Option WireFault
+number_fault number next = if nat_lt number next then Some Again else if nat_lt next number then Some Missing else None
 
 -- the bytes begin with a frame of this wire, of which this holds
 abbrev pub BeginWithOne : List ℕ → Wire → (Numbered → Type 0) → List ℕ → Type 0

@@ -1,13 +1,16 @@
 -- What a node by itself says of its sessions and of the letters that were carried.
 use Rattle.std.specs.Prelude.{◌≡◌, ◌≢◌, ◌<◌, ◌++◌, ℕ, List}
 use Rattle.lt_modes.specs.Script.{ScriptData}
+use Rattle.lt_spec.specs.Holdings.{lines_of}
+use Rattle.lt_spec.specs.NodeMove.{commands_of, with_commands}
 use Rattle.lt_mail.specs.declared.mail.Mail.{Mail}
 use Rattle.lt_mail.specs.Words.{given_to, taken_from, known_from, sent_to, SameEnds}
 use Rattle.lt_runner.specs.declared.parts.Parts.{Parts}
 use Rattle.lt_runner.specs.Kept.{AsSeen}
 use Rattle.lt_live.specs.declared.ends.Session.{Session}
-use Rattle.lt_live.specs.Live.{GoesOn}
+use Rattle.lt_live.specs.Live.{GoesOn, ServedBy}
 use Rattle.lt_live.specs.OneNode.{IsOfScript}
+use Rattle.lt_live.specs.Seats.{IsServedSession}
 use Rattle.lt_live.specs.Stations.{StationData}
 use Rattle.lt_law_apart.specs.Apart.{IsNodeNow}
 use Rattle.lt_apart.specs.Remote.{RemoteData, IsOpenRemote, me, now_of}
@@ -53,3 +56,10 @@ OpenedIsOfScript = (script : ScriptData) (node service : ℕ) (key : List ℕ) (
 -- and stays so, whatever it does
 abbrev pub ScriptLasts : Type 0
 ScriptLasts = (script : ScriptData) (node : ℕ) (p q : Parts) → IsOfScript script node p → GoesOn p q → IsOfScript script node q
+
+-- That what it says of a session is what is asked of the sessions of all nodes, as a law.
+
+abbrev pub ToldIsServed : Type 0
+ToldIsServed = (script : ScriptData) (r : RemoteData) (s : Session) → IsOfScript script (me r) r.station.runner
+    → ServedBy r.station.runner s.client s
+    → IsServedSession (commands_of (with_commands script (now_of r).commands) s.client) (lines_of (now_of r).part.log) s.client s

@@ -6,7 +6,7 @@ ghost use Rattle.lt_frames.specs.Causes.{IsUnfinished};
 ghost use Rattle.lt_frames.specs.Seen.{IsFrameAt};
 ghost use Rattle.lt_apart.specs.Remote.{AreCounts, brought, nodes};
 ghost use Rattle.lt_apart.specs.Carrying.{wire_from, BringsIn, BringsNext, OnlyBrings, StopsBringing, WaitsForMore, used_of};
-ghost use Rattle.lt_apart.specs.Faults.{IsWireCause};
+ghost use Rattle.lt_apart.specs.Faults.{IsWireCause, number_fault};
 
 use crate::ends::Ends;
 use crate::fault::{Refused, WireFault, of_frame};
@@ -100,6 +100,7 @@ fn bring_next(
 }
 
 // The frame with this number that stands at the front of the bytes.
+#[tactic(auto, using(crate::proofs::BroughtIn::number_is, crate::proofs::BroughtIn::number_cause))]
 fn frame_at(
     alloc: Global,
     key: &[u8],
@@ -112,10 +113,25 @@ fn frame_at(
     ensures cause { IfErr result (λ fault. (letters : List Letter) → length letters ≡ number → IsWireCause key.now wire letters fault bytes.now) }
 {
     match read_frame(alloc, key, wire, bytes) {
-        Ok(Some(frame)) if frame.number < number => Err(WireFault::Again),
-        Ok(Some(frame)) if number < frame.number => Err(WireFault::Missing),
-        Ok(read) => Ok(read),
+        Ok(None) => Ok(None),
+        Ok(Some(frame)) => match number_fault(frame.number, number) {
+            None => Ok(Some(frame)),
+            Some(fault) => Err(fault),
+        },
         Err(FrameError::Memory) => Err(WireFault::Memory),
         Err(FrameError::Fault(fault)) => Err(of_frame(fault)),
+    }
+}
+
+// What is wrong with a frame of this number, where that is the next one.
+fn number_fault(number: u64, next: u64) -> Option<WireFault>
+    ensures { result ≡ number_fault number next }
+{
+    if number < next {
+        Some(WireFault::Again)
+    } else if next < number {
+        Some(WireFault::Missing)
+    } else {
+        None
     }
 }

@@ -1,6 +1,6 @@
 // Letters that go out as bytes.
-ghost use Rattle.std.specs.Prelude.{◌≡◌, ◌<◌, ◌≤◌, Ok, Err, true, false, IfOk, OnErr};
-ghost use Rattle.lt_mail.specs.Words.{taken_from};
+ghost use Rattle.std.specs.Prelude.{◌≡◌, ◌<◌, ◌≤◌, Ok, Err, true, false, length, IfOk, OnErr, MatchBool};
+ghost use Rattle.lt_mail.specs.Words.{sent_to, taken_from};
 ghost use Rattle.lt_frames.specs.declared.fault.WriteError.TheVariants as errors;
 ghost use Rattle.lt_apart.specs.Remote.{HasFarEnds, CarriesNone, given, nodes};
 ghost use Rattle.lt_apart.specs.Carrying.{wire_to, GivesOut, OnlyGives, HasGivenAll, NextIsTooLong, gave};
@@ -34,6 +34,7 @@ impl Remote {
     }
 
     /// Whether a letter for a node waits to be given out.
+    #[tactic(auto, using(crate::proofs::GivenOut::pending_is))]
     pub fn pending(&mut self, to: u8) -> bool
         requires peer { to < nodes self.old }
         ensures value { MatchBool result (length (given self.new to) < length (sent_to self.new.station.runner.mail to)) (sent_to self.new.station.runner.mail to ≡ given self.new to) }
@@ -99,7 +100,10 @@ fn give_next(
     }
     match ends.far.first_known(wire.to) {
         None => return Ok(false),
-        Some(letter) => write_frame(out, key, wire, number, letter)?,
+        Some(letter) => match write_frame(out, key, wire, number, letter) {
+            Ok(()) => {}
+            Err(error) => return Err(error),
+        },
     }
     let _ = ends.far.take_next(wire.to);
     ends.given[usize::from(wire.to)] = number + 1;

@@ -40,22 +40,12 @@ impl Remote {
     ) -> Result<Option<NodeJournal>, AllocError>
         requires script { script.now ≡ self.station.runner.node.script }
         requires whole { self.station.runner.log.gone ≡ 0 }
-        ensures { IfOk result (λ made. IfSome made (λ journal. IsJournalOf self journal)) }
-        ensures all { ¬ (result ≡ Ok None) }
+        ensures written { IfOk result (λ made. IfSome made (λ journal. IsJournalOf self journal)) }
+        ensures some { ¬ (result ≡ Ok None) }
     {
-        let node = self.station.node();
-        let Remote {
-            service: _,
-            key,
-            station,
-            ends,
-        } = self;
-        drop(key);
-        drop(ends);
-        let (runner, seats) = station.into_parts();
-        drop(seats);
-        match runner.into_log() {
-            None => Ok(None),
+        let node = self.node();
+        match self.into_runner().into_log() {
+            None => unreachable!(),
             Some(log) => Ok(Some(NodeJournal {
                 script: print(alloc, script)?,
                 moves: lt_journal::write(alloc, script, &log, Some(node))?,

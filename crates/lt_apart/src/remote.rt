@@ -7,7 +7,7 @@ ghost use Rattle.lt_apart.specs.Remote.{me, nodes, brought, given, CarriesNone};
 
 use crate::ends::Ends;
 use lt_live::Station;
-use lt_runner::{Gate, Turned};
+use lt_runner::{Gate, Runner, Turned};
 use std::alloc::{AllocError, Global};
 use std::marker::Model;
 
@@ -124,5 +124,22 @@ impl Remote {
         ensures carried { CarriesNone self.old self.new }
     {
         self.station.forget_commands(alloc)
+    }
+
+    /// The node's runner alone; its sessions have no other ends any more.
+    pub(crate) fn into_runner(self) -> Runner
+        ensures { result ≡ self.station.runner }
+    {
+        let Remote {
+            service: _,
+            key,
+            station,
+            ends,
+        } = self;
+        drop(key);
+        drop(ends);
+        let (runner, seats) = station.into_parts();
+        drop(seats);
+        runner
     }
 }

@@ -1,23 +1,19 @@
 -- Frames are read again, and nothing else is read.
-use Rattle.std.proofs.Common.{◌≡◌, ◌≤◌, ◌<◌, ◌+◌, ◌^◌, ℕ, Bool, cond, List, [], ◌∷◌, ◌++◌, Option, Some, None, Result, Ok, Err, refl, sym, ap, subst, ◌∙◌, append_assoc, append-nil, arith, inl, inr, length, eq-eqb, nat_lt, ◌==◌}
+use Rattle.std.proofs.Common.{◌≡◌, ℕ, Bool, cond, List, [], ◌∷◌, ◌++◌, Option, Some, None, Result, Ok, Err, refl, sym, ap, subst, ◌∙◌, append_assoc, arith, inl, inr, length, eq-eqb}
 use Rattle.std.proofs.lemmas.Bool.{le-ltb}
 use Rattle.std.proofs.lemmas.List.{append_cancel_left, length-append}
-use Rattle.std.specs.List.{flat_map, AllByRecursion}
+use Rattle.std.specs.List.{flat_map}
 use Rattle.std.proofs.lemmas.List.Concat.{flat_map-cons}
-use mathlib.Core.List.{IsPrefix}
-use Rattle.lt_modes.specs.State.{Letter}
-use Rattle.lt_letters.specs.Laws.{IsBytes}
 use Rattle.lt_letters.specs.Spelling.{letter_bytes}
 use Rattle.lt_letters.specs.Reading.{whole_from}
-use Rattle.lt_letters.specs.declared.fault.Fault.{Fault}
 use Rattle.lt_letters.proofs.Forms.{ok_is}
 use Rattle.lt_letters.proofs.Found.{whole_again}
 use Rattle.lt_frames.specs.declared.head.Head.{Head}
 use Rattle.lt_frames.specs.declared.frame.Wire.{Wire}
-use Rattle.lt_frames.specs.declared.frame.TheConstants.{VERSION, MAX_LETTER}
+use Rattle.lt_frames.specs.declared.frame.TheConstants.{MAX_LETTER}
 use Rattle.lt_frames.specs.declared.fault.FrameFault.{FrameFault}
 use Rattle.lt_frames.specs.declared.fault.FrameFault.TheVariants.{Seal}
-use Rattle.lt_frames.specs.Frames.{Numbered, head_bytes, head_of, frame_bytes, frame_seal, FrameFits}
+use Rattle.lt_frames.specs.Frames.{Numbered, head_of, frame_bytes, frame_seal, FrameFits}
 use Rattle.lt_frames.specs.Reading.{Found, head_from, head_fault, letter_in, rest_from, unless_fault, after_head, frame_from}
 use Rattle.lt_frames.specs.Causes.{IsFrameCause}
 use Rattle.lt_frames.specs.Seen.{on_wire, found_of}

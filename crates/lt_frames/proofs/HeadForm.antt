@@ -1,5 +1,5 @@
 -- The form of a head.
-use Rattle.std.proofs.Common.{◌≡◌, ℕ, ◌+◌, ◌<◌, ◌≤◌, ◌^◌, Bool, true, false, cond, nat_lt, List, [], ◌∷◌, ◌++◌, length, Result, Ok, Err, refl, sym, ap, ◌∙◌, append-nil, arith, inl, inr}
+use Rattle.std.proofs.Common.{◌≡◌, ℕ, ◌<◌, ◌^◌, Bool, true, false, cond, nat_lt, List, [], ◌∷◌, ◌++◌, length, Result, Ok, Err, refl, sym, ap, ◌∙◌, append-nil, arith, inl, inr}
 use Rattle.std.proofs.lemmas.List.{length-append}
 use Rattle.std.specs.Int.{Width, w32, w64, byte_len}
 use Rattle.lt_letters.specs.declared.fault.Fault.{Fault}
@@ -7,7 +7,7 @@ use Rattle.lt_letters.specs.declared.fault.Fault.TheVariants.{Short}
 use Rattle.lt_letters.specs.Laws.{IsBytes}
 use Rattle.lt_letters.specs.Spelling.{byte, number32, number64}
 use Rattle.lt_letters.specs.Reading.{◌>>=◌, byte_from, number_from}
-use Rattle.lt_letters.proofs.Forms.{fails, fault_is, bind_err, IsForm, last_field, next_field, of_fields}
+use Rattle.lt_letters.proofs.Forms.{fault_is, bind_err, IsForm, last_field, next_field, of_fields}
 use Rattle.lt_letters.proofs.NumberForms.{number32_form, number64_form, byte_form}
 use Rattle.lt_frames.specs.declared.head.Head.{Head}
 use Rattle.lt_frames.specs.declared.frame.TheConstants.{HEAD}

@@ -5,4 +5,4 @@ pub mod Outcomes
 pub mod Frames
 pub mod Numbers
 pub mod Returned
-pub mod Writing
+pub mod FrameText

@@ -1,10 +1,10 @@
 -- Frames that were taken in by their numbers.
-use Rattle.std.proofs.Common.{◌≡◌, ℕ, zero, suc, ◌+◌, List, [], ◌∷◌, ◌++◌, Option, Some, None, refl, sym, ap, subst, ◌∙◌, arith, slice_get}
+use Rattle.std.proofs.Common.{◌≡◌, ℕ, zero, suc, ◌+◌, List, [], ◌∷◌, Some, None, refl, sym, ap, subst, ◌∙◌, arith, slice_get}
 use mathlib.Core.List.{IsPrefix}
 use Rattle.lt_modes.specs.State.{Letter}
 use Rattle.lt_frames.specs.declared.frame.Wire.{Wire}
 use Rattle.lt_frames.specs.Frames.{Numbered}
-use Rattle.lt_frames.specs.Laws.{numbered, IsOneOf, BearSealsOf, HaveNoDouble, SealedArePrefix}
+use Rattle.lt_frames.specs.Laws.{numbered, IsOneOf, SealedArePrefix}
 
 some_is : {A : Type 0} (x y : A) → Some x ≡ Some y → x ≡ y
 some_is x y e = cc

@@ -1,10 +1,9 @@
 -- What one who reads finds: nothing yet, a fault with its cause, or a frame.
-use Rattle.std.proofs.Common.{◌≡◌, ◌≢◌, ◌≤◌, ◌<◌, ◌+◌, ◌==◌, ℕ, Bool, true, false, cond, nat_lt, List, ◌++◌, Option, Some, None, Result, Ok, Err, refl, sym, ap, subst, ◌∙◌, append_assoc, arith, inl, inr, ◌⊎◌, length, eqb-true}
+use Rattle.std.proofs.Common.{◌≡◌, ◌+◌, ◌==◌, ℕ, Bool, true, false, cond, nat_lt, List, ◌++◌, Option, Some, None, Result, Ok, Err, refl, sym, ap, subst, ◌∙◌, arith, inl, inr, ◌⊎◌, length, eqb-true}
 use Rattle.std.proofs.lemmas.List.{length-append}
 use Rattle.std.proofs.lemmas.Bool.{eqb-false, ltb-true, ltb-false}
 use Rattle.lt_modes.specs.State.{Letter}
 use Rattle.lt_letters.specs.declared.fault.Fault.{Fault}
-use Rattle.lt_letters.specs.Causes.{IsCause}
 use Rattle.lt_letters.specs.Laws.{IsBytes}
 use Rattle.lt_letters.specs.Spelling.{letter_bytes, LetterFits}
 use Rattle.lt_letters.specs.Reading.{whole_from}
@@ -18,8 +17,8 @@ use Rattle.lt_frames.specs.declared.fault.FrameFault.TheVariants.{TooLong, Versi
 use Rattle.lt_frames.specs.Sealing.{seal_of, same_bytes}
 use Rattle.lt_frames.specs.Frames.{Numbered, head_bytes, head_of, frame_bytes, WireFits, FrameFits}
 use Rattle.lt_frames.specs.Reading.{Found, head_from, head_fault, letter_in, rest_from, unless_fault, after_head, frame_from}
-use Rattle.lt_frames.specs.Causes.{BeginWithHead, IsHeadOf, IsUnfinished, BeginWithSealed, IsFrameCause}
-use Rattle.lt_frames.specs.Seen.{on_wire, found_of}
+use Rattle.lt_frames.specs.Causes.{IsHeadOf, IsUnfinished, IsFrameCause}
+use Rattle.lt_frames.specs.Seen.{found_of}
 use Rattle.lt_frames.proofs.HeadForm.{HeadFits, head_form, head_size, less_than_head}
 use Rattle.lt_frames.proofs.Same.{same_is, not_same}
 use Rattle.lt_frames.proofs.Parts.{judged, rest_is, IsSplit, split, bytes_in_front, frame_parts, frame_size}

@@ -1,8 +1,7 @@
 -- The parts of the bytes of a frame.
-use Rattle.std.proofs.Common.{◌≡◌, ◌≤◌, ◌<◌, ◌+◌, ℕ, zero, suc, Bool, true, false, cond, nat_lt, List, [], ◌∷◌, ◌++◌, Option, Some, None, Result, Ok, Err, refl, sym, ap, ◌∙◌, append_assoc, arith, length, take, drop, get_or}
+use Rattle.std.proofs.Common.{◌≡◌, ◌≤◌, ◌+◌, ℕ, zero, suc, Bool, false, cond, nat_lt, List, [], ◌∷◌, ◌++◌, Option, None, Result, Ok, Err, sym, ap, ◌∙◌, append_assoc, arith, length, take, drop}
 use Rattle.std.proofs.lemmas.Bool.{le-ltb}
 use Rattle.std.proofs.lemmas.List.{length-append, length-take-le, length-drop, take_at, drop_at, take-append-drop}
-use Rattle.lt_letters.specs.declared.fault.Fault.{Fault}
 use Rattle.lt_letters.specs.Laws.{IsBytes}
 use Rattle.lt_letters.specs.Reading.{whole_from}
 use Rattle.lt_frames.specs.declared.head.Head.{Head}

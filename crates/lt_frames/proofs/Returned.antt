@@ -1,5 +1,5 @@
 -- What a reader of the code returned.
-use Rattle.std.proofs.Common.{◌≡◌, ◌+◌, ◌++◌, ℕ, List, Option, Some, None, Result, Ok, Err, refl, sym, ap, subst, ◌∙◌, inl, inr, length}
+use Rattle.std.proofs.Common.{◌≡◌, ◌+◌, ◌++◌, ℕ, List, Option, Some, None, Result, Ok, Err, refl, sym, ap, subst, ◌∙◌, inl, inr}
 use Rattle.std.specs.Prelude.{IfOk, IfSome}
 use Rattle.lt_letters.specs.Laws.{IsBytes}
 use Rattle.lt_frames.specs.declared.frame.Frame.{Frame}
@@ -15,9 +15,9 @@ use Rattle.lt_frames.specs.declared.head.Head.{Head}
 use Rattle.lt_frames.specs.declared.frame.TheConstants.{HEAD, SEAL}
 use Rattle.lt_frames.specs.Reading.{Found, letter_in, frame_from}
 use Rattle.lt_frames.specs.Causes.{IsUnfinished, IsFrameCause, BeginWithFrame}
-use Rattle.lt_frames.specs.Seen.{frame_seen, on_wire, found_of, IsFrameAt, IsFound, FrameFails, FindsFrame}
+use Rattle.lt_frames.specs.Seen.{frame_seen, on_wire, found_of, IsFrameAt, IsFound, FindsFrame}
 use Rattle.lt_frames.proofs.Frames.{nothing_yet, one_found, has_fault, frames_are_read, read_frames_are_written, frame_faults_have_causes}
-use Rattle.lt_frames.proofs.Outcomes.{IsTaken, outcome}
+use Rattle.lt_frames.proofs.Outcomes.{outcome}
 
 abbrev Returned : Type 0
 Returned = Result (Option Frame) FrameError

@@ -1,7 +1,6 @@
 -- Why bytes are no frame.
 use Rattle.std.specs.Prelude.{◌≡◌, ◌≢◌, ◌<◌, ◌≤◌, ◌+◌, ◌⊎◌, ℕ, List, ◌++◌, length}
 use Rattle.lt_letters.specs.Causes.{IsCause}
-use Rattle.lt_letters.specs.declared.fault.Fault.{Fault}
 use Rattle.lt_frames.specs.Sealing.{seal_of}
 use Rattle.lt_frames.specs.Frames.{Numbered, head_bytes, frame_bytes, FrameFits}
 use Rattle.lt_frames.specs.declared.frame.TheConstants.{HEAD, SEAL, VERSION, MAX_LETTER}

@@ -1,10 +1,10 @@
 // Frames, written at the end of bytes.
 ghost use Rattle.std.specs.Prelude.{◌≡◌, ◌≤◌, ◌<◌, ◌+◌, ◌++◌, Err, OnOk, OnErr, drop, length, replicate, take, vec_capacity};
-ghost use Rattle.sha2.specs.Sha256.{sha256};
 ghost use Rattle.lt_desk.specs.LetterSeen.{letter_seen};
 ghost use Rattle.lt_letters.specs.Puts.{PutsBytes};
 ghost use Rattle.lt_letters.specs.Spelling.{letter_bytes};
-ghost use Rattle.lt_frames.specs.Frames.{head_bytes, frame_bytes, FrameFits};
+ghost use Rattle.lt_frames.specs.Frames.{frame_bytes, FrameFits};
+ghost use Rattle.lt_frames.specs.Sealing.{seal_of};
 ghost use Rattle.lt_frames.specs.Seen.{frame_of};
 ghost use Rattle.lt_frames.specs.declared.fault.WriteError.TheVariants as errors;
 
@@ -16,14 +16,33 @@ use lt_desk::Letter;
 use lt_letters::{letter_fits, write_letter};
 use std::alloc::AllocError;
 
-// Puts the head over the first bytes, and answers the digest of all under the key.
-fn seal_up(sealed: &mut [u8], key: &[u8], head: Head) -> [u8; 32]
-    requires { 23 ≤ length sealed.old }
-    ensures sealed { sealed.new ≡ head_bytes head ++ drop 23 sealed.old }
-    ensures digest { result ≡ sha256 (key.now ++ (head_bytes head ++ drop 23 sealed.old)) }
+// Puts a head over the first bytes.
+fn put_first(sealed: &mut [u8], head: &[u8])
+    requires size { length head.now ≡ 23 }
+    requires within { 23 ≤ length sealed.old }
+    ensures { sealed.new ≡ head.now ++ drop 23 sealed.old }
 {
-    sealed[..HEAD].copy_from_slice(&head_array(head));
-    digest_of(key, sealed)
+    sealed[..HEAD].copy_from_slice(head);
+}
+
+// Puts a head over the bytes from the start on.
+#[tactic(auto, using(crate::proofs::FrameText::over))]
+fn put_over(out: &mut Vec<u8>, start: usize, head: &[u8])
+    requires size { length head.now ≡ 23 }
+    requires within { start + 23 ≤ length out.old.items }
+    ensures items { out.new.items ≡ take start out.old.items ++ (head.now ++ drop 23 (drop start out.old.items)) }
+    ensures room { vec_capacity out.new ≡ vec_capacity out.old }
+{
+    put_first(&mut out[start..], head);
+}
+
+// Writes the seal of all from the start on.
+fn put_seal(out: &mut Vec<u8>, start: usize, key: &[u8]) -> Result<(), AllocError>
+    requires { start ≤ length out.old.items }
+    ensures { PutsBytes (seal_of key.now (drop start out.old.items)) out.old out.new result }
+{
+    let digest = digest_of(key, &out[start..]);
+    out.extend_from_slice(&digest[..SEAL])
 }
 
 // Writes as many bytes as a head has, and then the letter.
@@ -42,11 +61,13 @@ fn put_frame(
     number: u64,
     letter: &Letter,
 ) -> Result<(), WriteError>
-    ensures written { OnOk result (out.new.items ≡ out.old.items ++ frame_bytes key.now (frame_of wire number (letter_seen letter.now))) }
+    ensures written { OnOk result (out.new.items
+        ≡ out.old.items ++ frame_bytes key.now (frame_of wire number (letter_seen letter.now))) }
     ensures fits { OnOk result (FrameFits (frame_of wire number (letter_seen letter.now))) }
     ensures front { take (length out.old.items) out.new.items ≡ out.old.items }
     ensures memory { result ≡ Err errors.Memory
-        → vec_capacity out.old < length out.old.items + length (frame_bytes key.now (frame_of wire number (letter_seen letter.now))) }
+        → vec_capacity out.old
+        < length out.old.items + length (frame_bytes key.now (frame_of wire number (letter_seen letter.now))) }
     ensures long { result ≡ Err errors.TooLong → MAX_LETTER < length (letter_bytes (letter_seen letter.now)) }
     ensures room { vec_capacity out.old ≤ vec_capacity out.new }
 {
@@ -63,8 +84,8 @@ fn put_frame(
         wire,
         number,
     };
-    let digest = seal_up(&mut out[start..], key, head);
-    out.extend_from_slice(&digest[..SEAL])?;
+    put_over(out, start, &head_array(head));
+    put_seal(out, start, key)?;
     Ok(())
 }
 
@@ -77,11 +98,13 @@ pub fn write_frame(
     number: u64,
     letter: &Letter,
 ) -> Result<(), WriteError>
-    ensures written { OnOk result (out.new.items ≡ out.old.items ++ frame_bytes key.now (frame_of wire number (letter_seen letter.now))) }
+    ensures written { OnOk result (out.new.items
+        ≡ out.old.items ++ frame_bytes key.now (frame_of wire number (letter_seen letter.now))) }
     ensures fits { OnOk result (FrameFits (frame_of wire number (letter_seen letter.now))) }
     ensures kept { OnErr result (out.new.items ≡ out.old.items) }
     ensures memory { result ≡ Err errors.Memory
-        → vec_capacity out.old < length out.old.items + length (frame_bytes key.now (frame_of wire number (letter_seen letter.now))) }
+        → vec_capacity out.old
+        < length out.old.items + length (frame_bytes key.now (frame_of wire number (letter_seen letter.now))) }
     ensures long { result ≡ Err errors.TooLong → MAX_LETTER < length (letter_bytes (letter_seen letter.now)) }
     ensures room { vec_capacity out.old ≤ vec_capacity out.new }
 {

@@ -160,6 +160,12 @@ impl Place {
         self.drop_used(rt, alloc, from, used);
     }
 
+    // The node says what it says of no session.
+    fn tell(&mut self, alloc: Global) {
+        let mut none: Vec<Session> = Vec::new(alloc);
+        self.remote.told(&mut none);
+    }
+
     // Brings the frames again that came last.
     fn bring_again<R: Abort>(&mut self, rt: &R, alloc: Global, from: u8) {
         holds(rt, usize::from(from) < self.last.len());
@@ -243,9 +249,12 @@ fn letters_are_carried_as_bytes(rt: HostRuntime) {
         holds(&rt, holders <= 1);
     }
     holds(&rt, places.iter().all(|place| place.left == 0));
+    for place in &mut places {
+        place.tell(alloc);
+    }
 }
 
-// What node 0 gives out for node 1 once its client has locked.
+// What node 1 gives out for another node once its client has locked.
 fn first_frame<R: Abort>(rt: &R, alloc: Global, service: u64, key: &[u8], to: u8) -> Vec<u8> {
     let (mut remote, mut sessions) = opened(rt, alloc, 1, service, key);
     holds(rt, !sessions.is_empty());
@@ -277,4 +286,20 @@ fn frames_of_others_are_refused(rt: HostRuntime) {
     refuses(&rt, 0, 7, b"another key", 1, &frame, WireFault::Seal, alloc);
     refuses(&rt, 2, 7, KEY, 1, &frame, WireFault::Receiver, alloc);
     refuses(&rt, 0, 7, KEY, 2, &frame, WireFault::Sender, alloc);
+}
+
+#[test]
+fn a_node_ends_with_its_moves(rt: HostRuntime) {
+    let alloc = rt.alloc();
+    let (mut remote, mut sessions) = opened(&rt, alloc, 0, 7, KEY);
+    holds(&rt, !sessions.is_empty());
+    let mut session = sessions.remove(0);
+    holds(&rt, session.left() > 0);
+    holds(&rt, session.may_submit(LOCK));
+    same(&rt, session.submit(LOCK), Ok(()));
+    same(&rt, remote.turn(&Open), Turned::Moved);
+    let ended = remote.into_journal(alloc).expect(&rt, "memory");
+    let journal = ended.expect(&rt, "no move is forgotten");
+    let moves = "move 1 0 act a\ngrant a s write\ncut 0\n";
+    holds(&rt, journal.moves.as_slice() == moves.as_bytes());
 }

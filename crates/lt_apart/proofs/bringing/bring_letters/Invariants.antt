@@ -5,8 +5,8 @@ use Rattle.lt_apart.specs.Remote.{AreCounts}
 use Rattle.lt_apart.specs.Carrying.{BringsIn, OnlyBrings}
 use Rattle.lt_apart.proofs.bringing.bring_letters.Given as goal
 
-abbrev pub invariant-loop : goal.invariant-loop
-invariant-loop l = record {
+abbrev pub invariant-loop-size : goal.invariant-loop-size
+invariant-loop-size l = record {
   counts : AreCounts (outs_count l.ends.far) l.ends.brought.items (sent_to l.ends.far);
   ends : SameEnds l.initial.ends.far l.ends.far;
   brings : BringsIn l.key l.wire l.used (sent_to l.initial.ends.far l.wire.from) (sent_to l.ends.far l.wire.from) l.bytes;
@@ -14,5 +14,5 @@ invariant-loop l = record {
   given : l.ends.given ≡ l.initial.ends.given;
 }
 
-abbrev pub decreases-loop : goal.decreases-loop
-decreases-loop l = length l.bytes - l.used
+abbrev pub decreases-loop-size : goal.decreases-loop-size
+decreases-loop-size l = length l.bytes - l.used

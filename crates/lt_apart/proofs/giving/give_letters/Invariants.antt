@@ -5,8 +5,8 @@ use Rattle.lt_apart.specs.Remote.{HasFarEnds}
 use Rattle.lt_apart.specs.Carrying.{GivesOut, OnlyGives}
 use Rattle.lt_apart.proofs.giving.give_letters.Given as goal
 
-abbrev pub invariant-loop : goal.invariant-loop
-invariant-loop l = record {
+abbrev pub invariant-loop-count : goal.invariant-loop-count
+invariant-loop-count l = record {
   far : HasFarEnds l.station.runner l.ends.far l.ends.given.items l.ends.brought.items;
   gives : GivesOut l.key l.wire l.count (taken_from l.initial.ends.far l.wire.to) (taken_from l.ends.far l.wire.to) l.initial.out.items l.out.items;
   most : l.count ≤ l.most;
