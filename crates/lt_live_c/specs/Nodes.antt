@@ -141,10 +141,15 @@ pub record TakesIn (from used : ℕ) (bytes : List ℕ) (a b : NodeData) : Type 
   pub sessions : b.sessions ≡ a.sessions
   pub ready : b.ready ≡ a.ready
 
--- no whole frame is left, or there is no place for it; or why it was refused
+-- no whole frame is left, or there is no place for it
+pub record ReceivesAll (code from used : ℕ) (bytes : List ℕ) (a b : NodeData) : Type 0 where
+  pub code_is : code ≡ OK
+  pub rest : WaitsForMore (wire_from a.remote from) b.remote.far (drop used bytes)
+
+-- so it is; or why a frame was refused
 abbrev pub ReceiveEnds : ℕ → ℕ → ℕ → List ℕ → NodeData → NodeData → Type 0
 ReceiveEnds code from used bytes a b =
-    ((code ≡ OK) × WaitsForMore (wire_from a.remote from) b.remote.far (drop used bytes))
+    ReceivesAll code from used bytes a b
     ⊎ ((fault : WireFault) × ((code ≡ number_of_fault fault)
     × IsWireCause a.remote.key (wire_from a.remote from) (brought b.remote from) fault (drop used bytes)))
 
