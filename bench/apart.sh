@@ -33,7 +33,7 @@ run() {
 
 run_all() {
   for work in own one read; do
-    for nodes in 1 2 4 8; do run "$1" $work $nodes; done
+    for nodes in 1 2 4 8; do run "$1" "$work" "$nodes"; done
   done
 }
 

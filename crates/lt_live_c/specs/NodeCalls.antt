@@ -13,10 +13,12 @@ use Rattle.lt_live_c.specs.Nodes.{IsPeer, IsOpenedNode}
 use Rattle.lt_live_c.specs.Taking.{BothStand}
 
 abbrev pub HandleOpenedNode : List ℕ → ℕ → List ℕ → ℕ → ℕ → ℕ → Option Content → Type 0
-HandleOpenedNode text node key start limit places (Some (contents.Node n)) = IsOpenedNode text node key start limit places n
+HandleOpenedNode text node key start limit places (Some (contents.Node n)) =
+    IsOpenedNode text node key start limit places n
 HandleOpenedNode text node key start limit places other = ⊥
 
--- this is done with the node, where the number is that of another node of its script; else nothing is, and the code says so
+-- this is done with the node, where the number is that of another node of its script; else nothing is, and the code
+-- says so
 abbrev pub WithPeer : ℕ → ℕ → (NodeData → NodeData → Type 0) → NodeData → NodeData → Type 0
 WithPeer code peer R a b = (IsPeer a peer × R a b) ⊎ ((code ≡ BAD_ARGUMENT) × ((IsPeer a peer → ⊥) × (b ≡ a)))
 
@@ -29,11 +31,12 @@ OnNode code peer R other b = (code ≡ WRONG_HANDLE) × (b ≡ other)
 abbrev pub AtNode : ℕ → ℕ → (NodeData → NodeData → Type 0) → Option Content → Option Content → Type 0
 AtNode code peer R a b = BothStand (OnNode code peer R) a b
 
--- the texts of the script with the commands of the node's clients, and of its moves with the line of a run that was cut there; no
--- line says what is held or who waits
+-- the texts of the script with the commands of the node's clients, and of its moves with the line of a run that was
+-- cut there; no line says what is held or who waits
 pub record IsJournalOfNode (n : NodeData) (journal : Journal) : Type 0 where
   pub script : journal.script.items ≡ print_of n.remote.station.runner.node.script
-  pub text : journal.text.items ≡ text_of n.remote.station.runner.node.script n.remote.station.runner.log.entries (Some (me n.remote))
+  pub text : journal.text.items ≡ text_of n.remote.station.runner.node.script n.remote.station.runner.log.entries
+      (Some (me n.remote))
   pub held : journal.held ≡ 0
   pub waiting : journal.waiting ≡ 0
 

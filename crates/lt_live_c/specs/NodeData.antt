@@ -4,7 +4,8 @@ use Rattle.std.specs.Global.{Global}
 use Rattle.lt_live.specs.declared.ends.Session.{Session}
 use Rattle.lt_apart.specs.Remote.{RemoteData}
 
--- the node, those of its sessions that weren't taken, and for each node the bytes of a frame that was given out and found no room
+-- the node, those of its sessions that weren't taken, and for each node the bytes of a frame that was given out and
+-- found no room
 pub record NodeData : Type 0 where
   pub remote : RemoteData
   pub sessions : List Session

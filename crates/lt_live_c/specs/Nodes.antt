@@ -58,13 +58,15 @@ pub record IsOpenedNode (text : List ℕ) (node : ℕ) (key : List ℕ) (start l
   pub script : ScriptData
   pub read : read_of text ≡ Ok script
   pub inside : node < script.nodes
-  pub opened : IsOpenRemote (record script { commands = [] }) node (service_number text start) key limit places (most_share script) n.remote n.sessions
+  pub opened : IsOpenRemote (record script { commands = [] }) node (service_number text start) key limit places
+      (most_share script) n.remote n.sessions
   pub unsent_none : AreEmpty n.ready
 
 -- a number is out of range, the text is too long, or its script has no such node
 abbrev pub HasNoPlace : List ℕ → ℕ → ℕ → ℕ → Type 0
 HasNoPlace text node limit places =
-    (fits_for_c text limit places ≡ false) ⊎ ((script : ScriptData) × ((read_of text ≡ Ok script) × (script.nodes ≤ node)))
+    (fits_for_c text limit places ≡ false) ⊎ ((script : ScriptData) × ((read_of text ≡ Ok script)
+        × (script.nodes ≤ node)))
 
 -- why no node was opened
 pub record NodeOpenRefused (code : ℕ) (text : List ℕ) (node limit places : ℕ) : Type 0 where
@@ -79,10 +81,12 @@ abbrev pub number_of_error : WriteError → ℕ
 number_of_error writing.Memory = NO_MEMORY
 number_of_error writing.TooLong = TOO_LONG
 
--- what was unsent and the frames of letters that are given out now are these bytes and what is unsent then; nothing else happened
+-- what was unsent and the frames of letters that are given out now are these bytes and what is unsent then; nothing
+-- else happened
 pub record PassesOn (to : ℕ) (sent : List ℕ) (a b : NodeData) : Type 0 where
   pub count : ℕ
-  pub frames : GivesOut a.remote.key (wire_to a.remote to) count (given a.remote to) (given b.remote to) (unsent a to) (sent ++ unsent b to)
+  pub frames : GivesOut a.remote.key (wire_to a.remote to) count (given a.remote to) (given b.remote to)
+      (unsent a to) (sent ++ unsent b to)
   pub others : (node : ℕ) → node ≢ to → unsent b node ≡ unsent a node
   pub only : OnlyGives to a.remote.station b.remote.station a.remote.far b.remote.far
   pub same : (b.remote.service ≡ a.remote.service) × (b.remote.key ≡ a.remote.key)
@@ -116,7 +120,8 @@ pub record SendsLater (code to length_now : ℕ) (buffer buffer_now : List ℕ) 
 abbrev pub Sends : ℕ → ℕ → ℕ → ℕ → List ℕ → List ℕ → NodeData → NodeData → Type 0
 Sends code to length_was length_now buffer buffer_now a b =
     SendsBytes code to length_now buffer buffer_now a b
-    ⊎ (SendsNone code to length_was length_now buffer buffer_now a b ⊎ SendsLater code to length_now buffer buffer_now a b)
+    ⊎ (SendsNone code to length_was length_now buffer buffer_now a b ⊎ SendsLater code to length_now buffer
+        buffer_now a b)
 
 -- Letters that come in.
 
@@ -135,9 +140,11 @@ number_of_fault faults.Missing = MISSING
 
 -- the letters of the frames that these bytes begin with came in, and nothing else happened
 pub record TakesIn (from used : ℕ) (bytes : List ℕ) (a b : NodeData) : Type 0 where
-  pub brings : BringsIn a.remote.key (wire_from a.remote from) used (brought a.remote from) (brought b.remote from) bytes
+  pub brings : BringsIn a.remote.key (wire_from a.remote from) used (brought a.remote from)
+      (brought b.remote from) bytes
   pub only : OnlyBrings from a.remote.far b.remote.far
-  pub same : (b.remote.service ≡ a.remote.service) × (b.remote.key ≡ a.remote.key) × (b.remote.station ≡ a.remote.station)
+  pub same : (b.remote.service ≡ a.remote.service) × (b.remote.key ≡ a.remote.key)
+      × (b.remote.station ≡ a.remote.station)
   pub sessions : b.sessions ≡ a.sessions
   pub ready : b.ready ≡ a.ready
 
@@ -187,8 +194,10 @@ pub record TellsPending (code to : ℕ) (a b : NodeData) : Type 0 where
 -- Parts of the above.
 
 -- the node of this script at its start, without the script's commands
-pub record IsNodeStart (script : ScriptData) (node service : ℕ) (key : List ℕ) (limit places : ℕ) (n : NodeData) : Type 0 where
-  pub opened : IsOpenRemote (record script { commands = [] }) node service key limit places (most_share script) n.remote n.sessions
+pub record IsNodeStart (script : ScriptData) (node service : ℕ) (key : List ℕ) (limit places : ℕ)
+    (n : NodeData) : Type 0 where
+  pub opened : IsOpenRemote (record script { commands = [] }) node service key limit places
+      (most_share script) n.remote n.sessions
   pub empty : AreEmpty n.ready
 
 -- it is the first session that wasn't taken, and the others are left
