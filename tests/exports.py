@@ -23,6 +23,7 @@ CROSSES = {
     "&[NewSet<'_>]": ['*set', 'size'], "&'a [u8]": ['*u8', 'size']}
 IN_C = {'uint32_t': 'u32', 'uint64_t': 'u64', 'size_t': 'size', 'lockrun_handle *': '*handle', 'lockrun_service *': '*handle',
         'lockrun_station *': '*handle', 'lockrun_session *': '*handle', 'lockrun_journal *': '*handle',
+        'lockrun_remote *': '*handle',
         'const lockrun_new_set *': '*set', 'const uint8_t *': '*u8', 'uint8_t *': '*u8', 'uint32_t *': '*u32',
         'uint64_t *': '*u64', 'size_t *': '*size', 'void': None}
 IN_RUST = {'u32': 'u32', 'u64': 'u64', 'usize': 'size', '*mut Handle': '*handle', '*const NewSet': '*set', '*const u8': '*u8',
@@ -47,7 +48,7 @@ def sized(kind):
 def of_crate():
     """Of each export what it returns and its arguments, with their names; a length has none."""
     found = {}
-    for name, arguments, result in re.findall(r'extern "C" fn (\w+)\((.*?)\)(?: -> (\w+))?\n', CRATE, re.S):
+    for name, arguments, result in re.findall(r'extern "C" fn (\w+)\((.*?)\)(?: -> (\w+))?\s', CRATE, re.S):
         crossing = []
         for argument in filter(None, re.split(r',\s*', arguments.strip())):
             word, kind = argument.split(': ')

@@ -3,13 +3,18 @@
  * tests/exports.py compares this file with the exports of crates/lt_live_c. What a C compiler can't see is a duty of the
  * caller, and nothing checks it:
  * - A handle that isn't in use is {0}. Each call wants handles that stand for something, but for the last argument of
- *   lockrun_open, lockrun_open_sets, lockrun_take_station, lockrun_take_session and lockrun_finish. That one is written
- *   over where the call answers LOCKRUN_OK, so it is to be {0}: what it stood for would never be freed.
+ *   lockrun_open, lockrun_open_sets, lockrun_take_station, lockrun_take_session, lockrun_finish, lockrun_node_open and
+ *   lockrun_node_finish. That one is written over where the call answers LOCKRUN_OK, so it is to be {0}: what it stood for
+ *   would never be freed.
  * - Two arguments of a call are never the same handle, and no two copies of a handle are in use. It is in one call at a
  *   time. It may go from thread to thread if the calls are ordered: by a mutex, pthread_create or pthread_join, or a
  *   sequentially consistent atomic. Two sessions, or a session and its station, may be in calls at the same time.
  * - lockrun_finish wants a service that has all stations in the order of nodes, and all sessions in the order of clients,
  *   which were opened by one call. lockrun_served wants them so if there are as many as all.
+ * - All nodes of a service that are opened by lockrun_node_open are opened with the same text and the same key, each number
+ *   in one process, and only they have the key. What lockrun_send gave for a node is carried to that node alone; it may come
+ *   late, in pieces, damaged, repeated, in another order or never. A node that has ended is opened again only with a new
+ *   start, and then all others too.
  * - No call comes from a signal handler, nor from the forked child of a process with threads.
  * - malloc, realloc and free are those of one allocator.
  */
@@ -26,6 +31,7 @@ typedef lockrun_handle lockrun_service;
 typedef lockrun_handle lockrun_station;
 typedef lockrun_handle lockrun_session;
 typedef lockrun_handle lockrun_journal;
+typedef lockrun_handle lockrun_remote; /* a node whose other nodes lie in other processes */
 
 enum lockrun_mode {
     LOCKRUN_INTENTION_READ,
@@ -48,17 +54,27 @@ enum lockrun_kind {
 enum lockrun_code {
     LOCKRUN_OK,
     LOCKRUN_NOTHING,      /* no station or session is left; no move was made; no reply is known; no set has this name;
-                             one is still out */
+                             one is still out; no letter waits for the node */
     LOCKRUN_WRONG_HANDLE, /* it stands for something else; nothing happened */
     LOCKRUN_NO_MEMORY,
     LOCKRUN_BAD_ARGUMENT, /* a number out of range, or a command that names what the script doesn't have */
     LOCKRUN_BAD_SCRIPT,
     LOCKRUN_SPENT,        /* the session's share of commands is used up: 2^59 by the number of clients */
-    LOCKRUN_FULL,         /* the ring has no place now: try again later */
+    LOCKRUN_FULL,         /* the ring has no place now: try again later; the buffer has no room for a frame */
     LOCKRUN_LOG_FULL,     /* the node made as many moves as it may */
     LOCKRUN_FORGOTTEN,    /* a station has forgotten moves or commands */
     LOCKRUN_TOO_MANY,     /* more than 4,096 commands or 8 sets: no text of a script has as many; more than 65,536 sets */
-    LOCKRUN_BAD_SET       /* a further set has no new name, or its parent is no set before it */
+    LOCKRUN_BAD_SET,      /* a further set has no new name, or its parent is no set before it */
+    /* Why a frame was not received. */
+    LOCKRUN_OTHER_VERSION = 40, /* it is of another version of the format */
+    LOCKRUN_OTHER_SERVICE,      /* it is of another service: of another text, or of another start */
+    LOCKRUN_OTHER_NODE,         /* another node gave it out, or it is for another node */
+    LOCKRUN_MISSING,            /* frames before it are missing */
+    LOCKRUN_AGAIN,              /* it was received before */
+    LOCKRUN_TOO_LONG,           /* its letter has more bytes than a letter may have: 16,777,216 */
+    LOCKRUN_BAD_SEAL,           /* it was damaged, or made by one who doesn't have the key */
+    LOCKRUN_NO_LETTER,          /* its seal is right, and what it has is no letter */
+    LOCKRUN_MISFIT              /* a letter that was received before fits no node that was opened with this text */
 };
 
 enum lockrun_reply {
@@ -139,6 +155,31 @@ uint32_t lockrun_finish(lockrun_service *service, lockrun_journal *journal);
 /* Copies bytes of the journal, or of its script with the commands, from this one on, and tells how many. */
 size_t lockrun_copy(lockrun_journal *journal, size_t from, uint8_t *out, size_t room);
 size_t lockrun_script(lockrun_journal *journal, size_t from, uint8_t *out, size_t room);
+
+/* Opens one node of the script, whose other nodes are opened in other processes, with the same text, key and start: a number
+ * that differs from that of each earlier time. `limit` and `places` are as in lockrun_open. The node stands for a station in
+ * lockrun_turn and lockrun_forget, and lockrun_take_session takes from it the sessions of its own clients, in order. */
+uint32_t lockrun_node_open(const uint8_t *text, size_t length, uint32_t node, const uint8_t *key, size_t key_length,
+                           uint64_t start, uint64_t limit, uint32_t places, lockrun_remote *opened);
+
+/* Puts frames that are to be carried to the node `to` at the front of the buffer, as many whole ones as there is room for, and
+ * tells in `length` how many bytes they have. LOCKRUN_NOTHING if no letter waits; LOCKRUN_FULL if not one frame has room, and
+ * then `length` is the room that it wants. */
+uint32_t lockrun_send(lockrun_remote *node, uint32_t to, uint8_t *buffer, size_t room, size_t *length);
+
+/* Receives the frames of the node `from` at the front of the bytes, as far as they are whole and the node has places, and tells
+ * in `used` how many bytes these have. What is left is to be given again, with what comes after it, once the node has made
+ * turns. Where a frame is refused the code says why; `used` is then that of the frames before it, which were received, and
+ * the node is as it was after these. */
+uint32_t lockrun_receive(lockrun_remote *node, uint32_t from, const uint8_t *bytes, size_t length, size_t *used);
+
+/* LOCKRUN_OK if a letter waits to be carried to the node `to`, LOCKRUN_NOTHING if none does. */
+uint32_t lockrun_pending(lockrun_remote *node, uint32_t to);
+
+/* Ends the node, whose sessions are of no use any more: the lines of its own moves, with the line `cut NODE` after them, and
+ * the script with the commands of its own clients. `node` is {0} then, also without memory, and after LOCKRUN_FORGOTTEN and
+ * LOCKRUN_TOO_MANY: then all is lost. */
+uint32_t lockrun_node_finish(lockrun_remote *node, lockrun_journal *journal);
 
 /* How many lines of the journal say what is held at the end, and how many say who waits. */
 uint32_t lockrun_end(lockrun_journal *journal, size_t *held, size_t *waiting);

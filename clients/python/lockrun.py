@@ -25,6 +25,7 @@ from typing import Any, Callable, Dict, Iterator, List, Optional, Sequence, Tupl
 
 OK, NOTHING, WRONG_HANDLE, NO_MEMORY, BAD_ARGUMENT, BAD_SCRIPT, SPENT, FULL, LOG_FULL, FORGOTTEN, TOO_MANY, BAD_SET = \
     range(12)
+OTHER_VERSION, OTHER_SERVICE, OTHER_NODE, MISSING, AGAIN, TOO_LONG, BAD_SEAL, NO_LETTER, MISFIT = range(40, 49)
 LOCK, TRY, UNLOCK, CHANGE, DROP, WITHDRAW = range(6)
 GRANTED, TRUE, FALSE, UNLOCKED, NOT_HELD, CHANGED, DROPPED, BUSY, WITHDRAWN, WITHHELD = range(16, 26)
 MODES = ('intention_read', 'read', 'upgrade', 'intention_write', 'read_intention_write', 'write')
@@ -47,6 +48,15 @@ FAULTS = {
     FORGOTTEN: 'a node has forgotten moves or commands',
     TOO_MANY: 'more than 65,536 sets; or more than 8 sets or 4,096 commands, and so no journal',
     BAD_SET: 'a further set has no new name, or its parent is no set before it',
+    OTHER_VERSION: 'a frame is of another version of the format',
+    OTHER_SERVICE: 'a frame is of another service: of another script, or of another start',
+    OTHER_NODE: 'a frame is of another node, or for another one',
+    MISSING: 'frames before this one are missing',
+    AGAIN: 'a frame was received before',
+    TOO_LONG: 'a letter has more bytes than one may have',
+    BAD_SEAL: 'a frame was damaged, or made by one who does not have the key',
+    NO_LETTER: 'a frame has no letter',
+    MISFIT: 'a letter fits no node that was opened with this script',
     NOT_HELD: "the client doesn't hold this mode",
     BUSY: 'the client whose locks should be dropped waits',
     WITHHELD: 'what the client gave up in this set still stands',
@@ -88,6 +98,11 @@ EXPORTS = {
     'lockrun_script': (c_size_t, AT, c_size_t, BYTES, c_size_t),
     'lockrun_end': (c_uint32, AT, SIZE, SIZE),
     'lockrun_free': (None, AT),
+    'lockrun_node_open': (c_uint32, BYTES, c_size_t, c_uint32, BYTES, c_size_t, c_size_t, c_size_t, c_uint32, AT),
+    'lockrun_send': (c_uint32, AT, c_uint32, BYTES, c_size_t, SIZE),
+    'lockrun_receive': (c_uint32, AT, c_uint32, BYTES, c_size_t, SIZE),
+    'lockrun_pending': (c_uint32, AT, c_uint32),
+    'lockrun_node_finish': (c_uint32, AT, AT),
 }
 
 
@@ -224,6 +239,13 @@ class Nodes:
     def turn_all(self) -> bool:
         """A turn of each node: whether one made a move."""
         return any([self.turn(node) for node in range(len(self.stations))])
+
+    @staticmethod
+    def nap(tries: int, _end: Optional[float]) -> int:
+        """Naps after some tries, and counts them."""
+        if tries >= SPINS:
+            time.sleep(min(LONGEST_NAP, (tries - SPINS) * 1e-6))
+        return tries + 1
 
     def forget(self) -> None:
         """Lets each node forget its moves and commands: their memory serves further ones. Then they have no journal. Other
@@ -474,7 +496,7 @@ class Session:
             self._turn(self.nodes.turn, self.home)
             if (reply := self._take_reply()) is not None:
                 return reply
-            tries = back_off(tries)
+            tries = self.nodes.nap(tries, None)
 
     def _end_ask(self) -> None:
         """Gives up what is asked for, if anything is; and a lock that was granted first is unlocked."""
@@ -495,7 +517,7 @@ class Session:
                 return reply
             if tries >= OWN and end is not None and time.monotonic() >= end:
                 raise StillWaits
-            tries = back_off(tries)
+            tries = self.nodes.nap(tries, end)
 
     def _take_reply(self) -> Optional[Tuple[int, int]]:
         """Takes the next reply, if there is one: that to the command, once all have come."""
@@ -530,7 +552,7 @@ class Session:
         end, tries = time.monotonic() + pause, 0
         while time.monotonic() < end:
             self._help(tries)
-            tries = back_off(tries)
+            tries = self.nodes.nap(tries, end)
 
     def _help(self, tries: int) -> None:
         if tries < OWN:
@@ -546,13 +568,6 @@ class Session:
         except LockError as error:
             if error.code != NO_MEMORY:
                 raise
-
-
-def back_off(tries: int) -> int:
-    """Naps after some tries, and counts them."""
-    if tries >= SPINS:
-        time.sleep(min(LONGEST_NAP, (tries - SPINS) * 1e-6))
-    return tries + 1
 
 
 class Guard:

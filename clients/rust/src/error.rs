@@ -32,6 +32,26 @@ pub enum Error {
     NothingAsked,
     /// These are not all sessions that were opened with the nodes.
     OtherSessions,
+    /// A frame is of another version of the format.
+    OtherVersion,
+    /// A frame is of another service: of another script, or of another start.
+    OtherService,
+    /// A frame is of another node, or for another one.
+    OtherNode,
+    /// Frames before this one are missing.
+    Missing,
+    /// A frame was received before.
+    Again,
+    /// A letter has more bytes than one may have.
+    TooLong,
+    /// A frame was damaged, or made by one who doesn't have the key.
+    BadSeal,
+    /// A frame has no letter.
+    NoLetter,
+    /// A letter fits no node that was opened with this script.
+    Misfit,
+    /// The transport is broken.
+    NoCarrier,
 }
 
 impl Error {
@@ -48,6 +68,15 @@ impl Error {
             exports::BUSY => Error::Busy,
             exports::WITHDRAWN => Error::Withdrawn,
             exports::WITHHELD => Error::Withheld,
+            exports::OTHER_VERSION => Error::OtherVersion,
+            exports::OTHER_SERVICE => Error::OtherService,
+            exports::OTHER_NODE => Error::OtherNode,
+            exports::MISSING => Error::Missing,
+            exports::AGAIN => Error::Again,
+            exports::TOO_LONG => Error::TooLong,
+            exports::BAD_SEAL => Error::BadSeal,
+            exports::NO_LETTER => Error::NoLetter,
+            exports::MISFIT => Error::Misfit,
             _ => Error::BadArgument,
         }
     }
@@ -71,6 +100,16 @@ impl fmt::Display for Error {
             Error::StillWaits => "the client still waits",
             Error::NothingAsked => "the client asked for nothing",
             Error::OtherSessions => "these are not all sessions of the nodes",
+            Error::OtherVersion => "a frame is of another version of the format",
+            Error::OtherService => "a frame is of another service: of another script, or of another start",
+            Error::OtherNode => "a frame is of another node, or for another one",
+            Error::Missing => "frames before this one are missing",
+            Error::Again => "a frame was received before",
+            Error::TooLong => "a letter has more bytes than one may have",
+            Error::BadSeal => "a frame was damaged, or made by one who doesn't have the key",
+            Error::NoLetter => "a frame has no letter",
+            Error::Misfit => "a letter fits no node that was opened with this script",
+            Error::NoCarrier => "the transport is broken",
         })
     }
 }

@@ -49,6 +49,21 @@ extern "C" {
     pub fn lockrun_script(journal: *mut Handle, from: usize, out: *mut u8, room: usize) -> usize;
     pub fn lockrun_end(journal: *mut Handle, held: *mut usize, waiting: *mut usize) -> u32;
     fn lockrun_free(handle: *mut Handle);
+    pub fn lockrun_node_open(
+        text: *const u8,
+        length: usize,
+        node: u32,
+        key: *const u8,
+        key_length: usize,
+        start: u64,
+        limit: u64,
+        places: u32,
+        opened: *mut Handle,
+    ) -> u32;
+    pub fn lockrun_send(node: *mut Handle, to: u32, buffer: *mut u8, room: usize, length: *mut usize) -> u32;
+    pub fn lockrun_receive(node: *mut Handle, from: u32, bytes: *const u8, length: usize, used: *mut usize) -> u32;
+    pub fn lockrun_pending(node: *mut Handle, to: u32) -> u32;
+    pub fn lockrun_node_finish(node: *mut Handle, journal: *mut Handle) -> u32;
 }
 
 impl Handle {
@@ -80,6 +95,15 @@ pub const LOG_FULL: u32 = 8;
 pub const FORGOTTEN: u32 = 9;
 pub const TOO_MANY: u32 = 10;
 pub const BAD_SET: u32 = 11;
+pub const OTHER_VERSION: u32 = 40;
+pub const OTHER_SERVICE: u32 = 41;
+pub const OTHER_NODE: u32 = 42;
+pub const MISSING: u32 = 43;
+pub const AGAIN: u32 = 44;
+pub const TOO_LONG: u32 = 45;
+pub const BAD_SEAL: u32 = 46;
+pub const NO_LETTER: u32 = 47;
+pub const MISFIT: u32 = 48;
 
 pub const LOCK: u32 = 0;
 pub const TRY: u32 = 1;

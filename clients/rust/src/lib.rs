@@ -6,14 +6,18 @@
 #![doc = include_str!("../README.md")]
 #![deny(unsafe_op_in_unsafe_fn)]
 
+mod apart;
 mod error;
 mod exports;
 mod guard;
 mod nodes;
 mod session;
+mod tcp;
 mod waiting;
 
+pub use apart::{Apart, Carrier, Place};
 pub use error::Error;
 pub use guard::Guard;
 pub use nodes::{open, open_sets, Journal, NewSet, Nodes, Served};
 pub use session::{Mode, Session};
+pub use tcp::Tcp;

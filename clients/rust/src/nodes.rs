@@ -105,7 +105,7 @@ fn new_set(set: &NewSet<'_>) -> exports::NewSet {
     exports::NewSet { name: name.as_ptr(), length: name.len(), parent: parent.as_ptr(), parent_length: parent.len() }
 }
 
-fn take_all(service: &mut Handle, take: Take) -> Result<Vec<Handle>, Error> {
+pub(crate) fn take_all(service: &mut Handle, take: Take) -> Result<Vec<Handle>, Error> {
     let mut found = Vec::new();
     loop {
         let mut next = Handle::NONE;
@@ -256,9 +256,14 @@ fn served(service: &mut Handle) -> Result<Served, Error> {
 }
 
 fn finish(mut service: Handle) -> Result<Journal, Error> {
-    let (mut journal, mut held, mut waiting) = (Handle::NONE, 0, 0);
+    let mut journal = Handle::NONE;
     // SAFETY: all stations and all sessions of one `open` were given back in order.
     check(unsafe { exports::lockrun_finish(&mut service, &mut journal) })?;
+    read_journal(journal)
+}
+
+pub(crate) fn read_journal(mut journal: Handle) -> Result<Journal, Error> {
+    let (mut held, mut waiting) = (0, 0);
     // SAFETY: the journal stands for something.
     check(unsafe { exports::lockrun_end(&mut journal, &mut held, &mut waiting) })?;
     let script = text(&mut journal, exports::lockrun_script);

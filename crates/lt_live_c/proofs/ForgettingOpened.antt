@@ -14,6 +14,7 @@ after_forget code Told says a (Some (contents.Service s)) h = absurd h
 after_forget code Told says a (Some (contents.Station b)) h = says a b h
 after_forget code Told says a (Some (contents.Session s)) h = absurd h
 after_forget code Told says a (Some (contents.Journal journal)) h = absurd h
+after_forget code Told says a (Some (contents.Node node)) h = absurd h
 
 pub forgets_told : ForgetsTold
 forgets_told = record {

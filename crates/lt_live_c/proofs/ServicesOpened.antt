@@ -72,6 +72,7 @@ opened (Some (contents.Service s)) h = opened_so s h
 opened (Some (contents.Station other)) h = absurd h
 opened (Some (contents.Session other)) h = absurd h
 opened (Some (contents.Journal other)) h = absurd h
+opened (Some (contents.Node other)) h = absurd h
 
 never_opened : (new : Option Content) → HandleOpened [] 9 2 new → ⊥
 never_opened None h = h
@@ -79,6 +80,7 @@ never_opened (Some (contents.Service s)) h = script_or_fault h.0 no_nodes (read_
 never_opened (Some (contents.Station other)) h = h
 never_opened (Some (contents.Session other)) h = h
 never_opened (Some (contents.Journal other)) h = h
+never_opened (Some (contents.Node other)) h = h
 
 pub fits : (bytes : List ℕ) (limit places : ℕ)
     → length bytes ≤ 1048576 → 0 < limit → limit ≤ 36028797018963968 → 0 < places → places ≤ 4096
@@ -117,6 +119,7 @@ finished first Told told s None live h = absurd h
 finished first Told told s (Some (contents.Service other)) live h = absurd h
 finished first Told told s (Some (contents.Station other)) live h = absurd h
 finished first Told told s (Some (contents.Session other)) live h = absurd h
+finished first Told told s (Some (contents.Node other)) live h = absurd h
 finished first Told told s (Some (contents.Journal journal)) live h =
     let made = h first live in (made.0, made.1, told s made.0 made.1 live made.2, made.4)
 
@@ -161,6 +164,7 @@ counted_so x s None is own log live h = absurd h
 counted_so x s (Some (contents.Service other)) is own log live h = absurd h
 counted_so x s (Some (contents.Station other)) is own log live h = absurd h
 counted_so x s (Some (contents.Session other)) is own log live h = absurd h
+counted_so x s (Some (contents.Node other)) is own log live h = absurd h
 counted_so x s (Some (contents.Journal journal)) is own log live h =
     let made = h (record three_writers { commands = [] }) live in
     let whole : IsRunOfService (record three_writers { commands = [] }) (x ∷ []) s.sessions.items made.0 made.1 =
@@ -182,6 +186,7 @@ read_again prints first s None live h = absurd h
 read_again prints first s (Some (contents.Service other)) live h = absurd h
 read_again prints first s (Some (contents.Station other)) live h = absurd h
 read_again prints first s (Some (contents.Session other)) live h = absurd h
+read_again prints first s (Some (contents.Node other)) live h = absurd h
 read_again prints first s (Some (contents.Journal journal)) live h =
     let made = h first live in
     (made.0, ap read_of made.4.script_is ∙ prints made.0 made.2.served.is_script made.3)
@@ -194,7 +199,9 @@ never_finished (contents.Station x) (Some b) other h = h
 never_finished (contents.Session s) None other h = h
 never_finished (contents.Session s) (Some b) other h = h
 never_finished (contents.Journal journal) None other h = h
+never_finished (contents.Node node) None other h = h
 never_finished (contents.Journal journal) (Some b) other h = h
+never_finished (contents.Node node) (Some b) other h = h
 
 no_end : (content : Content) → kind_of content ≢ 3
     → AfterEnd content (λ code was held waited waiting. (code ≡ 2) × (held ≡ was) × (waiting ≡ waited))
@@ -202,18 +209,21 @@ no_end (contents.Service s) other code was held waited waiting h = h
 no_end (contents.Station x) other code was held waited waiting h = h
 no_end (contents.Session s) other code was held waited waiting h = h
 no_end (contents.Journal journal) other code was held waited waiting h = absurd (other refl)
+no_end (contents.Node node) other code was held waited waiting h = h
 
 too_many_so : (content : Content) → kind_of content ≢ 0 → HandleNotFinished 10 (Some content) → ⊥
 too_many_so (contents.Service s) other h = other refl
 too_many_so (contents.Station x) other h = h.many refl
 too_many_so (contents.Session s) other h = h.many refl
 too_many_so (contents.Journal journal) other h = h.many refl
+too_many_so (contents.Node node) other h = h.many refl
 
 forgotten_so : (content : Content) → kind_of content ≢ 0 → HandleNotFinished 9 (Some content) → ⊥
 forgotten_so (contents.Service s) other h = other refl
 forgotten_so (contents.Station x) other h = h.forgotten refl
 forgotten_so (contents.Session s) other h = h.forgotten refl
 forgotten_so (contents.Journal journal) other h = h.forgotten refl
+forgotten_so (contents.Node node) other h = h.forgotten refl
 
 many_so : (first : ScriptData) (s : Service) → AreLive first s.stations.items s.sessions.items → HandleNotFinished 10 (Some (contents.Service s))
     → AreTooMany (map runner_of s.stations.items) ⊎ (8 < length first.sets)
@@ -258,12 +268,14 @@ no_text (contents.Service s) other = refl
 no_text (contents.Station x) other = refl
 no_text (contents.Session s) other = refl
 no_text (contents.Journal journal) other = absurd (other refl)
+no_text (contents.Node node) other = refl
 
 no_script : (content : Content) → kind_of content ≢ 3 → script_at (Some content) ≡ []
 no_script (contents.Service s) other = refl
 no_script (contents.Station x) other = refl
 no_script (contents.Session s) other = refl
 no_script (contents.Journal journal) other = absurd (other refl)
+no_script (contents.Node node) other = refl
 
 pub copies_told : CopiesTold
 copies_told = record {

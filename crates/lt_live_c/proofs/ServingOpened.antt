@@ -23,6 +23,7 @@ served_on s submits polls (Some (contents.Service t)) h = h
 served_on s submits polls (Some (contents.Station other)) h = absurd h
 served_on s submits polls (Some (contents.Session other)) h = absurd h
 served_on s submits polls (Some (contents.Journal other)) h = absurd h
+served_on s submits polls (Some (contents.Node other)) h = absurd h
 
 -- what is so of it follows from what it went on by
 so_of : (new : Option Content) (Told Says : Service → Type 0) → ((t : Service) → Told t → Says t)
@@ -32,6 +33,7 @@ so_of (Some (contents.Service t)) Told Says follows h = follows t h
 so_of (Some (contents.Station other)) Told Says follows h = h
 so_of (Some (contents.Session other)) Told Says follows h = h
 so_of (Some (contents.Journal other)) Told Says follows h = h
+so_of (Some (contents.Node other)) Told Says follows h = h
 
 after : (first : ScriptData) (Told : Service → Service → Type 0)
     → ((s t : Service) (submits polls : ℕ) → AreLive first s.stations.items s.sessions.items
@@ -52,6 +54,7 @@ counted Told follows x y stations s submits polls (Some (contents.Service t)) h 
 counted Told follows x y stations s submits polls (Some (contents.Station other)) h has = absurd h
 counted Told follows x y stations s submits polls (Some (contents.Session other)) h has = absurd h
 counted Told follows x y stations s submits polls (Some (contents.Journal other)) h has = absurd h
+counted Told follows x y stations s submits polls (Some (contents.Node other)) h has = absurd h
 
 -- Where some are out.
 
@@ -66,9 +69,11 @@ all_of submits polls stations sessions (Some (contents.Service s)) (Some (conten
 all_of submits polls stations sessions (Some (contents.Service s)) (Some (contents.Station other)) has h = absurd h
 all_of submits polls stations sessions (Some (contents.Service s)) (Some (contents.Session other)) has h = absurd h
 all_of submits polls stations sessions (Some (contents.Service s)) (Some (contents.Journal other)) has h = absurd h
+all_of submits polls stations sessions (Some (contents.Service s)) (Some (contents.Node other)) has h = absurd h
 all_of submits polls stations sessions (Some (contents.Station other)) new has h = absurd has
 all_of submits polls stations sessions (Some (contents.Session other)) new has h = absurd has
 all_of submits polls stations sessions (Some (contents.Journal other)) new has h = absurd has
+all_of submits polls stations sessions (Some (contents.Node other)) new has h = absurd has
 
 station_out : (x : StationData) (sessions : List Session) → x.runner.node.script.nodes ≡ 2 → NeverTold (x ∷ []) sessions
 station_out x sessions two submits polls old new has h =
@@ -92,7 +97,9 @@ never_served (contents.Station x) submits polls (Some b) other h = h
 never_served (contents.Session s) submits polls None other h = h
 never_served (contents.Session s) submits polls (Some b) other h = h
 never_served (contents.Journal journal) submits polls None other h = h
+never_served (contents.Node node) submits polls None other h = h
 never_served (contents.Journal journal) submits polls (Some b) other h = h
+never_served (contents.Node node) submits polls (Some b) other h = h
 
 all_told : (first : ScriptData) (s : Service) (code : ℕ) → AreLive first s.stations.items s.sessions.items
     → HandleNotTold code (Some (contents.Service s)) → ⊥
@@ -106,6 +113,7 @@ nothing_so (contents.Service s) other h = other refl
 nothing_so (contents.Station x) other h = h.nothing refl
 nothing_so (contents.Session s) other h = h.nothing refl
 nothing_so (contents.Journal journal) other h = h.nothing refl
+nothing_so (contents.Node node) other h = h.nothing refl
 
 pub served_told : ServedTold
 served_told = record {

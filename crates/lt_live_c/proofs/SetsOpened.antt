@@ -32,6 +32,7 @@ no_session (contents.Service s) name code was set other h = h
 no_session (contents.Station x) name code was set other h = h
 no_session (contents.Session s) name code was set other h = absurd (other refl)
 no_session (contents.Journal journal) name code was set other h = h
+no_session (contents.Node node) name code was set other h = h
 
 pub names_told : NamesTold
 names_told = record {
@@ -72,6 +73,7 @@ opened (Some (contents.Service s)) h = opened_so s h
 opened (Some (contents.Station other)) h = absurd h
 opened (Some (contents.Session other)) h = absurd h
 opened (Some (contents.Journal other)) h = absurd h
+opened (Some (contents.Node other)) h = absurd h
 
 never : (sets : List SetWords) → with_next_sets with_command sets ≡ None → NeverOpened sets
 never sets none None h = h
@@ -79,6 +81,7 @@ never sets none (Some (contents.Service s)) h = some_or_none h.1 (with_next_sets
 never sets none (Some (contents.Station other)) h = h
 never sets none (Some (contents.Session other)) h = h
 never sets none (Some (contents.Journal other)) h = h
+never sets none (Some (contents.Node other)) h = h
 
 few_sets : (sets : List SetWords) (limit places : ℕ) → length sets ≤ 65535 → OpenSetsRefused 10 client_text sets limit places → ⊥
 few_sets sets limit places few h =

@@ -19,6 +19,7 @@ of_service (Some (contents.Service s)) Told Goal h says = says s h
 of_service (Some (contents.Station x)) Told Goal h says = absurd h
 of_service (Some (contents.Session s)) Told Goal h says = absurd h
 of_service (Some (contents.Journal journal)) Told Goal h says = absurd h
+of_service (Some (contents.Node node)) Told Goal h says = absurd h
 
 -- a service that has these stations and sessions
 abbrev Has : List StationData → List Session → Service → Type 0
@@ -44,8 +45,10 @@ station_taken s (Some (contents.Station x)) (Some (contents.Service t)) h =
 station_taken s (Some (contents.Station x)) (Some (contents.Station other)) h = absurd h
 station_taken s (Some (contents.Station x)) (Some (contents.Session other)) h = absurd h
 station_taken s (Some (contents.Station x)) (Some (contents.Journal other)) h = absurd h
+station_taken s (Some (contents.Station x)) (Some (contents.Node other)) h = absurd h
 station_taken s (Some (contents.Session other)) new h = absurd h
 station_taken s (Some (contents.Journal other)) new h = absurd h
+station_taken s (Some (contents.Node other)) new h = absurd h
 
 pub record SessionTaken (s : Service) (taken new : Option Content) : Type 0 where
   pub session : Session
@@ -64,8 +67,10 @@ session_taken s (Some (contents.Session x)) (Some (contents.Service t)) h =
 session_taken s (Some (contents.Session x)) (Some (contents.Station other)) h = absurd h
 session_taken s (Some (contents.Session x)) (Some (contents.Session other)) h = absurd h
 session_taken s (Some (contents.Session x)) (Some (contents.Journal other)) h = absurd h
+session_taken s (Some (contents.Session x)) (Some (contents.Node other)) h = absurd h
 session_taken s (Some (contents.Station other)) new h = absurd h
 session_taken s (Some (contents.Journal other)) new h = absurd h
+session_taken s (Some (contents.Node other)) new h = absurd h
 
 same_item : {X : Type 0} (x y : X) (place : Option X) → place ≡ Some y → place ≡ Some x → y ≡ x
 same_item x y place got same = cc
@@ -111,33 +116,44 @@ no_station content None new other h = h
 no_station content (Some (contents.Service s)) new other h = h
 no_station content (Some (contents.Session s)) new other h = h
 no_station content (Some (contents.Journal journal)) new other h = h
+no_station content (Some (contents.Node node)) new other h = h
 no_station content (Some (contents.Station x)) None other h = h
 no_station (contents.Service s) (Some (contents.Station x)) (Some b) other h = other refl
 no_station (contents.Station y) (Some (contents.Station x)) (Some b) other h = h
 no_station (contents.Session s) (Some (contents.Station x)) (Some b) other h = h
 no_station (contents.Journal journal) (Some (contents.Station x)) (Some b) other h = h
+no_station (contents.Node node) (Some (contents.Station x)) (Some b) other h = h
 
-no_session : (content : Content) (taken new : Option Content) → kind_of content ≢ 0
+no_session : (content : Content) (taken new : Option Content) → kind_of content ≢ 0 → kind_of content ≢ 4
     → HandleTakesSession taken (Some content) new → ⊥
-no_session content None new other h = h
-no_session content (Some (contents.Service s)) new other h = h
-no_session content (Some (contents.Station x)) new other h = h
-no_session content (Some (contents.Journal journal)) new other h = h
-no_session content (Some (contents.Session t)) None other h = h
-no_session (contents.Service s) (Some (contents.Session t)) (Some b) other h = other refl
-no_session (contents.Station x) (Some (contents.Session t)) (Some b) other h = h
-no_session (contents.Session s) (Some (contents.Session t)) (Some b) other h = h
-no_session (contents.Journal journal) (Some (contents.Session t)) (Some b) other h = h
+no_session content None new other neither h = h
+no_session content (Some (contents.Service s)) new other neither h = h
+no_session content (Some (contents.Station x)) new other neither h = h
+no_session content (Some (contents.Journal journal)) new other neither h = h
+no_session content (Some (contents.Node node)) new other neither h = h
+no_session content (Some (contents.Session t)) None other neither h = h
+no_session (contents.Service s) (Some (contents.Session t)) (Some b) other neither h = other refl
+no_session (contents.Station x) (Some (contents.Session t)) (Some b) other neither h = h
+no_session (contents.Session s) (Some (contents.Session t)) (Some b) other neither h = h
+no_session (contents.Journal journal) (Some (contents.Session t)) (Some b) other neither h = h
+no_session (contents.Node node) (Some (contents.Session t)) (Some b) other neither h = neither refl
 
 some_left : {X : Type 0} (x : X) (rest items : List X) → items ≡ x ∷ rest → items ≡ [] → ⊥
 some_left x rest items same none = cc
 
-nothing_so : (content : Content) → kind_of content ≢ 0
-    → (HandleHasNoStation 1 (Some content) → ⊥) × (HandleHasNoSession 1 (Some content) → ⊥)
-nothing_so (contents.Service s) other = absurd (other refl)
-nothing_so (contents.Station x) other = (λ h. h.nothing refl, λ h. h.nothing refl)
-nothing_so (contents.Session s) other = (λ h. h.nothing refl, λ h. h.nothing refl)
-nothing_so (contents.Journal journal) other = (λ h. h.nothing refl, λ h. h.nothing refl)
+nothing_so : (content : Content) → kind_of content ≢ 0 → HandleHasNoStation 1 (Some content) → ⊥
+nothing_so (contents.Service s) other h = other refl
+nothing_so (contents.Station x) other h = h.nothing refl
+nothing_so (contents.Session s) other h = h.nothing refl
+nothing_so (contents.Journal journal) other h = h.nothing refl
+nothing_so (contents.Node node) other h = h.nothing refl
+
+no_sessions_so : (content : Content) → kind_of content ≢ 0 → kind_of content ≢ 4 → HandleHasNoSession 1 (Some content) → ⊥
+no_sessions_so (contents.Service s) other neither h = other refl
+no_sessions_so (contents.Station x) other neither h = h.nothing refl
+no_sessions_so (contents.Session s) other neither h = h.nothing refl
+no_sessions_so (contents.Journal journal) other neither h = h.nothing refl
+no_sessions_so (contents.Node node) other neither h = neither refl
 
 pub takes_told : TakesTold
 takes_told = record {
@@ -154,6 +170,7 @@ takes_told = record {
       of_service old (Has stations (x ∷ rest)) (λ handle. HandleHasNoSession 1 handle → ⊥) has
       (λ s same h. some_left x rest s.sessions.items same.1 (h.nothing refl));
   nothing_of_others = nothing_so;
+  no_sessions_of_others = no_sessions_so;
   wrong_for_station = λ s h. false≢true (sym (h.wrong refl));
   wrong_for_session = λ s h. false≢true (sym (h.wrong refl));
   station_codes = λ code content h. h.only;
@@ -169,6 +186,7 @@ given_to given s (Some (contents.Service t)) h = h
 given_to given s (Some (contents.Station other)) h = absurd h
 given_to given s (Some (contents.Session other)) h = absurd h
 given_to given s (Some (contents.Journal other)) h = absurd h
+given_to given s (Some (contents.Node other)) h = absurd h
 
 station_given : (x y : StationData) (sessions : List Session)
     → AfterGiving (contents.Station y) (x ∷ []) sessions (λ new. HasThem (x ∷ y ∷ []) sessions new)
@@ -205,6 +223,7 @@ keeps_all s (Some (contents.Service t)) h = h
 keeps_all s (Some (contents.Station other)) h = absurd h
 keeps_all s (Some (contents.Session other)) h = absurd h
 keeps_all s (Some (contents.Journal other)) h = absurd h
+keeps_all s (Some (contents.Node other)) h = absurd h
 
 never_given : (given content : Content) (new : Option Content) → kind_of content ≢ 0
     → HandleGives (Some given) (Some content) new → ⊥
@@ -213,6 +232,7 @@ never_given given (contents.Service s) (Some b) other h = other refl
 never_given given (contents.Station x) (Some b) other h = h
 never_given given (contents.Session s) (Some b) other h = h
 never_given given (contents.Journal journal) (Some b) other h = h
+never_given given (contents.Node node) (Some b) other h = h
 
 all_kept : (stations : List StationData) (sessions : List Session) (old new : Option Content)
     → HasThem stations sessions old → HandleKeeps old new → HasThem stations sessions new
@@ -230,7 +250,9 @@ others_kept (contents.Station x) (Some b) other h = ap (λ (c : Content). Some c
 others_kept (contents.Session s) None other h = absurd h
 others_kept (contents.Session s) (Some b) other h = ap (λ (c : Content). Some c) h
 others_kept (contents.Journal journal) None other h = absurd h
+others_kept (contents.Node node) None other h = absurd h
 others_kept (contents.Journal journal) (Some b) other h = ap (λ (c : Content). Some c) h
+others_kept (contents.Node node) (Some b) other h = ap (λ (c : Content). Some c) h
 
 pub gives_told : GivesTold
 gives_told = record {

@@ -28,6 +28,15 @@ call_codes_are = record {
   forgotten = refl;
   too_many = refl;
   bad_set = refl;
+  other_version = refl;
+  other_service = refl;
+  other_node = refl;
+  missing = refl;
+  again = refl;
+  too_long = refl;
+  bad_seal = refl;
+  no_letter = refl;
+  misfit = refl;
   bytes = refl;
 }
 
@@ -95,6 +104,7 @@ after_turn code Told says a (Some (contents.Service s)) h = absurd h
 after_turn code Told says a (Some (contents.Station b)) h = says a b h
 after_turn code Told says a (Some (contents.Session s)) h = absurd h
 after_turn code Told says a (Some (contents.Journal journal)) h = absurd h
+after_turn code Told says a (Some (contents.Node node)) h = absurd h
 
 moved_so : (turned : Turned) → 0 ≡ number_of_turn turned → turned ≡ turns.Moved
 moved_so turns.Moved e = refl
@@ -159,6 +169,7 @@ after_session code Calls Told says s (Some (contents.Service other)) h = absurd 
 after_session code Calls Told says s (Some (contents.Station other)) h = absurd h
 after_session code Calls Told says s (Some (contents.Session t)) h = says s t h
 after_session code Calls Told says s (Some (contents.Journal other)) h = absurd h
+after_session code Calls Told says s (Some (contents.Node other)) h = absurd h
 
 after_submit : (code kind first : ℕ) (Told : Session → Session → Type 0)
     → ((s t : Session) → Submits code (command_numbered kind 7 first 9) s t → Told s t)

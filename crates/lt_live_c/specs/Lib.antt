@@ -2,7 +2,10 @@ pub mod Handles
 pub mod Calls
 pub mod NewSets
 pub mod Opening
+pub mod NodeData
+pub mod Nodes
 pub mod Taking
+pub mod NodeCalls
 pub mod Forgetting
 pub mod Journals
 pub mod Serving

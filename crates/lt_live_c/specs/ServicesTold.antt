@@ -60,14 +60,15 @@ pub record TakesTold : Type 0 where
       → AfterTakingSession stations (s ∷ t ∷ []) (λ taken new. HasThem stations (t ∷ []) new)
   pub no_station_of_others : (content : Content) (taken new : Option Content) → kind_of content ≢ 0
       → HandleTakesStation taken (Some content) new → ⊥
-  pub no_session_of_others : (content : Content) (taken new : Option Content) → kind_of content ≢ 0
+  pub no_session_of_others : (content : Content) (taken new : Option Content) → kind_of content ≢ 0 → kind_of content ≢ 4
       → HandleTakesSession taken (Some content) new → ⊥
   pub a_station_left : (x : StationData) (rest : List StationData) (sessions : List Session) (old : Option Content)
       → HasThem (x ∷ rest) sessions old → HandleHasNoStation 1 old → ⊥
   pub a_session_left : (s : Session) (rest : List Session) (stations : List StationData) (old : Option Content)
       → HasThem stations (s ∷ rest) old → HandleHasNoSession 1 old → ⊥
-  pub nothing_of_others : (content : Content) → kind_of content ≢ 0
-      → (HandleHasNoStation 1 (Some content) → ⊥) × (HandleHasNoSession 1 (Some content) → ⊥)
+  pub nothing_of_others : (content : Content) → kind_of content ≢ 0 → HandleHasNoStation 1 (Some content) → ⊥
+  pub no_sessions_of_others : (content : Content) → kind_of content ≢ 0 → kind_of content ≢ 4
+      → HandleHasNoSession 1 (Some content) → ⊥
   pub wrong_for_station : (s : Service) → HandleHasNoStation 2 (Some (contents.Service s)) → ⊥
   pub wrong_for_session : (s : Service) → HandleHasNoSession 2 (Some (contents.Service s)) → ⊥
   pub station_codes : (code : ℕ) (content : Content) → HandleHasNoStation code (Some content)

@@ -8,10 +8,17 @@ use Rattle.lt_live_c.specs.declared.code.TheConstants.{WRONG_HANDLE, NOTHING, NO
 use Rattle.lt_live_c.specs.declared.content.Content.{Content}
 use Rattle.lt_live_c.specs.declared.content.Content.TheVariants as contents
 use Rattle.lt_live_c.specs.declared.service.Service.{Service}
+use Rattle.lt_live_c.specs.Nodes.{NodeGoesOn, KeepsLetters, TakesOwnSession}
 
 abbrev pub stands_for_service : Content → Bool
 stands_for_service (contents.Service s) = true
 stands_for_service other = false
+
+-- a service, or a node in a process of its own
+abbrev pub has_sessions : Content → Bool
+has_sessions (contents.Service s) = true
+has_sessions (contents.Node n) = true
+has_sessions other = false
 
 -- the handle stands for something, which is no service
 abbrev pub IsOfOther : Option Content → Type 0
@@ -36,6 +43,8 @@ ContentGoesOn (contents.Station s) other = ⊥
 ContentGoesOn (contents.Session s) (contents.Session t) = SameSession s t
 ContentGoesOn (contents.Session s) other = ⊥
 ContentGoesOn (contents.Journal j) b = b ≡ contents.Journal j
+ContentGoesOn (contents.Node n) (contents.Node m) = NodeGoesOn n m
+ContentGoesOn (contents.Node n) other = ⊥
 
 -- both handles stand for something, and so does the one from the other
 abbrev pub BothStand : (Content → Content → Type 0) → Option Content → Option Content → Type 0
@@ -46,10 +55,13 @@ BothStand R None o = ⊤
 abbrev pub HandleGoesOn : Option Content → Option Content → Type 0
 HandleGoesOn a b = BothStand ContentGoesOn a b
 
--- what a call on a station does: with anything else it does nothing, and the code says so
+-- what a call on a station does, or on that of a node in a process of its own, of which nothing else changes: with anything
+-- else it does nothing, and the code says so
 abbrev pub OnStation : ℕ → (StationData → StationData → Type 0) → Content → Content → Type 0
 OnStation code R (contents.Station s) (contents.Station t) = R s t
 OnStation code R (contents.Station s) other = ⊥
+OnStation code R (contents.Node n) (contents.Node m) = R n.remote.station m.remote.station × KeepsLetters n m
+OnStation code R (contents.Node n) other = ⊥
 OnStation code R other b = (code ≡ WRONG_HANDLE) × (b ≡ other)
 
 abbrev pub AtStation : ℕ → (StationData → StationData → Type 0) → Option Content → Option Content → Type 0
@@ -84,6 +96,7 @@ TakesFirstSession x s t = (slice_get s.sessions.items 0 ≡ Some x) × (t.sessio
 
 abbrev pub TakesSession : Session → Content → Content → Type 0
 TakesSession x (contents.Service s) (contents.Service t) = TakesFirstSession x s t
+TakesSession x (contents.Node n) (contents.Node m) = TakesOwnSession x n m
 TakesSession x a b = ⊥
 
 abbrev pub HandleTakesSession : Option Content → Option Content → Option Content → Type 0
@@ -97,6 +110,7 @@ HasNoStation other = ⊥
 
 abbrev pub HasNoSession : Content → Type 0
 HasNoSession (contents.Service s) = s.sessions.items ≡ []
+HasNoSession (contents.Node n) = n.sessions ≡ []
 HasNoSession other = ⊥
 
 -- why none was taken
@@ -107,7 +121,7 @@ pub record NoStation (code : ℕ) (a : Content) : Type 0 where
 
 pub record NoSession (code : ℕ) (a : Content) : Type 0 where
   pub nothing : code ≡ NOTHING → HasNoSession a
-  pub wrong : code ≡ WRONG_HANDLE → stands_for_service a ≡ false
+  pub wrong : code ≡ WRONG_HANDLE → has_sessions a ≡ false
   pub only : (code ≡ NOTHING) ⊎ ((code ≡ WRONG_HANDLE) ⊎ (code ≡ NO_MEMORY))
 
 abbrev pub StationRefused : ℕ → Content → Content → Type 0

@@ -15,7 +15,7 @@ use Rattle.lt_live.specs.declared.reply.Reply.TheVariants as replies
 use Rattle.lt_live.specs.Live.{StationGoesOn}
 use Rattle.lt_live.specs.Stations.{StationData, StationTurns}
 use Rattle.lt_live.specs.Words.{submitted, polled, known_replies, SameSession}
-use Rattle.lt_live_c.specs.declared.code.TheConstants.{OK, NOTHING, WRONG_HANDLE, NO_MEMORY, BAD_ARGUMENT, BAD_SCRIPT, SPENT, FULL, LOG_FULL, FORGOTTEN, TOO_MANY, BAD_SET}
+use Rattle.lt_live_c.specs.declared.code.TheConstants.{OK, NOTHING, WRONG_HANDLE, NO_MEMORY, BAD_ARGUMENT, BAD_SCRIPT, SPENT, FULL, LOG_FULL, FORGOTTEN, TOO_MANY, BAD_SET, OTHER_VERSION, OTHER_SERVICE, OTHER_NODE, MISSING, AGAIN, TOO_LONG, BAD_SEAL, NO_LETTER, MISFIT}
 use Rattle.lt_live_c.specs.declared.content.Content.{Content}
 use Rattle.lt_live_c.specs.declared.content.Content.TheVariants as contents
 use Rattle.lt_live_c.specs.declared.journal.Journal.{Journal}
@@ -39,6 +39,15 @@ pub record CallCodesAre : Type 0 where
   pub forgotten : FORGOTTEN ≡ 9
   pub too_many : TOO_MANY ≡ 10
   pub bad_set : BAD_SET ≡ 11
+  pub other_version : OTHER_VERSION ≡ 40
+  pub other_service : OTHER_SERVICE ≡ 41
+  pub other_node : OTHER_NODE ≡ 42
+  pub missing : MISSING ≡ 43
+  pub again : AGAIN ≡ 44
+  pub too_long : TOO_LONG ≡ 45
+  pub bad_seal : BAD_SEAL ≡ 46
+  pub no_letter : NO_LETTER ≡ 47
+  pub misfit : MISFIT ≡ 48
   pub bytes : MAX_BYTES ≡ 1048576
 
 -- the reply's number, and what stands in the count after it where 9 stood there
@@ -183,12 +192,13 @@ pub record PollsTold : Type 0 where
   pub submitted_stays : (code : ℕ) → AfterPoll code (λ was count s t. submitted t ≡ submitted s)
   pub left_stays : (code : ℕ) → AfterPoll code (λ was count s t. t.left ≡ s.left)
 
--- 0 of a service, 1 of a station, 2 of a session, 3 of a journal
+-- 0 of a service, 1 of a station, 2 of a session, 3 of a journal, 4 of a node in a process of its own
 abbrev pub kind_of : Content → ℕ
 kind_of (contents.Service s) = 0
 kind_of (contents.Station x) = 1
 kind_of (contents.Session s) = 2
 kind_of (contents.Journal journal) = 3
+kind_of (contents.Node n) = 4
 
 -- on what isn't of this kind the call does nothing, and its code says so
 abbrev pub IsOfKind : ℕ → (ℕ → Option Content → Option Content → Type 0) → Type 0
@@ -196,10 +206,16 @@ IsOfKind kind Calls =
     (content : Content) → kind_of content ≢ kind
     → (code : ℕ) (new : Option Content) → Calls code (Some content) new → (code ≡ 2) × (new ≡ Some content)
 
+-- the same of a call that takes stations and nodes in processes of their own
+abbrev pub IsOfStations : (ℕ → Option Content → Option Content → Type 0) → Type 0
+IsOfStations Calls =
+    (content : Content) → kind_of content ≢ 1 → kind_of content ≢ 4
+    → (code : ℕ) (new : Option Content) → Calls code (Some content) new → (code ≡ 2) × (new ≡ Some content)
+
 -- what calls do with handles of each kind
 pub record KindsTold : Type 0 where
-  pub turn : IsOfKind 1 (λ code old new. AtStation code (TurnsStation code) old new)
-  pub forget : IsOfKind 1 (λ code old new. AtStation code (ForgetsStation code) old new)
+  pub turn : IsOfStations (λ code old new. AtStation code (TurnsStation code) old new)
+  pub forget : IsOfStations (λ code old new. AtStation code (ForgetsStation code) old new)
   pub submit : IsOfKind 2 (λ code old new. AtSession code (Submits code (Some (Lock 7 modes.Write))) old new)
   pub poll : (was count : ℕ) → IsOfKind 2 (λ code old new. AtSession code (Polls code was count) old new)
   pub station : (a : StationData) (new : Option Content) → HandleGoesOn (Some (contents.Station a)) new

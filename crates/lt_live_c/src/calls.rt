@@ -3,6 +3,7 @@ ghost use Rattle.std.specs.Prelude.{◌≡◌};
 ghost use Rattle.lt_spec.specs.Script.{set_number};
 ghost use Rattle.lt_live.specs.Words.{SameSession};
 ghost use Rattle.lt_live.specs.Live.{StationGoesOn};
+ghost use Rattle.lt_apart.specs.Remote.{CarriesNone};
 ghost use Rattle.lt_live_c.specs.Taking.{ContentGoesOn, OnStation, OnSession};
 ghost use Rattle.lt_live_c.specs.Forgetting.{ForgetsStation};
 ghost use Rattle.lt_live_c.specs.Calls.{TurnsStation, Submits, Polls, left_in, client_of, home_of_content, TellsSet, TellsNumber};
@@ -12,6 +13,7 @@ use crate::code::{
     number_of_turn,
 };
 use crate::content::Content;
+use lt_apart::Remote;
 use lt_live::{Session, Station};
 use lt_modes::Command;
 use lt_runner::Open;
@@ -24,6 +26,7 @@ pub fn turn(content: &mut Content) -> u32
 {
     match content {
         Content::Station(station) => turn_of(station),
+        Content::Node(node) => turn_at(&mut node.remote),
         _ => WRONG_HANDLE,
     }
 }
@@ -42,6 +45,7 @@ pub fn forget(content: &mut Content, alloc: Global) -> u32
 {
     match content {
         Content::Station(station) => forget_by(station, alloc),
+        Content::Node(node) => forget_at(&mut node.remote, alloc),
         _ => WRONG_HANDLE,
     }
 }
@@ -55,6 +59,29 @@ fn forget_by(station: &mut Station, alloc: Global) -> u32
         return NO_MEMORY;
     };
     match station.forget_commands(alloc) {
+        Ok(()) => OK,
+        Err(_) => NO_MEMORY,
+    }
+}
+
+fn turn_at(remote: &mut Remote) -> u32
+    ensures goes_on { StationGoesOn remote.old.station remote.new.station }
+    ensures turns { TurnsStation result remote.old.station remote.new.station }
+    ensures carried { CarriesNone remote.old remote.new }
+{
+    number_of_turn(remote.turn(&Open))
+}
+
+#[tactic(auto, using(crate::proofs::Forgetting::goes_on_join))]
+fn forget_at(remote: &mut Remote, alloc: Global) -> u32
+    ensures goes_on { StationGoesOn remote.old.station remote.new.station }
+    ensures forgets { ForgetsStation result remote.old.station remote.new.station }
+    ensures carried { CarriesNone remote.old remote.new }
+{
+    let Ok(()) = remote.forget_moves() else {
+        return NO_MEMORY;
+    };
+    match remote.forget_commands(alloc) {
         Ok(()) => OK,
         Err(_) => NO_MEMORY,
     }

@@ -39,6 +39,33 @@ pub const TOO_MANY: u32 = 10;
 /// A further set has no new name, or its parent is no set.
 pub const BAD_SET: u32 = 11;
 
+/// The frame is of another version of the format.
+pub const OTHER_VERSION: u32 = 40;
+
+/// The frame is of another service: of another script, or of another start.
+pub const OTHER_SERVICE: u32 = 41;
+
+/// The frame is of another node than the one that it is said to come from, or for another one.
+pub const OTHER_NODE: u32 = 42;
+
+/// Frames before this one are missing.
+pub const MISSING: u32 = 43;
+
+/// The frame was received before.
+pub const AGAIN: u32 = 44;
+
+/// Its letter has more bytes than a letter may have.
+pub const TOO_LONG: u32 = 45;
+
+/// The frame's seal isn't that of its head and its letter under the key.
+pub const BAD_SEAL: u32 = 46;
+
+/// What the frame's seal is right for is no letter.
+pub const NO_LETTER: u32 = 47;
+
+/// The next letter of a node doesn't fit: no node that was opened with this script sent it.
+pub const MISFIT: u32 = 48;
+
 /// How a turn ended.
 pub fn number_of_turn(turned: Turned) -> u32
     ensures { result ≡ number_of_turn turned }

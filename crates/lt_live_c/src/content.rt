@@ -1,11 +1,13 @@
 // What a handle of C stands for.
-ghost use Rattle.std.specs.Prelude.{◌≡◌, ◌≢◌, true, IfOk, IfErr, OnOk};
+ghost use Rattle.std.specs.Prelude.{◌≡◌, ◌≢◌, ◌↔◌, IsTrue, true, IfOk, IfErr, OnOk};
 ghost use Rattle.lt_live_c.specs.declared.code.TheConstants.{WRONG_HANDLE};
 ghost use Rattle.lt_live_c.specs.Taking.{IsWholeService, stands_for_service, GivesTo, GiveRefusedBy};
 ghost use Rattle.lt_live_c.specs.Journals.{JournalIsOf, FinishRefused};
+ghost use Rattle.lt_live_c.specs.NodeCalls.{IsNode, NodeJournalIsOf, NodeNotFinished};
 
 use crate::code::{FORGOTTEN, NO_MEMORY, TOO_MANY, WRONG_HANDLE};
 use crate::journal::Journal;
+use crate::node::Node;
 use crate::service::Service;
 use lt_live::{FinishError, Session, Station};
 use std::alloc::Global;
@@ -16,6 +18,7 @@ pub enum Content {
     Station(Station),
     Session(Session),
     Journal(Journal),
+    Node(Node),
 }
 
 // Written out, so that all places which let a content go call this.
@@ -26,6 +29,7 @@ impl Drop for Content {
             Content::Station(station) => drop(station),
             Content::Session(session) => drop(session),
             Content::Journal(journal) => drop(journal),
+            Content::Node(node) => drop(node),
         }
     }
 }
@@ -62,6 +66,29 @@ impl Content {
                 Err(FinishError::Forgotten) => Err(FORGOTTEN),
                 Err(FinishError::TooMany) => Err(TOO_MANY),
                 Err(FinishError::NoMemory) => Err(NO_MEMORY),
+            },
+            _ => unreachable!(),
+        }
+    }
+
+    /// Whether it is a node in a process of its own.
+    pub fn is_node(&self) -> bool
+        ensures { IsTrue result ↔ IsNode self.now }
+    {
+        matches!(self, Content::Node(_))
+    }
+
+    /// The journal of the moves that the node made, or the code of why there is none.
+    pub fn journal_of_node(self, alloc: Global) -> Result<Content, u32>
+        requires { IsNode self }
+        ensures journal { IfOk result (λ journal. NodeJournalIsOf self journal) }
+        ensures refused { IfErr result (λ code. (code ≢ WRONG_HANDLE) × NodeNotFinished code self) }
+    {
+        match self {
+            Content::Node(node) => match node.into_journal(alloc) {
+                Ok(Some(journal)) => Ok(Content::Journal(journal)),
+                Ok(None) => Err(FORGOTTEN),
+                Err(_) => Err(NO_MEMORY),
             },
             _ => unreachable!(),
         }

@@ -6,6 +6,7 @@
 
 mod boxes;
 mod calls;
+mod carrying;
 mod code;
 mod content;
 mod handle;
@@ -14,6 +15,9 @@ mod journals;
 mod laws;
 mod limits;
 mod new_sets;
+mod node;
+mod node_opening;
+mod nodes;
 mod parts;
 mod service;
 mod services;
@@ -21,5 +25,6 @@ mod serving;
 mod sessions;
 mod taking;
 mod texts;
+mod wire_code;
 
 pub use laws::law_c_told;

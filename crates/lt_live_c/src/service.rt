@@ -150,7 +150,7 @@ impl Service {
 }
 
 // The script that the text denotes.
-fn script_of(alloc: Global, text: &[u8]) -> Result<Script, u32>
+pub fn script_of(alloc: Global, text: &[u8]) -> Result<Script, u32>
     requires { length text.now < 2 ^ 32 - 1 }
     ensures read { IfOk result (λ script. read_of text.now ≡ Ok script) }
     ensures refused { IfErr result (λ code. TextRefused code text.now) }
@@ -196,7 +196,7 @@ fn journal_of(alloc: Global, script: &Script, run: &Run) -> Result<Journal, Fini
 }
 
 // Whether the numbers are in range, and the text isn't too long.
-fn fits(text: &[u8], limit: u64, places: u32) -> bool
+pub fn fits(text: &[u8], limit: u64, places: u32) -> bool
     ensures { result ≡ fits_for_c text.now limit places }
 {
     text.len() <= MAX_BYTES

@@ -30,6 +30,10 @@ pub fn next_session(content: &mut Content) -> Result<Session, u32>
             Some(session) => Ok(session),
             None => Err(NOTHING),
         },
+        Content::Node(node) => match node.next_session() {
+            Some(session) => Ok(session),
+            None => Err(NOTHING),
+        },
         _ => Err(WRONG_HANDLE),
     }
 }
