@@ -19,7 +19,7 @@ make_top() {
 program='#!/bin/sh
 printf "<%s>" "$@"; echo
 case "$1:$2:$3:$4:$5:$6:$7" in
-  make:20:* | make:65:* | make:*:65:* | make:*:version:[04] | make:2:0:* | make:2:33:* | *:4097:* | *:99999999999999999999:* | *:18446744073709551616:*)
+  make:20:* | make:65:* | make:*:65:* | make:*:257:* | make:*:version:[04] | make:2:0:* | make:2:33:* | *:4097:* | *:99999999999999999999:* | *:18446744073709551616:*)
     echo "lockrun: usage: run | sim first | sim SEED | check | make NODES CLIENTS COMMANDS SEED | soak SEED | order" >&2
     exit 1 ;;
   make:*) exit 0 ;;
