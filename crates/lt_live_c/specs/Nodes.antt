@@ -123,6 +123,39 @@ Sends code to length_was length_now buffer buffer_now a b =
     ⊎ (SendsNone code to length_was length_now buffer buffer_now a b ⊎ SendsLater code to length_now buffer
     buffer_now a b)
 
+-- what was unsent and the frames of letters that are given out now are these bytes; nothing else happened
+pub record GivesFrame (to : ℕ) (unsent_was unsent_now : List ℕ) (a b : RemoteData) : Type 0 where
+  pub count : ℕ
+  pub frames : GivesOut a.key (wire_to a to) count (given a to) (given b to) unsent_was unsent_now
+  pub only : OnlyGives to a.station b.station a.far b.far
+  pub same : (b.service ≡ a.service) × (b.key ≡ a.key)
+
+-- why no letter was given out
+abbrev pub HasNoFrame : ℕ → ℕ → RemoteData → Type 0
+HasNoFrame code to b =
+    ((code ≡ NOTHING) × HasGivenAll to b.station.runner b.far)
+    ⊎ ((code ≡ NO_MEMORY) ⊎ ((code ≡ TOO_LONG) × NextIsTooLong to b.station.runner b.far))
+
+-- the frame stands at the front of the buffer, and is gone
+pub record IsHandedOver (code length_now : ℕ) (frame frame_now buffer buffer_now : List ℕ) : Type 0 where
+  pub code_is : code ≡ OK
+  pub size : length_now ≡ length frame
+  pub room : length frame ≤ length buffer
+  pub gone : frame_now ≡ []
+  pub stands : buffer_now ≡ frame ++ drop (length frame) buffer
+
+-- the frame finds no room in the buffer, and stays
+pub record HasNoRoom (code length_now : ℕ) (frame frame_now buffer buffer_now : List ℕ) : Type 0 where
+  pub code_is : code ≡ FULL
+  pub wants : length_now ≡ length frame
+  pub no_room : length buffer < length frame
+  pub stays : (frame_now ≡ frame) × (buffer_now ≡ buffer)
+
+abbrev pub HandsOver : ℕ → ℕ → List ℕ → List ℕ → List ℕ → List ℕ → Type 0
+HandsOver code length_now frame frame_now buffer buffer_now =
+    IsHandedOver code length_now frame frame_now buffer buffer_now
+    ⊎ HasNoRoom code length_now frame frame_now buffer buffer_now
+
 -- Letters that come in.
 
 -- the number by which C is told why a frame was not received
