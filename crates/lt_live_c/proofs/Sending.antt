@@ -6,7 +6,7 @@ use Rattle.std.proofs.lemmas.List.{length-drop}
 use Rattle.std.proofs.Math.Seq.{take-append_seam, drop-append_seam}
 use Rattle.lt_modes.specs.State.{Letter}
 use Rattle.lt_frames.specs.declared.frame.Wire.{Wire}
-use Rattle.lt_frames.specs.Frames.{frame_bytes}
+use Rattle.lt_frames.specs.Frames.{Numbered, frame_bytes}
 use Rattle.lt_frames.proofs.Parts.{frame_size}
 use Rattle.lt_live.proofs.SeatLists.{set_here, set_other}
 use Rattle.lt_live.specs.Stations.{StationData}
@@ -26,7 +26,7 @@ some_bytes key wire count before after out out_now h some = by_letters h.letters
     by_letters : (letters : List Letter) → length letters ≡ count → out_now ≡ out ++ frames key wire (length before) letters → 0 < length out_now
     by_letters [] e bytes = absurd (some (sym e))
     by_letters (letter ∷ rest) e bytes =
-        let first = record { wire = wire; number = length before; letter = letter } in
+        let first : Numbered = record { wire = wire; number = length before; letter = letter } in
         omega (
           arith,
           ap (λ (xs : List ℕ). length xs) bytes,
