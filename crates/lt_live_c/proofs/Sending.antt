@@ -1,5 +1,5 @@
 -- Frames that are given to C.
-use Rattle.std.proofs.Common.{◌≡◌, ◌≢◌, ◌<◌, ◌+◌, ℕ, List, [], ◌∷◌, ◌++◌, Option, Some, Vec, length, take, drop, refl, sym, ap, subst, ◌∙◌, arith, inl, inr, slice_get, slice_set, slice_index_or, length-append, append-nil}
+use Rattle.std.proofs.Common.{◌≡◌, ◌≢◌, ◌<◌, ◌+◌, ℕ, List, [], ◌∷◌, ◌++◌, Option, Vec, length, take, drop, refl, sym, ap, ◌∙◌, arith, inl, inr, slice_get, slice_set, slice_index_or, length-append, append-nil}
 use Rattle.std.specs.Global.{Global}
 use Rattle.std.proofs.lemmas.Option.{slice_get-get_or}
 use Rattle.std.proofs.lemmas.List.{length-drop}
@@ -9,14 +9,12 @@ use Rattle.lt_frames.specs.declared.frame.Wire.{Wire}
 use Rattle.lt_frames.specs.Frames.{Numbered, frame_bytes}
 use Rattle.lt_frames.proofs.Parts.{frame_size}
 use Rattle.lt_live.proofs.SeatLists.{set_here, set_other}
-use Rattle.lt_live.specs.Stations.{StationData}
-use Rattle.lt_mail.specs.declared.mail.Mail.{Mail}
 use Rattle.lt_apart.specs.Remote.{RemoteData, given}
-use Rattle.lt_apart.specs.Carrying.{frames, GivesOut, OnlyGives, wire_to}
+use Rattle.lt_apart.specs.Carrying.{frames, GivesOut, wire_to}
 use Rattle.lt_apart.proofs.Frames.{gives_none}
 use Rattle.lt_apart.proofs.GivenOut.{only_itself}
 use Rattle.lt_live_c.specs.NodeData.{NodeData}
-use Rattle.lt_live_c.specs.Nodes.{bytes_of, unsent, PassesOn, GivesFrame, IsHandedOver, HasNoRoom, HandsOver, HasNoFrame, Sends, SendsBytes, SendsNone, SendsLater}
+use Rattle.lt_live_c.specs.Nodes.{bytes_of, unsent, PassesOn, GivesFrame, HandsOver, HasNoFrame, Sends}
 
 -- letters that go out have bytes
 pub some_bytes : (key : List ℕ) (wire : Wire) (count : ℕ) (before after : List Letter) (out out_now : List ℕ)

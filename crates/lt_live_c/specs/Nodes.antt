@@ -1,5 +1,5 @@
 -- A node in a process of its own, and what the calls of C on it do.
-use Rattle.std.specs.Prelude.{◌≡◌, ◌≢◌, ◌<◌, ◌≤◌, ◌++◌, ◌∷◌, ◌⊎◌, ℕ, Bool, true, false, List, [], Option, Some, None, Ok, Err, ⊤, Vec, length, take, drop, slice_get, IsSome, All}
+use Rattle.std.specs.Prelude.{◌≡◌, ◌≢◌, ◌<◌, ◌≤◌, ◌++◌, ◌⊎◌, ℕ, false, List, [], Option, Some, None, Ok, Err, Vec, length, take, drop, slice_get, IsSome, All}
 use Rattle.std.specs.Global.{Global}
 use Rattle.lt_modes.specs.Script.{ScriptData}
 use Rattle.lt_modes.specs.State.{Letter}
@@ -10,17 +10,15 @@ use Rattle.lt_frames.specs.Sealing.{service_number}
 use Rattle.lt_frames.specs.declared.fault.WriteError.{WriteError}
 use Rattle.lt_frames.specs.declared.fault.WriteError.TheVariants as writing
 use Rattle.lt_runner.specs.Choices.{misfit}
-use Rattle.lt_runner.specs.Kept.{HasAll}
 use Rattle.lt_live.specs.declared.ends.Session.{Session}
 use Rattle.lt_live.specs.Live.{StationGoesOn}
-use Rattle.lt_live.specs.Stations.{StationData, most_share}
+use Rattle.lt_live.specs.Stations.{most_share}
 use Rattle.lt_apart.specs.declared.fault.WireFault.{WireFault}
 use Rattle.lt_apart.specs.declared.fault.WireFault.TheVariants as faults
-use Rattle.lt_apart.specs.declared.journal.NodeJournal.{NodeJournal}
 use Rattle.lt_apart.specs.Remote.{RemoteData, IsOpenRemote, CarriesNone, brought, given, me, nodes}
 use Rattle.lt_apart.specs.Carrying.{wire_from, wire_to, GivesOut, OnlyGives, HasGivenAll, NextIsTooLong, BringsIn, OnlyBrings, WaitsForMore}
 use Rattle.lt_apart.specs.Faults.{IsWireCause}
-use Rattle.lt_live_c.specs.declared.code.TheConstants.{OK, NOTHING, WRONG_HANDLE, NO_MEMORY, BAD_ARGUMENT, BAD_SCRIPT, FULL, OTHER_VERSION, OTHER_SERVICE, OTHER_NODE, MISSING, AGAIN, TOO_LONG, BAD_SEAL, NO_LETTER, MISFIT}
+use Rattle.lt_live_c.specs.declared.code.TheConstants.{OK, NOTHING, NO_MEMORY, BAD_ARGUMENT, BAD_SCRIPT, FULL, OTHER_VERSION, OTHER_SERVICE, OTHER_NODE, MISSING, AGAIN, TOO_LONG, BAD_SEAL, NO_LETTER, MISFIT}
 use Rattle.lt_live_c.specs.NodeData.{NodeData}
 use Rattle.lt_live_c.specs.Opening.{fits_for_c}
 
