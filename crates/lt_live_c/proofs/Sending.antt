@@ -38,6 +38,8 @@ pub gives_old : (to : ℕ) (frame : List ℕ) (a : RemoteData) → GivesFrame to
 gives_old to frame a = record {
   count = 0;
   frames = gives_none a.key (wire_to a to) (given a to) (given a to) frame frame refl refl;
+  one = omega arith;
+  in_order = λ some. refl;
   only = only_itself to a.station a.far;
   same = (refl, refl);
 }
@@ -88,6 +90,8 @@ passes place to sent frame was now a b h gives whole = record {
   frames = same_bytes a.remote.key (wire_to a.remote to) gives.count (given a.remote to) (given b.remote to) was.items frame (unsent a to)
       (sent ++ unsent b to) gives.frames (unsent_was a.ready place to was h.below h.at h.was_is)
       (ap (λ (bytes : List ℕ). sent ++ bytes) (left place to was now a b h) ∙ whole);
+  one = gives.one;
+  in_order = λ some. gives.in_order (λ e. some (unsent_was a.ready place to was h.below h.at h.was_is ∙ e));
   others = λ node apart. ap (λ (ready : List (Vec ℕ Global)). bytes_of (slice_get ready node)) h.now_is
       ∙ unsent_others a.ready place to now h.at node apart;
   only = gives.only;
