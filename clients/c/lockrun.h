@@ -162,9 +162,9 @@ size_t lockrun_script(lockrun_journal *journal, size_t from, uint8_t *out, size_
 uint32_t lockrun_node_open(const uint8_t *text, size_t length, uint32_t node, const uint8_t *key, size_t key_length,
                            uint64_t start, uint64_t limit, uint32_t places, lockrun_remote *opened);
 
-/* Puts frames that are to be carried to the node `to` at the front of the buffer, as many whole ones as there is room for, and
- * tells in `length` how many bytes they have. LOCKRUN_NOTHING if no letter waits; LOCKRUN_FULL if not one frame has room, and
- * then `length` is the room that it wants. */
+/* Puts the next frame that is to be carried to the node `to` at the front of the buffer, and tells in `length` how many bytes it
+ * has: one frame a call, so it is called again until it answers LOCKRUN_NOTHING, since no letter waits. LOCKRUN_FULL if the
+ * frame has no room, and then `length` is the room that it wants. */
 uint32_t lockrun_send(lockrun_remote *node, uint32_t to, uint8_t *buffer, size_t room, size_t *length);
 
 /* Receives the frames of the node `from` at the front of the bytes, as far as they are whole and the node has places, and tells

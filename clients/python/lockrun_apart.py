@@ -89,7 +89,7 @@ class Apart:
         return used.value, code
 
     def send(self, node):
-        """The next frames that are to be carried to a node, or none."""
+        """The next frame that is to be carried to a node, or none."""
         length = c_size_t()
         while (code := self.library.lockrun_send(self.handle, node, self.frames, len(self.frames), length)) == FULL:
             self.frames = (c_uint8 * length.value)()

@@ -1,5 +1,5 @@
 -- What the calls of C on a node in a process of its own do with what a handle stands for.
-use Rattle.std.specs.Prelude.{◌≡◌, ◌⊎◌, ◌<◌, ℕ, List, Option, Some, None, ⊤}
+use Rattle.std.specs.Prelude.{◌≡◌, ◌⊎◌, ℕ, List, Option, Some, None, ⊤}
 use Rattle.lt_script.specs.Printing.{print_of}
 use Rattle.lt_journal.specs.RunLines.{text_of}
 use Rattle.lt_runner.specs.Kept.{HasAll}

@@ -1,5 +1,5 @@
 -- A node in a process of its own, and what the calls of C on it do.
-use Rattle.std.specs.Prelude.{◌≡◌, ◌≢◌, ◌<◌, ◌≤◌, ◌++◌, ◌∷◌, ◌⊎◌, ℕ, Bool, true, false, List, [], Option, Some, None, Ok, Err, ⊤, Vec, length, take, drop, slice_get, IsSome, All}
+use Rattle.std.specs.Prelude.{◌≡◌, ◌≢◌, ◌<◌, ◌≤◌, ◌++◌, ◌⊎◌, ℕ, false, List, [], Option, Some, None, Ok, Err, Vec, length, take, drop, slice_get, IsSome, All}
 use Rattle.std.specs.Global.{Global}
 use Rattle.lt_modes.specs.Script.{ScriptData}
 use Rattle.lt_modes.specs.State.{Letter}
@@ -10,17 +10,15 @@ use Rattle.lt_frames.specs.Sealing.{service_number}
 use Rattle.lt_frames.specs.declared.fault.WriteError.{WriteError}
 use Rattle.lt_frames.specs.declared.fault.WriteError.TheVariants as writing
 use Rattle.lt_runner.specs.Choices.{misfit}
-use Rattle.lt_runner.specs.Kept.{HasAll}
 use Rattle.lt_live.specs.declared.ends.Session.{Session}
 use Rattle.lt_live.specs.Live.{StationGoesOn}
-use Rattle.lt_live.specs.Stations.{StationData, most_share}
+use Rattle.lt_live.specs.Stations.{most_share}
 use Rattle.lt_apart.specs.declared.fault.WireFault.{WireFault}
 use Rattle.lt_apart.specs.declared.fault.WireFault.TheVariants as faults
-use Rattle.lt_apart.specs.declared.journal.NodeJournal.{NodeJournal}
 use Rattle.lt_apart.specs.Remote.{RemoteData, IsOpenRemote, CarriesNone, brought, given, me, nodes}
 use Rattle.lt_apart.specs.Carrying.{wire_from, wire_to, GivesOut, OnlyGives, HasGivenAll, NextIsTooLong, BringsIn, OnlyBrings, WaitsForMore}
 use Rattle.lt_apart.specs.Faults.{IsWireCause}
-use Rattle.lt_live_c.specs.declared.code.TheConstants.{OK, NOTHING, WRONG_HANDLE, NO_MEMORY, BAD_ARGUMENT, BAD_SCRIPT, FULL, OTHER_VERSION, OTHER_SERVICE, OTHER_NODE, MISSING, AGAIN, TOO_LONG, BAD_SEAL, NO_LETTER, MISFIT}
+use Rattle.lt_live_c.specs.declared.code.TheConstants.{OK, NOTHING, NO_MEMORY, BAD_ARGUMENT, BAD_SCRIPT, FULL, OTHER_VERSION, OTHER_SERVICE, OTHER_NODE, MISSING, AGAIN, TOO_LONG, BAD_SEAL, NO_LETTER, MISFIT}
 use Rattle.lt_live_c.specs.NodeData.{NodeData}
 use Rattle.lt_live_c.specs.Opening.{fits_for_c}
 
@@ -81,12 +79,14 @@ abbrev pub number_of_error : WriteError → ℕ
 number_of_error writing.Memory = NO_MEMORY
 number_of_error writing.TooLong = TOO_LONG
 
--- what was unsent and the frames of letters that are given out now are these bytes and what is unsent then; nothing
--- else happened
+-- what was unsent, or else the frame of the next letter, is these bytes and what is unsent then; nothing else
+-- happened
 pub record PassesOn (to : ℕ) (sent : List ℕ) (a b : NodeData) : Type 0 where
   pub count : ℕ
   pub frames : GivesOut a.remote.key (wire_to a.remote to) count (given a.remote to) (given b.remote to)
       (unsent a to) (sent ++ unsent b to)
+  pub one : count ≤ 1
+  pub in_order : unsent a to ≢ [] → count ≡ 0
   pub others : (node : ℕ) → node ≢ to → unsent b node ≡ unsent a node
   pub only : OnlyGives to a.remote.station b.remote.station a.remote.far b.remote.far
   pub same : (b.remote.service ≡ a.remote.service) × (b.remote.key ≡ a.remote.key)
@@ -101,12 +101,17 @@ pub record SendsBytes (code to length_now : ℕ) (buffer buffer_now : List ℕ) 
   pub passes : PassesOn to (take length_now buffer_now) a b
   pub rest : drop length_now buffer_now ≡ drop length_now buffer
 
+-- why no letter was given out
+abbrev pub HasNoFrame : ℕ → ℕ → RemoteData → Type 0
+HasNoFrame code to b =
+    ((code ≡ NOTHING) × HasGivenAll to b.station.runner b.far)
+    ⊎ ((code ≡ NO_MEMORY) ⊎ ((code ≡ TOO_LONG) × NextIsTooLong to b.station.runner b.far))
+
 -- nothing is unsent, and why no letter was given out
 pub record SendsNone (code to length_was length_now : ℕ) (buffer buffer_now : List ℕ) (a b : NodeData) : Type 0 where
   pub passes : PassesOn to [] a b
   pub unsent_none : unsent b to ≡ []
-  pub why : ((code ≡ NOTHING) × HasGivenAll to b.remote.station.runner b.remote.far)
-      ⊎ ((code ≡ NO_MEMORY) ⊎ ((code ≡ TOO_LONG) × NextIsTooLong to b.remote.station.runner b.remote.far))
+  pub why : HasNoFrame code to b.remote
   pub stays : (length_now ≡ length_was) × (buffer_now ≡ buffer)
 
 -- what is unsent finds no room in the buffer, and C is told how much it wants
@@ -122,6 +127,35 @@ Sends code to length_was length_now buffer buffer_now a b =
     SendsBytes code to length_now buffer buffer_now a b
     ⊎ (SendsNone code to length_was length_now buffer buffer_now a b ⊎ SendsLater code to length_now buffer
     buffer_now a b)
+
+-- what was unsent, or else the frame of the next letter, is these bytes; nothing else happened
+pub record GivesFrame (to : ℕ) (unsent_was unsent_now : List ℕ) (a b : RemoteData) : Type 0 where
+  pub count : ℕ
+  pub frames : GivesOut a.key (wire_to a to) count (given a to) (given b to) unsent_was unsent_now
+  pub one : count ≤ 1
+  pub in_order : unsent_was ≢ [] → count ≡ 0
+  pub only : OnlyGives to a.station b.station a.far b.far
+  pub same : (b.service ≡ a.service) × (b.key ≡ a.key)
+
+-- the frame stands at the front of the buffer, and is gone
+pub record IsHandedOver (code length_now : ℕ) (frame frame_now buffer buffer_now : List ℕ) : Type 0 where
+  pub code_is : code ≡ OK
+  pub size : length_now ≡ length frame
+  pub room : length frame ≤ length buffer
+  pub gone : frame_now ≡ []
+  pub stands : buffer_now ≡ frame ++ drop (length frame) buffer
+
+-- the frame finds no room in the buffer, and stays
+pub record HasNoRoom (code length_now : ℕ) (frame frame_now buffer buffer_now : List ℕ) : Type 0 where
+  pub code_is : code ≡ FULL
+  pub wants : length_now ≡ length frame
+  pub no_room : length buffer < length frame
+  pub stays : (frame_now ≡ frame) × (buffer_now ≡ buffer)
+
+abbrev pub HandsOver : ℕ → ℕ → List ℕ → List ℕ → List ℕ → List ℕ → Type 0
+HandsOver code length_now frame frame_now buffer buffer_now =
+    IsHandedOver code length_now frame frame_now buffer buffer_now
+    ⊎ HasNoRoom code length_now frame frame_now buffer buffer_now
 
 -- Letters that come in.
 

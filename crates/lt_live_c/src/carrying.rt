@@ -1,7 +1,8 @@
 // What the calls that carry letters do with what a handle stands for.
-ghost use Rattle.std.specs.Prelude.{◌≡◌, ◌<◌, ◌≤◌, length};
+ghost use Rattle.std.specs.Prelude.{◌≡◌, ◌<◌, [], IfErr, OnOk, length};
+ghost use Rattle.lt_apart.specs.Remote.{nodes};
 ghost use Rattle.lt_live_c.specs.NodeCalls.{OnNode};
-ghost use Rattle.lt_live_c.specs.Nodes.{IsPeer, Sends, Receives, TellsPending};
+ghost use Rattle.lt_live_c.specs.Nodes.{IsPeer, Sends, Receives, TellsPending, GivesFrame, HasNoFrame, HandsOver};
 
 use crate::code::{BAD_ARGUMENT, FULL, MISFIT, NOTHING, OK, WRONG_HANDLE};
 use crate::content::Content;
@@ -10,7 +11,7 @@ use crate::wire_code::{number_of_error, number_of_fault};
 use lt_apart::Remote;
 use std::alloc::Global;
 
-/// Puts whole frames for a node at the front of the buffer, as many as there is room for.
+/// Puts the next frame for a node at the front of the buffer, where it has room.
 pub fn send(content: &mut Content, to: u32, buffer: &mut [u8], length: &mut usize) -> u32
     ensures { OnNode result to (Sends result to length.old length.new buffer.old buffer.new) content.old content.new }
 {
@@ -61,23 +62,11 @@ impl Node {
         requires { IsPeer self.old to }
         ensures { Sends result to length.old length.new buffer.old buffer.new self.old self.new }
     {
-        let ready = &mut self.ready[usize::from(to)];
-        let mut used = 0;
-        loop {
-            match send_next(&mut self.remote, ready, to, &mut buffer[used..]) {
-                Ok(size) => used += size,
-                Err(_) if used > 0 => {
-                    *length = used;
-                    return OK;
-                }
-                Err(code) => {
-                    if code == FULL {
-                        *length = ready.len();
-                    }
-                    return code;
-                }
-            }
+        let frame = &mut self.ready[usize::from(to)];
+        if let Err(code) = next_frame(&mut self.remote, to, frame) {
+            return code;
         }
+        hand_over(frame, buffer, length)
     }
 
     fn receive(&mut self, alloc: Global, from: u8, bytes: &[u8], used: &mut usize) -> u32
@@ -110,25 +99,33 @@ impl Node {
     }
 }
 
-// Puts the next frame at the front of the buffer, and answers how many bytes it has.
-fn send_next(
-    remote: &mut Remote,
-    ready: &mut Vec<u8>,
-    to: u8,
-    buffer: &mut [u8],
-) -> Result<usize, u32> {
-    if ready.is_empty() {
-        match remote.take_out(to, 1, ready) {
-            Ok(0) => return Err(NOTHING),
-            Ok(_) => {}
-            Err(error) => return Err(number_of_error(error)),
-        }
+// The frame that found no room, or else the next one.
+fn next_frame(remote: &mut Remote, to: u8, frame: &mut Vec<u8>) -> Result<(), u32>
+    requires peer { to < nodes remote.old }
+    ensures gives { GivesFrame to frame.old.items frame.new.items remote.old remote.new }
+    ensures some { OnOk result (0 < length frame.new.items) }
+    ensures none { IfErr result (λ code. (frame.new.items ≡ []) × HasNoFrame code to remote.new) }
+{
+    if !frame.is_empty() {
+        return Ok(());
     }
-    let size = ready.len();
+    match remote.take_out(to, 1, frame) {
+        Ok(0) => Err(NOTHING),
+        Ok(_) => Ok(()),
+        Err(error) => Err(number_of_error(error)),
+    }
+}
+
+// The frame goes to the front of the buffer, where it has room.
+fn hand_over(frame: &mut Vec<u8>, buffer: &mut [u8], length: &mut usize) -> u32
+    ensures { HandsOver result length.new frame.old.items frame.new.items buffer.old buffer.new }
+{
+    let size = frame.len();
+    *length = size;
     if size > buffer.len() {
-        return Err(FULL);
+        return FULL;
     }
-    buffer[..size].copy_from_slice(ready);
-    ready.clear();
-    Ok(size)
+    buffer[..size].copy_from_slice(frame);
+    frame.clear();
+    OK
 }

@@ -39,7 +39,7 @@ pub extern "C" fn lockrun_node_open(
     }
 }
 
-/// Puts whole frames for a node at the front of the buffer, as many as there is room for.
+/// Puts the next frame for a node at the front of the buffer, where it has room.
 #[unsafe(no_mangle)]
 pub extern "C" fn lockrun_send(
     alloc: Global,
