@@ -10,7 +10,7 @@ sys.dont_write_bytecode = True
 from definitions import House
 
 MOST_IN_CHAIN = 10
-MOST_TWICE = 35
+MOST_TWICE = 37
 
 
 def chain(crates, name):

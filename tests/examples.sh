@@ -122,7 +122,7 @@ refuses_bytes() {
     fail "lockrun says something else of a word that isn't text"
   fi
   ./lockrun >"$room/printed" 2>&1
-  cmp -s "$room/wanted" "$room/printed" || fail "the wrapper says something else of no words"
+  head -n 1 "$room/printed" | cmp -s "$room/wanted" - || fail "the wrapper's first line on no words isn't the program's"
 }
 refuses_bytes
 

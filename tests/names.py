@@ -35,7 +35,7 @@ OTHERS = '''
     pg_locks readers chain
     lock_within and_within change_within timeout= sets= StillWaits -std=c11
     logic=proved functions=N axioms= axioms=N target=.. cpu=.. sum=dac8208d650f15bf native=nat,char,string logic-built=trusted
-    libraries-built=trusted statements=trusted incremental=trusted batches=trusted cache=trusted threads= may-wait= may-abort=
+    libraries-built=trusted statements=trusted incremental=trusted batches=trusted cache=trusted main=Threads threads= may-wait= may-abort=
     partial= rattle_alloc rattle_realloc rattle_dealloc Appends
     File crates/lt_modes/specs/File.antt tests/bugs/CRATE.edits
     s0 s1 s2 s3 c0 c1 cI name'''.split()

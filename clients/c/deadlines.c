@@ -91,15 +91,18 @@ static void by_others(void) {
     end();
 }
 
-/* On two nodes: what was given up stands at the other node until it is answered there, and may be taken up again. */
+/* On two nodes: what was given up stands at the other node until it is answered there, and may be taken up again. No time is
+ * over too early. */
 static void apart(void) {
     open_nodes("nodes 2\nset a\nclient c at 0\nclient d at 1\n");
     lockrun_caller *first = &nodes.caller[0], *second = &nodes.caller[1];
     IS(lockrun_lock(first, 0, LOCKRUN_WRITE, LOCKRUN_FOREVER), LOCKRUN_GRANTED);
     IS(lockrun_lock(second, 0, LOCKRUN_WRITE, 5), LOCKRUN_WITHDRAWN);
     IS(lockrun_ask(second, 0, LOCKRUN_READ, 5), LOCKRUN_WITHHELD);
+    int64_t begin = lockrun_now();
     IS(lockrun_lock(second, 0, LOCKRUN_READ, 5), LOCKRUN_WITHDRAWN);
     IS(lockrun_lock(second, 0, LOCKRUN_WRITE, 5), LOCKRUN_WITHDRAWN);
+    IS(lockrun_now() - begin >= 10 * 1000000, 1);
     IS(lockrun_ask(second, 0, LOCKRUN_WRITE, 5), LOCKRUN_WAITS);
     IS(lockrun_unlock(first, 0, LOCKRUN_WRITE, LOCKRUN_FOREVER), LOCKRUN_UNLOCKED);
     IS(lockrun_wait(second, LOCKRUN_FOREVER), LOCKRUN_GRANTED);
@@ -144,14 +147,15 @@ static void run_all(void *(*call)(void *), int count) {
 /* How many callers of the ring have their first lock. */
 static atomic_int first_locks;
 
-/* Each locks a set, and then that of the next one. The first one loses its patience, and drops what it has. */
+/* Each locks a set, and then that of the next one. The first one loses its patience, and drops what it has. The others have
+ * as much of it as can be written. */
 static void *call_in_ring(void *argument) {
     lockrun_caller *caller = argument;
     uint32_t own = lockrun_client(&caller->session), next = (own + 1) % RING;
     IS(lockrun_lock(caller, own, LOCKRUN_WRITE, LONG), LOCKRUN_GRANTED);
     first_locks++;
     while (first_locks < RING) lockrun_help(caller, LOCKRUN_OWN);
-    uint32_t code = lockrun_lock(caller, next, LOCKRUN_WRITE, own ? LONG : SHORT);
+    uint32_t code = lockrun_lock(caller, next, LOCKRUN_WRITE, own ? INT64_MAX : SHORT);
     IS(code, own ? LOCKRUN_GRANTED : LOCKRUN_WITHDRAWN);
     IS(lockrun_abort(caller), LOCKRUN_DROPPED);
     IS(caller->dropped, own ? 2 : 1);

@@ -37,24 +37,33 @@ static inline uint32_t lockrun_help(lockrun_caller *caller, unsigned tries) {
     return code;
 }
 
+/* Nanoseconds by the clock. */
 static inline int64_t lockrun_now(void) {
     struct timespec time;
     clock_gettime(CLOCK_MONOTONIC, &time);
-    return (int64_t)time.tv_sec * 1000 + time.tv_nsec / 1000000;
+    return (int64_t)time.tv_sec * 1000000000 + time.tv_nsec;
 }
 
-static inline void lockrun_back_off(unsigned tries) {
+/* When so many milliseconds are over, by that clock: LOCKRUN_FOREVER, if it doesn't count so far. */
+static inline int64_t lockrun_end_of(int64_t patience) {
+    if (patience < 0) return LOCKRUN_FOREVER;
+    const int64_t now = lockrun_now();
+    return patience > (INT64_MAX - now) / 1000000 ? (int64_t)LOCKRUN_FOREVER : now + patience * 1000000;
+}
+
+static inline int lockrun_is_over(int64_t end) { return end >= 0 && lockrun_now() >= end; }
+
+/* No nap is longer than what is left of the time. */
+static inline void lockrun_back_off(unsigned tries, int64_t end) {
     if (tries < LOCKRUN_SPINS) return;
     if (tries < LOCKRUN_YIELDS) { sched_yield(); return; }
-    const long nap = 1000L * (tries - LOCKRUN_YIELDS + 1), longest = LOCKRUN_LONGEST_NAP;
-    struct timespec time = {0, nap < longest ? nap : longest};
+    const unsigned naps = tries - LOCKRUN_YIELDS + 1;
+    int64_t nap = naps < LOCKRUN_LONGEST_NAP / 1000 ? 1000 * (int64_t)naps : (int64_t)LOCKRUN_LONGEST_NAP;
+    const int64_t left = end < 0 ? nap : end - lockrun_now();
+    if (left <= 0) return;
+    if (left < nap) nap = left;
+    struct timespec time = {0, (long)nap};
     nanosleep(&time, 0);
-}
-
-static inline int lockrun_is_over(unsigned tries, int64_t patience, int64_t *end) {
-    if (patience < 0 || tries < LOCKRUN_OWN) return 0;
-    if (tries == LOCKRUN_OWN) *end = lockrun_now() + patience;
-    return lockrun_now() >= *end;
 }
 
 /* Has room for a further set in the list of those in which the caller has locks. */
@@ -97,36 +106,41 @@ static inline void lockrun_keep(lockrun_caller *caller, uint32_t code) {
     }
 }
 
-/* Takes the next reply, if there is one: whether it was the last that is to come. */
+/* Takes the replies that are there, at most those that are to come: whether these were all. */
 static inline int lockrun_take_reply(lockrun_caller *caller) {
-    uint32_t code = lockrun_poll(&caller->session, &caller->dropped);
-    if (code == LOCKRUN_NOTHING) return 0;
-    if (caller->waits) {
-        caller->waits = 0;
-        caller->answer = code;
-        lockrun_keep(caller, code);
-    } else {
-        caller->withdraws = 0;
+    for (uint32_t code; (code = lockrun_poll(&caller->session, &caller->dropped)) != LOCKRUN_NOTHING;) {
+        if (caller->waits) {
+            caller->waits = 0;
+            caller->answer = code;
+            lockrun_keep(caller, code);
+        } else {
+            caller->withdraws = 0;
+        }
+        if (!caller->withdraws) return 1;
     }
-    return !caller->withdraws;
+    return 0;
 }
 
-/* Waits for the reply to what the caller asked: a lockrun_reply, LOCKRUN_WAITS, or what keeps a node from going on. */
-static inline uint32_t lockrun_wait(lockrun_caller *caller, int64_t patience) {
-    int64_t end = 0;
+/* Waits for the reply to what the caller asked, until the time is over. */
+static inline uint32_t lockrun_wait_until(lockrun_caller *caller, int64_t end) {
     if (!caller->waits && !caller->withdraws) return LOCKRUN_NOTHING;
     for (unsigned tries = 0;; tries++) {
         uint32_t turned = lockrun_help(caller, tries);
         if (lockrun_take_reply(caller)) return caller->answer;
         if (lockrun_is_fault(turned)) return turned;
-        if (lockrun_is_over(tries, patience, &end)) return LOCKRUN_WAITS;
-        lockrun_back_off(tries);
+        if (tries >= LOCKRUN_OWN && lockrun_is_over(end)) return LOCKRUN_WAITS;
+        lockrun_back_off(tries, end);
     }
 }
 
-/* Submits a command and waits for its reply: a lockrun_reply, or the code of what kept it from being submitted. */
-static inline uint32_t lockrun_call(lockrun_caller *caller, uint32_t kind, uint32_t set, uint32_t first, uint32_t second,
-                                    int64_t patience) {
+/* Waits for the reply to what the caller asked: a lockrun_reply, LOCKRUN_WAITS, or what keeps a node from going on. */
+static inline uint32_t lockrun_wait(lockrun_caller *caller, int64_t patience) {
+    return lockrun_wait_until(caller, lockrun_end_of(patience));
+}
+
+/* Submits a command and waits for its reply, until the time is over. */
+static inline uint32_t lockrun_call_until(lockrun_caller *caller, uint32_t kind, uint32_t set, uint32_t first,
+                                          uint32_t second, int64_t end) {
     if (caller->waits || caller->withdraws) return LOCKRUN_WAITS;
     uint32_t code = kind == LOCKRUN_LOCK || kind == LOCKRUN_TRY ? lockrun_reserve(caller) : (uint32_t)LOCKRUN_OK;
     if (code == LOCKRUN_OK) code = lockrun_submit(&caller->session, kind, set, first, second);
@@ -135,7 +149,13 @@ static inline uint32_t lockrun_call(lockrun_caller *caller, uint32_t kind, uint3
     caller->set = set;
     caller->first = first;
     caller->waits = 1;
-    return lockrun_wait(caller, patience);
+    return lockrun_wait_until(caller, end);
+}
+
+/* Submits a command and waits for its reply: a lockrun_reply, or the code of what kept it from being submitted. */
+static inline uint32_t lockrun_call(lockrun_caller *caller, uint32_t kind, uint32_t set, uint32_t first, uint32_t second,
+                                    int64_t patience) {
+    return lockrun_call_until(caller, kind, set, first, second, lockrun_end_of(patience));
 }
 
 /* Gives up what the caller asked for and has no reply to: LOCKRUN_WITHDRAWN, or the reply that came first. LOCKRUN_NOTHING if
@@ -151,13 +171,14 @@ static inline uint32_t lockrun_give_up(lockrun_caller *caller) {
     return lockrun_wait(caller, LOCKRUN_FOREVER);
 }
 
-/* Turns the nodes for so many milliseconds: LOCKRUN_OK, or what keeps a node from going on. */
-static inline uint32_t lockrun_pause(lockrun_caller *caller, int64_t pause) {
-    int64_t end = lockrun_now() + pause;
-    for (unsigned tries = 0; lockrun_now() < end; tries++) {
+/* Turns the nodes for so many milliseconds, or until the time is over: LOCKRUN_OK, or what keeps a node from going on. */
+static inline uint32_t lockrun_pause(lockrun_caller *caller, int64_t pause, int64_t end) {
+    int64_t until = lockrun_end_of(pause);
+    if (end >= 0 && end < until) until = end;
+    for (unsigned tries = 0; !lockrun_is_over(until); tries++) {
         uint32_t turned = lockrun_help(caller, tries);
         if (lockrun_is_fault(turned)) return turned;
-        lockrun_back_off(tries);
+        lockrun_back_off(tries, until);
     }
     return LOCKRUN_OK;
 }
@@ -168,13 +189,12 @@ static inline uint32_t lockrun_call_within(lockrun_caller *caller, uint32_t kind
                                            uint32_t second, int64_t patience) {
     if (caller->waits || caller->withdraws) return LOCKRUN_WAITS;
     if (patience >= 0 && !caller->nodes->gives_up) return LOCKRUN_BAD_ARGUMENT;
-    uint32_t code = lockrun_call(caller, kind, set, first, second, patience);
+    const int64_t end = lockrun_end_of(patience);
+    uint32_t code = lockrun_call_until(caller, kind, set, first, second, end);
     for (int64_t pause = 1; code == LOCKRUN_WITHHELD; pause = pause < LOCKRUN_LONGEST_PAUSE ? 2 * pause : pause) {
-        if (patience == 0) return LOCKRUN_WITHDRAWN;
-        int64_t nap = patience > 0 && patience < pause ? patience : pause;
-        if (patience > 0) patience -= nap;
-        code = lockrun_pause(caller, nap);
-        if (code == LOCKRUN_OK) code = lockrun_call(caller, kind, set, first, second, patience);
+        if (lockrun_is_over(end)) return LOCKRUN_WITHDRAWN;
+        code = lockrun_pause(caller, pause, end);
+        if (code == LOCKRUN_OK) code = lockrun_call_until(caller, kind, set, first, second, end);
     }
     if (code == LOCKRUN_WAITS) code = lockrun_give_up(caller);
     return code == LOCKRUN_WITHHELD ? (uint32_t)LOCKRUN_WITHDRAWN : code;

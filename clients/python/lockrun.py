@@ -495,23 +495,21 @@ class Session:
                 return reply
             if tries >= OWN and end is not None and time.monotonic() >= end:
                 raise StillWaits
-            tries = back_off(tries)
+            tries = back_off(tries, end)
 
     def _take_reply(self) -> Optional[Tuple[int, int]]:
-        """Takes the next reply, if there is one: that to the command, once all have come."""
+        """Takes the replies that are there: that to the command, once all have come."""
         count = c_uint64()
-        code = self._ask_library('lockrun_poll', count)
-        if code == NOTHING:
-            return None
-        if self.answer is None:
-            self.answer = code, count.value
-            self._keep(code, count.value)
-        else:
-            self.withdraws = False
-        if self.withdraws:
-            return None
-        reply, self.answer, self.asked = self.answer, None, None
-        return reply
+        while (code := self._ask_library('lockrun_poll', count)) != NOTHING:
+            if self.answer is None:
+                self.answer = code, count.value
+                self._keep(code, count.value)
+            else:
+                self.withdraws = False
+            if not self.withdraws:
+                reply, self.answer, self.asked = self.answer, None, None
+                return reply
+        return None
 
     def _keep(self, code: int, count: int) -> None:
         """Keeps what a reply says of the client's locks."""
@@ -530,7 +528,7 @@ class Session:
         end, tries = time.monotonic() + pause, 0
         while time.monotonic() < end:
             self._help(tries)
-            tries = back_off(tries)
+            tries = back_off(tries, end)
 
     def _help(self, tries: int) -> None:
         if tries < OWN:
@@ -548,10 +546,11 @@ class Session:
                 raise
 
 
-def back_off(tries: int) -> int:
-    """Naps after some tries, and counts them."""
+def back_off(tries: int, end: Optional[float] = None) -> int:
+    """Naps after some tries, no longer than what is left of the time, and counts them."""
     if tries >= SPINS:
-        time.sleep(min(LONGEST_NAP, (tries - SPINS) * 1e-6))
+        nap = min(LONGEST_NAP, (tries - SPINS) * 1e-6)
+        time.sleep(nap if end is None else max(0.0, min(nap, end - time.monotonic())))
     return tries + 1
 
 

@@ -129,7 +129,7 @@ impl Waiter {
             if turned == Err(Error::LogFull) {
                 return Err(Error::LogFull);
             }
-            back_off(&mut tries);
+            back_off(&mut tries, None);
         }
     }
 
@@ -161,29 +161,32 @@ impl Waiter {
             if tries >= OWN && is_over(end) {
                 return Err(Error::StillWaits);
             }
-            back_off(&mut tries);
+            back_off(&mut tries, end);
         }
     }
 
-    // Takes the next reply, if there is one: that to the command, once all have come.
+    // Takes the replies that are there: that to the command, once all have come.
     fn take_reply(&mut self) -> Option<Reply> {
+        while let Some((code, count)) = self.poll() {
+            if self.answer.is_none() {
+                self.answer = Some((code, count));
+                self.keep(code, count);
+            } else {
+                self.withdraws = false;
+            }
+            if !self.withdraws {
+                self.asked = None;
+                return self.answer.take();
+            }
+        }
+        None
+    }
+
+    fn poll(&mut self) -> Option<Reply> {
         let mut count = 0;
         // SAFETY: as in `put`.
         let code = unsafe { exports::lockrun_poll(&mut self.raw, &mut count) };
-        if code == exports::NOTHING {
-            return None;
-        }
-        if self.answer.is_none() {
-            self.answer = Some((code, count));
-            self.keep(code, count);
-        } else {
-            self.withdraws = false;
-        }
-        if self.withdraws {
-            return None;
-        }
-        self.asked = None;
-        self.answer.take()
+        (code != exports::NOTHING).then_some((code, count))
     }
 
     // Keeps what a reply says of the client's locks.
@@ -225,7 +228,7 @@ impl Waiter {
             if self.help(tries) == Err(Error::LogFull) {
                 return Err(Error::LogFull);
             }
-            back_off(&mut tries);
+            back_off(&mut tries, over);
         }
         Ok(())
     }
@@ -248,9 +251,11 @@ fn is_over(end: Option<Instant>) -> bool {
     end.map_or(false, |end| Instant::now() >= end)
 }
 
-fn back_off(tries: &mut u32) {
+// No nap is longer than what is left of the time.
+fn back_off(tries: &mut u32, end: Option<Instant>) {
     if *tries >= YIELDS {
-        sleep(LONGEST_NAP.min(Duration::from_micros(u64::from(*tries - YIELDS + 1))));
+        let nap = LONGEST_NAP.min(Duration::from_micros(u64::from(*tries - YIELDS + 1)));
+        sleep(end.map_or(nap, |end| nap.min(end.saturating_duration_since(Instant::now()))));
     } else if *tries >= SPINS {
         yield_now();
     }

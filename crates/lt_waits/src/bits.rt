@@ -25,7 +25,8 @@ impl Bits {
     /// None of so many clients.
     pub fn none(alloc: Global, clients: u16) -> Result<Bits, AllocError>
         ensures words { IfOk result (λ bits. length bits ≡ words_for clients) }
-        ensures none { IfOk result (λ bits. (client : ℕ) → client < 64 * words_for clients → row_has bits client ≡ false) }
+        ensures none { IfOk result (λ bits. (client : ℕ) → client < 64 * words_for clients → row_has bits client
+            ≡ false) }
     {
         Bits::filled(alloc, clients, 0)
     }
@@ -33,7 +34,8 @@ impl Bits {
     /// All of so many clients.
     pub fn all(alloc: Global, clients: u16) -> Result<Bits, AllocError>
         ensures words { IfOk result (λ bits. length bits ≡ words_for clients) }
-        ensures all { IfOk result (λ bits. (client : ℕ) → client < 64 * words_for clients → row_has bits client ≡ true) }
+        ensures all { IfOk result (λ bits. (client : ℕ) → client < 64 * words_for clients → row_has bits client
+            ≡ true) }
     {
         Bits::filled(alloc, clients, u64::MAX)
     }
@@ -69,8 +71,10 @@ impl Bits {
     /// A client that is in this set and in the other one.
     pub fn common(&self, other: &Bits) -> Option<u16>
         requires { length self.now ≡ length other.now }
-        ensures some { IfSome result (λ client. (client < 64 * length self.now) × (row_has self.now client ≡ true) × (row_has other.now client ≡ true)) }
-        ensures none { IfNone result ((client : ℕ) → client < 64 * length self.now → row_has other.now client ≡ true → row_has self.now client ≡ false) }
+        ensures some { IfSome result (λ client. (client < 64 * length self.now) × (row_has self.now client ≡ true)
+            × (row_has other.now client ≡ true)) }
+        ensures none { IfNone result ((client : ℕ) → client < 64 * length self.now → row_has other.now client ≡ true
+            → row_has self.now client ≡ false) }
     {
         first_common(&self.words, &other.words)
     }
@@ -80,8 +84,10 @@ impl Bits {
 fn first_common(words: &[u64], others: &[u64]) -> Option<u16>
     requires same { length words.now ≡ length others.now }
     requires few { length words.now ≤ 1024 }
-    ensures some { IfSome result (λ number. (number < 64 * length words.now) × (row_has words.now number ≡ true) × (row_has others.now number ≡ true)) }
-    ensures none { IfNone result ((number : ℕ) → number < 64 * length words.now → row_has others.now number ≡ true → row_has words.now number ≡ false) }
+    ensures some { IfSome result (λ number. (number < 64 * length words.now) × (row_has words.now number ≡ true)
+        × (row_has others.now number ≡ true)) }
+    ensures none { IfNone result ((number : ℕ) → number < 64 * length words.now → row_has others.now number ≡ true
+        → row_has words.now number ≡ false) }
 {
     for word in 0..words.len() {
         let both = words[word] & others[word];

@@ -1,5 +1,5 @@
-// The search for those from whom clients wait in a row to one client, in rounds: first those that wait for it, then those
-// that wait for one of these, and so on.
+// The search for those from whom clients wait in a row to one client, in rounds: first those that wait for it, then
+// those that wait for one of these, and so on.
 ghost use Rattle.std.specs.Prelude.{◌≡◌, ◌<◌, ◌≤◌, ◌∷◌, [], ℕ, All, IfOk, OnOk, length};
 ghost use Rattle.lt_waits.specs.Serves.{graph_of};
 ghost use Rattle.lt_waits.specs.Search.{HasSteps, IsSearched, IsSearch, Reaches, next_step_of, steps_of};
@@ -80,7 +80,8 @@ fn reach(
     requires those { All (λ c. c < waiters.now.clients) those.now }
     requires steps { 0 < steps }
     ensures reached { IfOk result
-        (λ found. Reaches waiters.now.clients (graph_of waiters.now) those.now steps [] found.items search.old search.new) }
+        (λ found. Reaches waiters.now.clients
+        (graph_of waiters.now) those.now steps [] found.items search.old search.new) }
     ensures done { OnOk result (IsSearched waiters.now.clients (graph_of waiters.now) those.now search.new) }
 {
     let mut found = Vec::new(alloc);
@@ -102,7 +103,8 @@ fn reach_one(
     requires client { client < waiters.now.clients }
     requires steps { 0 < steps }
     ensures reached { OnOk result
-        (Reaches waiters.now.clients (graph_of waiters.now) (client ∷ []) steps found.old.items found.new.items search.old search.new) }
+        (Reaches waiters.now.clients (graph_of waiters.now) (client
+        ∷ []) steps found.old.items found.new.items search.old search.new) }
     ensures done { OnOk result (IsSearched waiters.now.clients (graph_of waiters.now) (client ∷ []) search.new) }
 {
     while let Some(other) = waiters.one_of(&search.left, client) {

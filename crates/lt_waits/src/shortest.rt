@@ -16,8 +16,10 @@ impl WaitGraph {
     /// one for the first.
     pub fn shortest_ring(&self, alloc: Global) -> Result<Option<Vec<u16>>, AllocError>
         ensures found { IfOk result (λ found. IsTrue (is_some found) ↔ HasRing self.now.clients (graph_of self.now)) }
-        ensures ring { IfOk result (λ found. IfSome found (λ ring. IsRingOf self.now.clients (graph_of self.now) ring.items)) }
-        ensures shortest { IfOk result (λ found. IfSome found (λ ring. IsShortest self.now.clients (graph_of self.now) ring.items)) }
+        ensures ring { IfOk result (λ found. IfSome found (λ ring. IsRingOf self.now.clients
+            (graph_of self.now) ring.items)) }
+        ensures shortest { IfOk result (λ found. IfSome found (λ ring. IsShortest self.now.clients
+            (graph_of self.now) ring.items)) }
     {
         let waiters = Waiters::new(alloc, self)?;
         let mut shortest = None;
@@ -31,7 +33,8 @@ impl WaitGraph {
 
 // The shorter one of two rings, if there are two.
 fn shorter(first: Option<Vec<u16>>, second: Option<Vec<u16>>) -> Option<Vec<u16>>
-    ensures one { (n : ℕ) (graph : Graph) → IfSome first (λ ring. IsRingOf n graph ring.items) → IfSome second (λ ring. IsRingOf n graph ring.items)
+    ensures one { (n : ℕ) (graph : Graph) → IfSome first (λ ring. IsRingOf n graph ring.items)
+        → IfSome second (λ ring. IsRingOf n graph ring.items)
         → IfSome result (λ ring. IsRingOf n graph ring.items) }
     ensures first { (k : ℕ) → IsTrue (is_some first) → IfSome first (λ ring. length ring.items ≤ k)
         → IsTrue (is_some result) × IfSome result (λ ring. length ring.items ≤ k) }
@@ -58,8 +61,10 @@ fn ring_through(
     start: u16,
 ) -> Result<Option<Vec<u16>>, AllocError>
     requires { start < waiters.now.clients }
-    ensures ring { IfOk result (λ found. IfSome found (λ ring. IsRingOf waiters.now.clients (graph_of waiters.now) ring.items)) }
-    ensures least { IfOk result (λ found. (rest : List ℕ) → AreBelow waiters.now.clients (start ∷ rest) → IsRing (graph_of waiters.now) (start ∷ rest)
+    ensures ring { IfOk result (λ found. IfSome found (λ ring. IsRingOf waiters.now.clients
+        (graph_of waiters.now) ring.items)) }
+    ensures least { IfOk result (λ found. (rest : List ℕ) → AreBelow waiters.now.clients (start ∷ rest)
+        → IsRing (graph_of waiters.now) (start ∷ rest)
         → IsTrue (is_some found) × IfSome found (λ ring. length ring.items ≤ length rest + 1)) }
 {
     let search = steps_to(alloc, waiters, start)?;

@@ -49,7 +49,8 @@ impl<'a> Waiters<'a> {
         ensures within { IfSome result (λ other. other < self.now.clients) }
         ensures left { IfSome result (λ other. row_has left.now other ≡ true) }
         ensures waits { IfSome result (λ other. graph_of self.now other client ≡ true) }
-        ensures none { IfNone result ((other : ℕ) → other < self.now.clients → row_has left.now other ≡ true → graph_of self.now other client ≡ false) }
+        ensures none { IfNone result ((other : ℕ) → other < self.now.clients → row_has left.now other ≡ true
+            → graph_of self.now other client ≡ false) }
     {
         self.rows[usize::from(client)].common(left)
     }

@@ -1,0 +1,4 @@
+pub mod Remote
+pub mod Faults
+pub mod Carrying
+pub mod Telling
