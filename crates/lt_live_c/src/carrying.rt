@@ -24,7 +24,6 @@ pub fn send(content: &mut Content, to: u32, buffer: &mut [u8], length: &mut usiz
 }
 
 /// Takes in the letters of a node whose frames stand at the front of the bytes.
-#[tactic(auto, using(crate::proofs::Receiving::received_from))]
 pub fn receive(
     content: &mut Content,
     alloc: Global,
