@@ -69,7 +69,8 @@ pub extern "C" fn lockrun_receive(
 ) -> u32
     requires { IsSome node.old.value }
     ensures some { IsSome node.new.value }
-    ensures receives { AtNode result from (Receives result from used.old used.new bytes.now) node.old.value node.new.value }
+    ensures receives { AtNode result from (Receives result from used.old used.new bytes.now) node.old.value
+        node.new.value }
 {
     let mut inside = take(alloc, node);
     let code = carrying::receive(&mut inside, alloc, from, bytes, used);
