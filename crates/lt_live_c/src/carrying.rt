@@ -1,7 +1,7 @@
 // What the calls that carry letters do with what a handle stands for.
 ghost use Rattle.std.specs.Prelude.{◌≡◌, ◌<◌, ◌≤◌, length};
 ghost use Rattle.lt_live_c.specs.NodeCalls.{OnNode};
-ghost use Rattle.lt_live_c.specs.Nodes.{IsPeer, Sends, Receives, TellsPending};
+ghost use Rattle.lt_live_c.specs.Nodes.{IsPeer, SendsFrames, Receives, TellsPending};
 
 use crate::code::{BAD_ARGUMENT, FULL, MISFIT, NOTHING, OK, WRONG_HANDLE};
 use crate::content::Content;
@@ -12,7 +12,7 @@ use std::alloc::Global;
 
 /// Puts whole frames for a node at the front of the buffer, as many as there is room for.
 pub fn send(content: &mut Content, to: u32, buffer: &mut [u8], length: &mut usize) -> u32
-    ensures { OnNode result to (Sends result to length.old length.new buffer.old buffer.new) content.old content.new }
+    ensures { OnNode result to (SendsFrames result to length.old length.new buffer.old buffer.new) content.old content.new }
 {
     match content {
         Content::Node(node) => match node.peer(to) {
@@ -58,7 +58,7 @@ pub fn pending(content: &mut Content, to: u32) -> u32
 impl Node {
     fn send(&mut self, to: u8, buffer: &mut [u8], length: &mut usize) -> u32
         requires { IsPeer self.old to }
-        ensures { Sends result to length.old length.new buffer.old buffer.new self.old self.new }
+        ensures { SendsFrames result to length.old length.new buffer.old buffer.new self.old self.new }
     {
         let ready = &mut self.ready[usize::from(to)];
         let mut used = 0;
