@@ -13,8 +13,8 @@ use Rattle.lt_apart.specs.Remote.{RemoteData, given}
 use Rattle.lt_apart.specs.Carrying.{frames, GivesOut, wire_to}
 use Rattle.lt_apart.proofs.Frames.{gives_none}
 use Rattle.lt_apart.proofs.GivenOut.{only_itself}
-use Rattle.lt_live_c.specs.NodeData.{NodeData}
-use Rattle.lt_live_c.specs.Nodes.{bytes_of, unsent, PassesOn, GivesFrame, HandsOver, HasNoFrame, Sends}
+use Rattle.lt_live_c.specs.OwnNode.{OwnNode}
+use Rattle.lt_live_c.specs.Nodes.{bytes_of, unsent, PassesOn, GivesFrame, GoesToBuffer, HasNoFrame, SendsFrames}
 
 -- letters that go out have bytes
 pub some_bytes : (key : List ℕ) (wire : Wire) (count : ℕ) (before after : List Letter) (out out_now : List ℕ)
@@ -72,18 +72,18 @@ same_bytes key wire count before after out out_now was now h same last = record 
 }
 
 -- the node's frame before, the one that went out or waits, and what is left of it
-pub record FrameAt (place to : ℕ) (was now : Vec ℕ Global) (a b : NodeData) : Type 0 where
+pub record FrameAt (place to : ℕ) (was now : Vec ℕ Global) (a b : OwnNode) : Type 0 where
   pub below : to < length a.ready
   pub at : place ≡ to
   pub was_is : was ≡ slice_index_or a.ready place was
   pub now_is : b.ready ≡ slice_set a.ready place now
   pub sessions : b.sessions ≡ a.sessions
 
-left : (place to : ℕ) (was now : Vec ℕ Global) (a b : NodeData) → FrameAt place to was now a b → unsent b to ≡ now.items
+left : (place to : ℕ) (was now : Vec ℕ Global) (a b : OwnNode) → FrameAt place to was now a b → unsent b to ≡ now.items
 left place to was now a b h =
     ap (λ (ready : List (Vec ℕ Global)). bytes_of (slice_get ready to)) h.now_is ∙ unsent_now a.ready place to now h.below h.at
 
-passes : (place to : ℕ) (sent frame : List ℕ) (was now : Vec ℕ Global) (a b : NodeData) → FrameAt place to was now a b
+passes : (place to : ℕ) (sent frame : List ℕ) (was now : Vec ℕ Global) (a b : OwnNode) → FrameAt place to was now a b
     → GivesFrame to was.items frame a.remote b.remote → sent ++ now.items ≡ frame → PassesOn to sent a b
 passes place to sent frame was now a b h gives whole = record {
   count = gives.count;
@@ -100,9 +100,9 @@ passes place to sent frame was now a b h gives whole = record {
 }
 
 -- no frame waits
-pub sends_none : (code place to length_now : ℕ) (buffer : List ℕ) (was now : Vec ℕ Global) (a b : NodeData) → FrameAt place to was now a b
+pub sends_none : (code place to length_now : ℕ) (buffer : List ℕ) (was now : Vec ℕ Global) (a b : OwnNode) → FrameAt place to was now a b
     → GivesFrame to was.items now.items a.remote b.remote → now.items ≡ [] → HasNoFrame code to b.remote
-    → Sends code to length_now length_now buffer buffer a b
+    → SendsFrames code to length_now length_now buffer buffer a b
 sends_none code place to length_now buffer was now a b h gives none why = inr (inl (record {
   passes = passes place to [] now.items was now a b h gives refl;
   unsent_none = left place to was now a b h ∙ none;
@@ -111,9 +111,9 @@ sends_none code place to length_now buffer was now a b h gives none why = inr (i
 }))
 
 -- the frame went out, or found no room
-pub sends_frame : (code place to length_was length_now : ℕ) (frame buffer buffer_now : List ℕ) (was now : Vec ℕ Global) (a b : NodeData)
+pub sends_frame : (code place to length_was length_now : ℕ) (frame buffer buffer_now : List ℕ) (was now : Vec ℕ Global) (a b : OwnNode)
     → FrameAt place to was now a b → GivesFrame to was.items frame a.remote b.remote → 0 < length frame
-    → HandsOver code length_now frame now.items buffer buffer_now → Sends code to length_was length_now buffer buffer_now a b
+    → GoesToBuffer code length_now frame now.items buffer buffer_now → SendsFrames code to length_was length_now buffer buffer_now a b
 sends_frame code place to length_was length_now frame buffer buffer_now was now a b h gives some (inl out) = inl (record {
   code_is = out.code_is;
   within = omega (arith, out.size, out.room);

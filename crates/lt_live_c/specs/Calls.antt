@@ -78,7 +78,8 @@ command_numbered kind set first second =
     if kind == 0 then command_with_mode (λ mode. commands.Lock set mode) (mode_numbered first)
     else if kind == 1 then command_with_mode (λ mode. commands.Try set mode) (mode_numbered first)
     else if kind == 2 then command_with_mode (λ mode. commands.Unlock set mode) (mode_numbered first)
-    else if kind == 3 then with_modes (λ gives_up mode. commands.Change set gives_up mode) (mode_numbered first) (mode_numbered second)
+    else if kind == 3 then with_modes (λ gives_up mode. commands.Change set gives_up mode) (mode_numbered first)
+    (mode_numbered second)
     else if kind == 4 then drop_of set first
     else if kind == 5 then withdraw_of set first
     else None
@@ -87,7 +88,8 @@ command_numbered kind set first second =
 
 -- a turn of the station, which ended as the code says
 abbrev pub TurnsStation : ℕ → StationData → StationData → Type 0
-TurnsStation code a b = (turned : Turned) × (code ≡ number_of_turn turned) × StationTurns turned a.runner a.seats b.runner b.seats
+TurnsStation code a b = (turned : Turned) × (code ≡ number_of_turn turned)
+    × StationTurns turned a.runner a.seats b.runner b.seats
 
 -- all that the command names is of the session's script
 abbrev pub MaySubmit : Session → Command → Type 0

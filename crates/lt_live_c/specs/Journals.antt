@@ -104,7 +104,8 @@ pub record CopiesFrom (text : List ℕ) (from count : ℕ) (old new : List ℕ) 
 
 -- C is told how many lines say what is held, and how many who waits
 abbrev pub TellsEnd : Content → ℕ → ℕ → ℕ → ℕ → ℕ → Type 0
-TellsEnd (contents.Journal journal) code was held waited waiting = (code ≡ OK) × (held ≡ journal.held) × (waiting ≡ journal.waiting)
+TellsEnd (contents.Journal journal) code was held waited waiting = (code ≡ OK) × (held ≡ journal.held)
+    × (waiting ≡ journal.waiting)
 TellsEnd other code was held waited waiting = (code ≡ WRONG_HANDLE) × (held ≡ was) × (waiting ≡ waited)
 
 abbrev pub HandleTellsEnd : Option Content → ℕ → ℕ → ℕ → ℕ → ℕ → Type 0

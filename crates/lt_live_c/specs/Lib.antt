@@ -2,7 +2,7 @@ pub mod Handles
 pub mod Calls
 pub mod NewSets
 pub mod Opening
-pub mod NodeData
+pub mod OwnNode
 pub mod Nodes
 pub mod Taking
 pub mod NodeCalls

@@ -60,8 +60,8 @@ pub record TakesTold : Type 0 where
       → AfterTakingSession stations (s ∷ t ∷ []) (λ taken new. HasThem stations (t ∷ []) new)
   pub no_station_of_others : (content : Content) (taken new : Option Content) → kind_of content ≢ 0
       → HandleTakesStation taken (Some content) new → ⊥
-  pub no_session_of_others : (content : Content) (taken new : Option Content) → kind_of content ≢ 0 → kind_of content ≢ 4
-      → HandleTakesSession taken (Some content) new → ⊥
+  pub no_session_of_others : (content : Content) (taken new : Option Content) → kind_of content ≢ 0
+      → kind_of content ≢ 4 → HandleTakesSession taken (Some content) new → ⊥
   pub a_station_left : (x : StationData) (rest : List StationData) (sessions : List Session) (old : Option Content)
       → HasThem (x ∷ rest) sessions old → HandleHasNoStation 1 old → ⊥
   pub a_session_left : (s : Session) (rest : List Session) (stations : List StationData) (old : Option Content)
@@ -247,12 +247,14 @@ AfterServed first Told =
 abbrev pub CountedAtTwo : (Session → Session → ℕ → ℕ → Type 0) → Type 0
 CountedAtTwo Told =
     (x y : Session) (stations : List StationData) (s : Service) (submits polls : ℕ) (new : Option Content)
-    → HandleTellsServed submits polls (Some (contents.Service s)) new → HasThem stations (x ∷ y ∷ []) new → Told x y submits polls
+    → HandleTellsServed submits polls (Some (contents.Service s)) new → HasThem stations (x ∷ y ∷ []) new
+    → Told x y submits polls
 
 -- nothing is told of a service that has these stations and sessions
 abbrev pub NeverTold : List StationData → List Session → Type 0
 NeverTold stations sessions =
-    (submits polls : ℕ) (old new : Option Content) → HasThem stations sessions old → HandleTellsServed submits polls old new → ⊥
+    (submits polls : ℕ) (old new : Option Content) → HasThem stations sessions old
+    → HandleTellsServed submits polls old new → ⊥
 
 -- what is told of a service that goes on; and why nothing is
 pub record ServedTold : Type 0 where
@@ -260,7 +262,8 @@ pub record ServedTold : Type 0 where
   pub live : (first : ScriptData) → AfterServed first (λ s t. AreLive first t.stations.items t.sessions.items)
   pub stations : (first : ScriptData)
       → AfterServed first (λ s t. EachStation MakesNoMove s.stations.items t.stations.items)
-  pub sessions : (first : ScriptData) → AfterServed first (λ s t. EachSession SaysSame s.sessions.items t.sessions.items)
+  pub sessions : (first : ScriptData) → AfterServed first
+      (λ s t. EachSession SaysSame s.sessions.items t.sessions.items)
   pub submitted_are : CountedAtTwo (λ x y submits polls. submits ≡ length (submitted x) + length (submitted y))
   pub polled_are : CountedAtTwo (λ x y submits polls. polls ≡ length (polled x) + length (polled y))
   pub no_station : (sessions : List Session) → NeverTold [] sessions

@@ -34,8 +34,8 @@ abbrev pub IsWholeHandle : Option Content → Type 0
 IsWholeHandle None = ⊥
 IsWholeHandle (Some content) = IsWholeService content
 
--- a station stays one of the same node, where sessions keep their other ends, a session stays that of the same client, and
--- anything else stays as it is
+-- a station stays one of the same node, where sessions keep their other ends, a session stays that of the same
+-- client, and anything else stays as it is
 abbrev pub ContentGoesOn : Content → Content → Type 0
 ContentGoesOn (contents.Service s) b = b ≡ contents.Service s
 ContentGoesOn (contents.Station s) (contents.Station t) = StationGoesOn s t
@@ -55,8 +55,8 @@ BothStand R None o = ⊤
 abbrev pub HandleGoesOn : Option Content → Option Content → Type 0
 HandleGoesOn a b = BothStand ContentGoesOn a b
 
--- what a call on a station does, or on that of a node in a process of its own, of which nothing else changes: with anything
--- else it does nothing, and the code says so
+-- what a call on a station does, or on that of a node in a process of its own, of which nothing else changes: with
+-- anything else it does nothing, and the code says so
 abbrev pub OnStation : ℕ → (StationData → StationData → Type 0) → Content → Content → Type 0
 OnStation code R (contents.Station s) (contents.Station t) = R s t
 OnStation code R (contents.Station s) other = ⊥
@@ -80,7 +80,8 @@ AtSession code R a b = BothStand (OnSession code R) a b
 
 -- it is the first station of the service, which has the others left
 abbrev pub TakesFirstStation : StationData → Service → Service → Type 0
-TakesFirstStation x s t = (slice_get s.stations.items 0 ≡ Some x) × (t.stations.items ≡ drop 1 s.stations.items) × (t.sessions ≡ s.sessions)
+TakesFirstStation x s t = (slice_get s.stations.items 0 ≡ Some x) × (t.stations.items ≡ drop 1 s.stations.items)
+    × (t.sessions ≡ s.sessions)
 
 abbrev pub TakesStation : StationData → Content → Content → Type 0
 TakesStation x (contents.Service s) (contents.Service t) = TakesFirstStation x s t
@@ -92,7 +93,8 @@ HandleTakesStation other a b = ⊥
 
 -- the same of the first session
 abbrev pub TakesFirstSession : Session → Service → Service → Type 0
-TakesFirstSession x s t = (slice_get s.sessions.items 0 ≡ Some x) × (t.sessions.items ≡ drop 1 s.sessions.items) × (t.stations ≡ s.stations)
+TakesFirstSession x s t = (slice_get s.sessions.items 0 ≡ Some x) × (t.sessions.items ≡ drop 1 s.sessions.items)
+    × (t.stations ≡ s.stations)
 
 abbrev pub TakesSession : Session → Content → Content → Type 0
 TakesSession x (contents.Service s) (contents.Service t) = TakesFirstSession x s t

@@ -2,7 +2,7 @@
 ghost use Rattle.std.specs.Prelude.{◌≡◌, ◌<◌, [], IfErr, OnOk, length};
 ghost use Rattle.lt_apart.specs.Remote.{nodes};
 ghost use Rattle.lt_live_c.specs.NodeCalls.{OnNode};
-ghost use Rattle.lt_live_c.specs.Nodes.{IsPeer, Sends, Receives, TellsPending, GivesFrame, HasNoFrame, HandsOver};
+ghost use Rattle.lt_live_c.specs.Nodes.{IsPeer, SendsFrames, Receives, TellsPending, GivesFrame, HasNoFrame, GoesToBuffer};
 
 use crate::code::{BAD_ARGUMENT, FULL, MISFIT, NOTHING, OK, WRONG_HANDLE};
 use crate::content::Content;
@@ -13,7 +13,8 @@ use std::alloc::Global;
 
 /// Puts the next frame for a node at the front of the buffer, where it has room.
 pub fn send(content: &mut Content, to: u32, buffer: &mut [u8], length: &mut usize) -> u32
-    ensures { OnNode result to (Sends result to length.old length.new buffer.old buffer.new) content.old content.new }
+    ensures { OnNode result to (SendsFrames result to length.old length.new buffer.old buffer.new) content.old
+        content.new }
 {
     match content {
         Content::Node(node) => match node.peer(to) {
@@ -25,7 +26,6 @@ pub fn send(content: &mut Content, to: u32, buffer: &mut [u8], length: &mut usiz
 }
 
 /// Takes in the letters of a node whose frames stand at the front of the bytes.
-#[tactic(auto, using(crate::proofs::Receiving::received_from))]
 pub fn receive(
     content: &mut Content,
     alloc: Global,
@@ -60,7 +60,7 @@ pub fn pending(content: &mut Content, to: u32) -> u32
 impl Node {
     fn send(&mut self, to: u8, buffer: &mut [u8], length: &mut usize) -> u32
         requires { IsPeer self.old to }
-        ensures { Sends result to length.old length.new buffer.old buffer.new self.old self.new }
+        ensures { SendsFrames result to length.old length.new buffer.old buffer.new self.old self.new }
     {
         let frame = &mut self.ready[usize::from(to)];
         if let Err(code) = next_frame(&mut self.remote, to, frame) {
@@ -118,7 +118,7 @@ fn next_frame(remote: &mut Remote, to: u8, frame: &mut Vec<u8>) -> Result<(), u3
 
 // The frame goes to the front of the buffer, where it has room.
 fn hand_over(frame: &mut Vec<u8>, buffer: &mut [u8], length: &mut usize) -> u32
-    ensures { HandsOver result length.new frame.old.items frame.new.items buffer.old buffer.new }
+    ensures { GoesToBuffer result length.new frame.old.items frame.new.items buffer.old buffer.new }
 {
     let size = frame.len();
     *length = size;

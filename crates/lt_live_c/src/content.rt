@@ -3,7 +3,7 @@ ghost use Rattle.std.specs.Prelude.{◌≡◌, ◌≢◌, ◌↔◌, IsTrue, tru
 ghost use Rattle.lt_live_c.specs.declared.code.TheConstants.{WRONG_HANDLE};
 ghost use Rattle.lt_live_c.specs.Taking.{IsWholeService, stands_for_service, GivesTo, GiveRefusedBy};
 ghost use Rattle.lt_live_c.specs.Journals.{JournalIsOf, FinishRefused};
-ghost use Rattle.lt_live_c.specs.NodeCalls.{IsNode, NodeJournalIsOf, NodeNotFinished};
+ghost use Rattle.lt_live_c.specs.NodeCalls.{StandsForNode, NodeJournalIsOf, NodeNotFinished};
 
 use crate::code::{FORGOTTEN, NO_MEMORY, TOO_MANY, WRONG_HANDLE};
 use crate::journal::Journal;
@@ -73,14 +73,14 @@ impl Content {
 
     /// Whether it is a node in a process of its own.
     pub fn is_node(&self) -> bool
-        ensures { IsTrue result ↔ IsNode self.now }
+        ensures { IsTrue result ↔ StandsForNode self.now }
     {
         matches!(self, Content::Node(_))
     }
 
     /// The journal of the moves that the node made, or the code of why there is none.
     pub fn journal_of_node(self, alloc: Global) -> Result<Content, u32>
-        requires { IsNode self }
+        requires { StandsForNode self }
         ensures journal { IfOk result (λ journal. NodeJournalIsOf self journal) }
         ensures refused { IfErr result (λ code. (code ≢ WRONG_HANDLE) × NodeNotFinished code self) }
     {

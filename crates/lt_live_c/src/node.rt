@@ -16,9 +16,9 @@ pub struct Node {
 impl Model for Node {
     ghost use Rattle.std.specs.Prelude.{◌≡◌, length};
     ghost use Rattle.lt_apart.specs.Remote.{nodes};
-    ghost use Rattle.lt_live_c.specs.NodeData.{NodeData};
+    ghost use Rattle.lt_live_c.specs.OwnNode.{OwnNode};
 
-    ghost Value = { NodeData };
+    ghost Value = { OwnNode };
 
     ghost view = { λ n. record { remote = n.remote; sessions = n.sessions.items; ready = n.ready.items } };
 

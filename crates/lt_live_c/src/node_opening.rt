@@ -1,11 +1,11 @@
 // One node of a script, opened, asked for sessions and ended.
 ghost use Rattle.std.specs.Prelude.{◌≡◌, ◌<◌, ◌≤◌, ◌≢◌, ℕ, [], IfOk, IfErr, IfSome, IfNone, length, slice_get, drop, Some, None, Ok};
 ghost use Rattle.lt_runner.specs.Kept.{HasAll};
-ghost use Rattle.lt_live_c.specs.NodeCalls.{IsJournalOfNode};
+ghost use Rattle.lt_live_c.specs.NodeCalls.{IsJournalOfOwnNode};
 ghost use Rattle.lt_spec.specs.declared.moves.TheConstants.{MAX_MOVES_OF_SERVICE};
 ghost use Rattle.lt_spec.specs.declared.limits.TheConstants.{MAX_COMMANDS};
 ghost use Rattle.lt_live.specs.Stations.{most_share};
-ghost use Rattle.lt_live_c.specs.Nodes.{IsOpenedNode, NodeOpenRefused, IsPeer, TakesOwnSession, IsNodeStart, AreEmpty};
+ghost use Rattle.lt_live_c.specs.Nodes.{IsOpenedNode, NodeOpenRefused, IsPeer, TakesOwnSession, IsNodeStart, NoFrameWaits};
 
 use crate::code::{BAD_ARGUMENT, NO_MEMORY};
 use crate::journal::Journal;
@@ -97,7 +97,7 @@ impl Node {
 
     /// The journal of the moves that this node made, if it has forgotten none of them and no command.
     pub fn into_journal(self, alloc: Global) -> Result<Option<Journal>, AllocError>
-        ensures journal { IfOk result (λ made. IfSome made (λ journal. IsJournalOfNode self journal)) }
+        ensures journal { IfOk result (λ made. IfSome made (λ journal. IsJournalOfOwnNode self journal)) }
         ensures forgotten { result ≡ Ok None → HasAll self.remote.station.runner → ⊥ }
     {
         match self.into_remote().into_journal(alloc)? {
@@ -115,7 +115,7 @@ impl Node {
 // An empty frame for each node.
 fn no_frames(alloc: Global, nodes: u8) -> Result<Vec<Vec<u8>>, AllocError>
     ensures count { IfOk result (λ frames. length frames.items ≡ nodes) }
-    ensures empty { IfOk result (λ frames. AreEmpty frames.items) }
+    ensures empty { IfOk result (λ frames. NoFrameWaits frames.items) }
 {
     let mut frames = Vec::with_capacity(alloc, usize::from(nodes))?;
     for _ in 0..nodes {

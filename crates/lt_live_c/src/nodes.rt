@@ -1,8 +1,8 @@
 // The calls on a node in a process of its own.
 ghost use Rattle.std.specs.Prelude.{◌≡◌, ◌≢◌, None, Some, IsSome};
 ghost use Rattle.lt_live_c.specs.declared.code.TheConstants.{OK};
-ghost use Rattle.lt_live_c.specs.NodeCalls.{HandleOpenedNode, AtNode, HandleFinishesNode, HandleNotFinishedNode, IsNode as is_node, NodeNotFinished};
-ghost use Rattle.lt_live_c.specs.Nodes.{NodeOpenRefused, Sends, Receives, TellsPending};
+ghost use Rattle.lt_live_c.specs.NodeCalls.{HandleOpenedNode, AtNode, HandleFinishesNode, HandleNotFinishedNode, StandsForNode, NodeNotFinished};
+ghost use Rattle.lt_live_c.specs.Nodes.{NodeOpenRefused, SendsFrames, Receives, TellsPending};
 
 use crate::boxes::{put, room, take};
 use crate::carrying;
@@ -50,7 +50,8 @@ pub extern "C" fn lockrun_send(
 ) -> u32
     requires { IsSome node.old.value }
     ensures some { IsSome node.new.value }
-    ensures sends { AtNode result to (Sends result to length.old length.new buffer.old buffer.new) node.old.value node.new.value }
+    ensures sends { AtNode result to (SendsFrames result to length.old length.new buffer.old buffer.new)
+        node.old.value node.new.value }
 {
     let mut inside = take(alloc, node);
     let code = carrying::send(&mut inside, to, buffer, length);
@@ -69,7 +70,8 @@ pub extern "C" fn lockrun_receive(
 ) -> u32
     requires { IsSome node.old.value }
     ensures some { IsSome node.new.value }
-    ensures receives { AtNode result from (Receives result from used.old used.new bytes.now) node.old.value node.new.value }
+    ensures receives { AtNode result from (Receives result from used.old used.new bytes.now) node.old.value
+        node.new.value }
 {
     let mut inside = take(alloc, node);
     let code = carrying::receive(&mut inside, alloc, from, bytes, used);
@@ -90,8 +92,8 @@ pub extern "C" fn lockrun_pending(alloc: Global, node: &mut Handle, to: u32) -> 
     code
 }
 
-/// Ends the node: `journal` stands for the moves that it made. Without memory, or where it has forgotten moves or commands,
-/// all is dropped.
+/// Ends the node: `journal` stands for the moves that it made. Without memory, or where it has forgotten moves or
+/// commands, all is dropped.
 #[unsafe(no_mangle)]
 pub extern "C" fn lockrun_node_finish(alloc: Global, node: &mut Handle, journal: &mut Handle) -> u32
     requires { IsSome node.old.value }
@@ -111,7 +113,7 @@ pub extern "C" fn lockrun_node_finish(alloc: Global, node: &mut Handle, journal:
 
 // The node in the box ends, and the handle stands for its journal then.
 fn finish_in(alloc: Global, mut room: Box<Content>, journal: &mut Handle) -> u32
-    requires { is_node room.value }
+    requires { StandsForNode room.value }
     ensures journal { result ≡ OK → HandleFinishesNode (Some room.value) journal.new.value }
     ensures right { result ≢ WRONG_HANDLE }
     ensures keeps { result ≢ OK → journal.new.value ≡ journal.old.value }

@@ -94,7 +94,8 @@ impl Service {
         requires commands { script.now.commands ≡ [] }
         requires limit { (0 < limit) × (limit ≤ MAX_MOVES_OF_SERVICE) }
         requires places { (0 < places) × (places ≤ MAX_COMMANDS) }
-        ensures opened { IfOk result (λ s. IsOpen script.now limit places (most_share script.now) s.stations.items s.sessions.items) }
+        ensures opened { IfOk result (λ s. IsOpen script.now limit places (most_share script.now)
+            s.stations.items s.sessions.items) }
         ensures whole { IfOk result (λ s. LiveScript s.stations.items s.sessions.items) }
     {
         law_live_lasts();

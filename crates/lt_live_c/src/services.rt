@@ -51,7 +51,8 @@ pub extern "C" fn lockrun_open_sets(
     places: u32,
     service: &mut Handle,
 ) -> u32
-    ensures opened { result ≡ OK → HandleOpenedWith text.now (map words_of_set sets.now) limit places service.new.value }
+    ensures opened { result ≡ OK → HandleOpenedWith text.now (map words_of_set sets.now) limit places
+        service.new.value }
     ensures whole { result ≡ OK → IsWholeHandle service.new.value }
     ensures keeps { result ≢ OK → service.new.value ≡ service.old.value }
     ensures refused { result ≢ OK → OpenSetsRefused result text.now (map words_of_set sets.now) limit places }
@@ -122,7 +123,8 @@ pub extern "C" fn lockrun_give(alloc: Global, service: &mut Handle, given: &mut 
     requires given { IsSome given.old.value }
     ensures gives { result ≡ OK → HandleGives given.old.value service.old.value service.new.value }
     ensures gone { result ≡ OK → given.new.value ≡ None }
-    ensures keeps { result ≢ OK → (given.new.value ≡ given.old.value) × HandleKeeps service.old.value service.new.value }
+    ensures keeps { result ≢ OK → (given.new.value ≡ given.old.value)
+        × HandleKeeps service.old.value service.new.value }
     ensures refused { result ≢ OK → HandleGiveRefused result given.old.value service.old.value }
     ensures some { IsSome service.new.value }
 {

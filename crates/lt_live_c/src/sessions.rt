@@ -52,7 +52,8 @@ pub extern "C" fn lockrun_submit(
     requires { IsSome session.old.value }
     ensures some { IsSome session.new.value }
     ensures goes_on { HandleGoesOn session.old.value session.new.value }
-    ensures submits { AtSession result (Submits result (the_command kind set first second)) session.old.value session.new.value }
+    ensures submits { AtSession result (Submits result (the_command kind set first second)) session.old.value
+        session.new.value }
 {
     let command = command_numbered(kind, set, first, second);
     let mut inside = take(alloc, session);

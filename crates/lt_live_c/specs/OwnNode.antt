@@ -6,7 +6,7 @@ use Rattle.lt_apart.specs.Remote.{RemoteData}
 
 -- the node, those of its sessions that weren't taken, and for each node the bytes of a frame that was given out and
 -- found no room
-pub record NodeData : Type 0 where
+pub record OwnNode : Type 0 where
   pub remote : RemoteData
   pub sessions : List Session
   pub ready : List (Vec ℕ Global)
