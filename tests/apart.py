@@ -5,7 +5,7 @@ its code, and the node has to be as it was; no lock may be granted twice; and on
 joined, has to be accepted by `lockrun check`.
 
 usage: tests/apart.py [RUNS [FLIPS [SEED]]]: so many runs of 2 to 8 processes (6), and so many frames that are flipped, cut and made
-up for one node (20000). LOCKRUN_LIBRARY names liblockrun.so, LOCKRUN the program."""
+up for one node (20000). LOCKRUN_LIBRARY names liblockrun.so, else clients/link makes it; LOCKRUN names the program."""
 import hashlib
 import mmap
 import os
@@ -521,5 +521,12 @@ def main():
     return 1 if FAILED else 0
 
 
+def linked():
+    """The status of the same with a library that is made for it."""
+    with tempfile.TemporaryDirectory() as room:
+        subprocess.run([TOP / 'clients/link', room], check=True)
+        return subprocess.call([sys.executable, *sys.argv], env=os.environ | {'LOCKRUN_LIBRARY': f'{room}/liblockrun.so'})
+
+
 if __name__ == '__main__':
-    sys.exit(main())
+    sys.exit(main() if 'LOCKRUN_LIBRARY' in os.environ else linked())
