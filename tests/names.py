@@ -19,6 +19,8 @@ PAGES = [TOP / 'README.md', *(path for path in sorted((TOP / 'docs').glob('*.md'
 SOURCES = [path for part in ('src', 'specs', 'proofs') for path in sorted((TOP / 'crates').glob(f'*/{part}/**/*'))
            if path.suffix in ('.rt', '.antt')]
 
+CLIENTS = [path for path in sorted((TOP / 'clients').rglob('*')) if path.suffix in ('.c', '.h', '.py', '.rs')]
+
 # The first words of what may stand in backticks with other words behind it: those of formats, and of commands.
 FIRST_WORDS = '''
     version nodes set client journal lock try unlock change drop move grant wait not_held busy copy freeze token held
@@ -72,8 +74,9 @@ def items():
     found.update(path.name for path in (TOP / 'crates').iterdir())
     found.update(path.name for path in TOP.iterdir())
     found.update(path.stem for part in ('crates/*/must-fail/*.edit', 'examples/*') for path in TOP.glob(part))
-    for path in (TOP / 'clients').glob('*/*.[hc]'):
-        found.update(re.findall(r'\b(?:lockrun|LOCKRUN)_\w+', path.read_text()))
+    for path in CLIENTS:
+        found.add(path.name)
+        found.update(re.findall(r'\b(?:lockrun|LOCKRUN)_\w+|(?<=class )\w+|(?<=struct )\w+', path.read_text()))
     for path in (TOP / 'tests' / 'bugs').glob('*.edits'):
         found.update(re.findall(r'^bug (\S+)', path.read_text(), re.M))
     return found
@@ -253,7 +256,7 @@ def unknown_clauses(page):
 
 def unknown_code(page):
     """The faults of a page that shows code: lines that stand in no source, and in no first program."""
-    paths = [*SOURCES, *(TOP / 'examples').glob('first.*')]
+    paths = [*SOURCES, *CLIENTS, *(TOP / 'examples').glob('first.*')]
     lines = {line.strip() for path in paths for line in path.read_text().splitlines()}
     text = page.read_text()
     fenced = '```rust' in text

@@ -176,7 +176,7 @@ class House:
             imports = {name: key for module, names in GHOST.findall(text) for name, key in imported(module, names)}
             for match in EXPORT.finditer(text):
                 clauses = CONTRACT.split(text[match.start():].partition('\n{')[0])[1:]
-                words = [word for clause in clauses for word in names_of(clause, '', lambda _: False)]
+                words = [word for clause in clauses for word in names_of(re.sub(r'\s*\n\s*', ' ', clause), '', lambda _: False)]
                 keys = (imports[word] for word in words if word in imports)
                 found.update((one, None) for key in keys if (one := self.at(key)))
         return list(found)
