@@ -41,7 +41,13 @@ struct Place {
     last: Vec<Vec<u8>>,
 }
 
-fn opened<R: Abort>(rt: &R, alloc: Global, node: u8, service: u64, key: &[u8]) -> (Remote, Vec<Session>) {
+fn opened<R: Abort>(
+    rt: &R,
+    alloc: Global,
+    node: u8,
+    service: u64,
+    key: &[u8],
+) -> (Remote, Vec<Session>) {
     let script = read_text(rt, alloc, THREE);
     holds(rt, script.commands() == 0);
     holds(rt, node < script.nodes());
@@ -114,7 +120,13 @@ impl Place {
         out
     }
 
-    fn bring<R: Abort>(&mut self, rt: &R, alloc: Global, from: u8, bytes: &[u8]) -> Result<usize, Refused> {
+    fn bring<R: Abort>(
+        &mut self,
+        rt: &R,
+        alloc: Global,
+        from: u8,
+        bytes: &[u8],
+    ) -> Result<usize, Refused> {
         holds(rt, from < self.remote.nodes());
         self.remote.bring_in(alloc, from, bytes)
     }
@@ -124,7 +136,9 @@ impl Place {
         holds(rt, usize::from(from) < self.coming.len());
         let bytes = self.coming[usize::from(from)].as_slice();
         let part = Vec::from_slice(alloc, &bytes[..most.min(bytes.len())]).expect(rt, "memory");
-        let used = self.bring(rt, alloc, from, &part).expect(rt, "frames in order");
+        let used = self
+            .bring(rt, alloc, from, &part)
+            .expect(rt, "frames in order");
         self.drop_used(rt, alloc, from, used);
     }
 
@@ -171,7 +185,11 @@ impl Place {
         holds(rt, usize::from(from) < self.last.len());
         let again = Vec::from_slice(alloc, &self.last[usize::from(from)]).expect(rt, "memory");
         if !again.is_empty() {
-            same(rt, self.bring(rt, alloc, from, &again), refused(WireFault::Again));
+            same(
+                rt,
+                self.bring(rt, alloc, from, &again),
+                refused(WireFault::Again),
+            );
         }
     }
 
@@ -204,7 +222,9 @@ fn send<R: Abort>(rt: &R, alloc: Global, places: &mut [Place], from: u8, to: u8)
     let out = at(rt, places, from).give(rt, alloc, to);
     let place = at(rt, places, to);
     holds(rt, usize::from(from) < place.coming.len());
-    place.coming[usize::from(from)].extend_from_slice(&out).expect(rt, "memory");
+    place.coming[usize::from(from)]
+        .extend_from_slice(&out)
+        .expect(rt, "memory");
 }
 
 // One node brings in what came from another one, in pieces, with faults among them.
@@ -237,7 +257,9 @@ fn letters_are_carried_as_bytes(rt: HostRuntime) {
     let alloc = rt.alloc();
     let mut places = Vec::new(alloc);
     for node in 0..3 {
-        places.push(place_of(&rt, alloc, node, 4)).expect(&rt, "memory");
+        places
+            .push(place_of(&rt, alloc, node, 4))
+            .expect(&rt, "memory");
     }
     let mut draws = Draws::new(1);
     for _ in 0..100_000 {
@@ -271,7 +293,16 @@ fn first_frame<R: Abort>(rt: &R, alloc: Global, service: u64, key: &[u8], to: u8
 }
 
 // A node of this service refuses the frame for this reason.
-fn refuses<R: Abort>(rt: &R, node: u8, service: u64, key: &[u8], from: u8, frame: &[u8], fault: WireFault, alloc: Global) {
+fn refuses<R: Abort>(
+    rt: &R,
+    node: u8,
+    service: u64,
+    key: &[u8],
+    from: u8,
+    frame: &[u8],
+    fault: WireFault,
+    alloc: Global,
+) {
     let (mut remote, _sessions) = opened(rt, alloc, node, service, key);
     holds(rt, from < remote.nodes());
     same(rt, remote.bring_in(alloc, from, frame), refused(fault));
