@@ -298,7 +298,7 @@ def run(number, nodes, locks, folder):
 
 def check(number, parts):
     """Sees that what the nodes say, joined, is the journal of a run."""
-    joined = subprocess.run([TOP / 'tools' / 'join-journals', *parts], capture_output=True, check=False)
+    joined = subprocess.run([TOP / 'tools' / 'join', *parts], capture_output=True, check=False)
     program = os.environ.get('LOCKRUN', TOP / 'crates' / 'lockrun' / 'out' / 'lockrun')
     if joined.returncode:
         fail(f'run {number}: {joined.stderr.decode()}')

@@ -104,7 +104,7 @@ done
 expect '--version' "lockrun $(cat "$here/VERSION")
 status 0" "$(said "$top/lockrun" --version)"
 usage='lockrun: usage: run | sim first | sim SEED | check | make NODES CLIENTS COMMANDS SEED | soak SEED | order
-lockrun: and also: make NODES CLIENTS COMMANDS SEED version VERSION | seeds FROM TO | show [VIEW] JOURNAL | --help | --version'
+lockrun: and also: make NODES CLIENTS COMMANDS SEED version VERSION | seeds FROM TO | show [VIEW] JOURNAL | join PART.. | --help | --version'
 no_command() {
   why=$1
   shift
@@ -114,9 +114,9 @@ status 1" "$(PATH=$room/no-rt && said "$room/bare/lockrun" "$@" </dev/null)"
 }
 long=$(printf '%070d' 7)
 no_command ''
-no_command '"" is none of run, sim, check, make, soak, order, seeds and show' ''
-no_command '"simulate" is none of run, sim, check, make, soak, order, seeds and show' simulate first
-no_command '"r?n" is none of run, sim, check, make, soak, order, seeds and show' "$(printf 'r\377n')"
+no_command '"" is none of run, sim, check, make, soak, order, seeds, show and join' ''
+no_command '"simulate" is none of run, sim, check, make, soak, order, seeds, show and join' simulate first
+no_command '"r?n" is none of run, sim, check, make, soak, order, seeds, show and join' "$(printf 'r\377n')"
 no_command 'sim has a seed behind it: first, or 1 to 20 digits' sim
 no_command '"two words" is no seed: first, or 1 to 20 digits, and less than 2^64' sim 'two words'
 no_command '"--help" is no file that can be read, and nothing else may stand there' sim first --help

@@ -377,10 +377,12 @@ def serve(tool, usage, write, words, more=''):
     return answer(tool, f'usage: {tool} SCRIPT JOURNAL{more}\n\n{usage}\n', make, words)
 
 
-def answer(tool, page, make, words):
-    """Prints what is made of two files, or the page of help; the status, which is 1 where a line tells what is wrong."""
+def answer(tool, page, make, words, has_files=None):
+    """Prints what is made of files, two of them if nothing else is said, or the page of help; the status, which is 1
+    where a line tells what is wrong."""
     is_help = words in (['--help'], ['-h'])
-    if len(words) != 2 and not is_help:
+    has_files = len(words) == 2 if has_files is None else has_files
+    if not has_files and not is_help:
         print(page, end='', file=sys.stderr)
         return 1
     try:

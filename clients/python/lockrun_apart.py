@@ -75,7 +75,7 @@ class Apart:
 
     def finish(self):
         """Ends the node: the lines of its own moves, with the line `cut NODE` after them, and the script with the commands of its
-        own clients. tools/join-journals joins those of all nodes."""
+        own clients. tools/join joins those of all nodes."""
         journal = Handle()
         said(self.library.lockrun_node_finish(self.handle, journal))
         return Journal(self.library, journal)

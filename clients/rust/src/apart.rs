@@ -103,7 +103,7 @@ impl<C: Carrier> Apart<C> {
     }
 
     /// Ends the node: the lines of its own moves, with the line `cut NODE` after them, and the script with the commands of its own
-    /// clients. `tools/join-journals` joins those of all nodes.
+    /// clients. `tools/join` joins those of all nodes.
     pub fn finish(mut self) -> Result<Journal, Error> {
         let mut journal = Handle::NONE;
         // SAFETY: two handles, of which the former stands for something, and the latter for nothing.

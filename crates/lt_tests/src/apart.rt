@@ -39,6 +39,15 @@ struct Place {
     holds_lock: bool,
     coming: Vec<Vec<u8>>,
     last: Vec<Vec<u8>>,
+    refusals: Refusals,
+}
+
+// How many frames were refused as ones that came before, as ones that came too early, and as damaged ones.
+#[derive(Drop)]
+struct Refusals {
+    again: u32,
+    missing: u32,
+    damaged: u32,
 }
 
 fn opened<R: Abort>(
@@ -72,6 +81,11 @@ fn place_of<R: Abort>(rt: &R, alloc: Global, node: u8, locks: u32) -> Place {
         holds_lock: false,
         coming,
         last,
+        refusals: Refusals {
+            again: 0,
+            missing: 0,
+            damaged: 0,
+        },
     }
 }
 
@@ -168,7 +182,10 @@ impl Place {
         damaged[at] ^= by;
         let used = match self.bring(rt, alloc, from, &damaged) {
             Ok(used) => used,
-            Err(refused) => refused.used,
+            Err(refused) => {
+                self.refusals.damaged = self.refusals.damaged.saturating_add(1);
+                refused.used
+            }
         };
         holds(rt, used <= at);
         self.drop_used(rt, alloc, from, used);
@@ -190,6 +207,7 @@ impl Place {
                 self.bring(rt, alloc, from, &again),
                 refused(WireFault::Again),
             );
+            self.refusals.again = self.refusals.again.saturating_add(1);
         }
     }
 
@@ -203,7 +221,11 @@ impl Place {
         let size = AROUND + u32::from_le_bytes([bytes[0], bytes[1], bytes[2], bytes[3]]) as usize;
         let later = Vec::from_slice(alloc, &bytes[size.min(bytes.len())..]).expect(rt, "memory");
         let told = self.bring(rt, alloc, from, &later);
-        holds(rt, told == Ok(0) || told == refused(WireFault::Missing));
+        if told == refused(WireFault::Missing) {
+            self.refusals.missing = self.refusals.missing.saturating_add(1);
+        } else {
+            same(rt, told, Ok(0));
+        }
     }
 }
 
@@ -258,7 +280,7 @@ fn letters_are_carried_as_bytes(rt: HostRuntime) {
     let mut places = Vec::new(alloc);
     for node in 0..3 {
         places
-            .push(place_of(&rt, alloc, node, 4))
+            .push(place_of(&rt, alloc, node, 6))
             .expect(&rt, "memory");
     }
     let mut draws = Draws::new(1);
@@ -271,6 +293,9 @@ fn letters_are_carried_as_bytes(rt: HostRuntime) {
         holds(&rt, holders <= 1);
     }
     holds(&rt, places.iter().all(|place| place.left == 0));
+    holds(&rt, places.iter().any(|place| place.refusals.again > 0));
+    holds(&rt, places.iter().any(|place| place.refusals.missing > 0));
+    holds(&rt, places.iter().any(|place| place.refusals.damaged > 0));
     for place in &mut places {
         place.tell(alloc);
     }
