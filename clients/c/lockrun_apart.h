@@ -7,7 +7,7 @@
  */
 #ifndef LOCKRUN_APART_H
 #define LOCKRUN_APART_H
-#include "lockrun.h"
+#include "lockrun_nodes.h"
 #include <stdlib.h>
 #include <string.h>
 #include <time.h>
@@ -163,9 +163,12 @@ static inline uint32_t lockrun_apart_open(lockrun_apart *apart, const char *text
     apart->room = LOCKRUN_FRAMES;
     apart->came = (lockrun_came *)calloc(nodes, sizeof *apart->came);
     apart->frames = (uint8_t *)malloc(apart->room);
-    uint32_t code = apart->came && apart->frames ? LOCKRUN_OK : LOCKRUN_NO_MEMORY;
+    size_t size = 0;
+    uint8_t *whole = lockrun_with_version(text, length, &size);
+    uint32_t code = whole && apart->came && apart->frames ? LOCKRUN_OK : LOCKRUN_NO_MEMORY;
     if (code == LOCKRUN_OK)
-        code = lockrun_node_open((const uint8_t *)text, length, me, key, key_length, start, (uint64_t)1 << 55, 4, &apart->node);
+        code = lockrun_node_open(whole, size, me, key, key_length, start, (uint64_t)1 << 55, 4, &apart->node);
+    free(whole);
     if (code != LOCKRUN_OK) lockrun_apart_free(apart);
     return code;
 }

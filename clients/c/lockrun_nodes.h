@@ -127,20 +127,28 @@ static inline int lockrun_version(const char *text, size_t length) {
     return at < length && text[at] == '3' ? 3 : 2;
 }
 
+/* The text with the line `version 3` before it, if it has no line of a version, and its size: to be freed. Null without memory. */
+static inline uint8_t *lockrun_with_version(const char *text, size_t length, size_t *size) {
+    static const char line[] = "version 3\n";
+    const size_t more = lockrun_version(text, length) == 1 ? sizeof line - 1 : 0;
+    uint8_t *whole = (uint8_t *)malloc(more + length + 1);
+    if (!whole) return 0;
+    memcpy(whole, line, more);
+    memcpy(whole + more, text, length);
+    *size = more + length;
+    return whole;
+}
+
 /* Opens all nodes of a script with further sets, and a caller for each client. `nodes` stays where it is until it is finished
  * or freed. */
 static inline uint32_t lockrun_nodes_open_sets(lockrun_nodes *nodes, const char *text, size_t length,
                                                const lockrun_new_set *sets, size_t count, uint64_t limit) {
-    static const char line[] = "version 3\n";
-    int version = lockrun_version(text, length);
-    size_t more = version == 1 ? sizeof line - 1 : 0;
-    uint8_t *whole = (uint8_t *)malloc(more + length + 1);
+    size_t size = 0;
+    uint8_t *whole = lockrun_with_version(text, length, &size);
     memset(nodes, 0, sizeof *nodes);
     if (!whole) return LOCKRUN_NO_MEMORY;
-    memcpy(whole, line, more);
-    memcpy(whole + more, text, length);
-    nodes->gives_up = version != 2;
-    uint32_t code = lockrun_open_sets(whole, more + length, sets, count, limit, 4, &nodes->service);
+    nodes->gives_up = lockrun_version(text, length) != 2;
+    uint32_t code = lockrun_open_sets(whole, size, sets, count, limit, 4, &nodes->service);
     free(whole);
     return lockrun_nodes_begin(nodes, code);
 }

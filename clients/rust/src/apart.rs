@@ -1,7 +1,7 @@
 //! A node in a process of its own: all other nodes lie in other processes, and a carrier takes bytes between them.
 use crate::error::{check, Error};
 use crate::exports::{self, Handle};
-use crate::nodes::{read_journal, take_all, Journal};
+use crate::nodes::{read_journal, take_all, with_version, Journal};
 use crate::session::Mode;
 use std::time::{Duration, Instant};
 
@@ -47,6 +47,7 @@ pub struct Apart<C: Carrier> {
 impl<C: Carrier> Apart<C> {
     /// Opens the node. It makes at most `limit` moves.
     pub fn open(script: &str, place: Place<'_>, limit: u64, carrier: C) -> Result<Apart<C>, Error> {
+        let script = with_version(script);
         let (text, length, key, mut node) = (script.as_ptr(), script.len(), place.key, Handle::NONE);
         let (place_of, start) = (place.me, place.start);
         // SAFETY: the text and the key are borrowed for the call, and the handle stands for nothing.

@@ -75,8 +75,8 @@ pub fn open(script: &str, limit: u64) -> Result<(Nodes, Vec<Session>), Error> {
 /// ```
 pub fn open_sets(script: &str, sets: &[NewSet<'_>], limit: u64) -> Result<(Nodes, Vec<Session>), Error> {
     let sets: Vec<exports::NewSet> = sets.iter().map(new_set).collect();
-    let version = version(script);
-    let script = if version == 1 { format!("version 3\n{script}") } else { script.into() };
+    let gives_up = version(script) != 2;
+    let script = with_version(script);
     let (text, length, mut service) = (script.as_ptr(), script.len(), Handle::NONE);
     // SAFETY: the text and the names are borrowed for the call, and the handle stands for nothing.
     check(unsafe { exports::lockrun_open_sets(text, length, sets.as_ptr(), sets.len(), limit, 4, &mut service) })?;
@@ -84,7 +84,16 @@ pub fn open_sets(script: &str, sets: &[NewSet<'_>], limit: u64) -> Result<(Nodes
     let sessions = take_all(&mut service, exports::lockrun_take_session)?;
     let stations = Arc::new(Stations(stations.into_iter().map(Mutex::new).map(Station).collect()));
     let nodes = Nodes { service, stations: stations.clone(), clients: sessions.len() };
-    Ok((nodes, sessions.into_iter().map(|raw| Session::new(raw, stations.clone(), version != 2)).collect()))
+    Ok((nodes, sessions.into_iter().map(|raw| Session::new(raw, stations.clone(), gives_up)).collect()))
+}
+
+// The script with the line `version 3` before it, if it has no line of a version.
+pub(crate) fn with_version(script: &str) -> String {
+    if version(script) == 1 {
+        format!("version 3\n{script}")
+    } else {
+        script.into()
+    }
 }
 
 // The number of the script's version, by its first line that isn't skipped.
