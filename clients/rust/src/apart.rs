@@ -10,6 +10,40 @@ const ROOM: usize = 1 << 16;
 const AROUND: usize = 39;
 
 /// What takes bytes between nodes.
+///
+/// ```
+/// use lockrun::Carrier;
+/// use std::sync::mpsc::{Receiver, Sender};
+/// use std::time::Duration;
+///
+/// /// Between two nodes of one process, by channels.
+/// struct Channel {
+///     to_other: Sender<Vec<u8>>,
+///     from_other: Receiver<Vec<u8>>,
+///     other: u32,
+/// }
+///
+/// impl Carrier for Channel {
+///     fn carry(&mut self, _to: u32, frames: &[u8]) -> std::io::Result<()> {
+///         self.to_other.send(frames.to_vec()).map_err(|_| std::io::ErrorKind::BrokenPipe.into())
+///     }
+///
+///     fn sleep(&mut self, patience: Option<Duration>) -> std::io::Result<Option<(u32, Vec<u8>)>> {
+///         let came = self.from_other.recv_timeout(patience.unwrap_or(Duration::from_secs(3600)));
+///         Ok(came.ok().map(|frames| (self.other, frames)))
+///     }
+/// }
+///
+/// let (to_other, at_other) = std::sync::mpsc::channel();
+/// let (to_me, from_other) = std::sync::mpsc::channel();
+/// let mut carrier = Channel { to_other, from_other, other: 1 };
+/// carrier.carry(1, b"frames")?;
+/// assert_eq!(at_other.recv().unwrap(), b"frames");
+/// to_me.send(b"others".to_vec()).unwrap();
+/// assert_eq!(carrier.sleep(None)?, Some((1, b"others".to_vec())));
+/// assert_eq!(carrier.sleep(Some(Duration::ZERO))?, None);
+/// # Ok::<(), std::io::Error>(())
+/// ```
 pub trait Carrier {
     /// Carries frames to a node.
     fn carry(&mut self, to: u32, frames: &[u8]) -> std::io::Result<()>;
@@ -46,6 +80,17 @@ pub struct Apart<C: Carrier> {
 
 impl<C: Carrier> Apart<C> {
     /// Opens the node. It makes at most `limit` moves.
+    ///
+    /// ```
+    /// use lockrun::{Apart, Place, Tcp};
+    ///
+    /// // The only one; each of two would name both addresses, and be opened in a process of its own.
+    /// let carrier = Tcp::begin(0, &["127.0.0.1:0".parse().unwrap()]).unwrap();
+    /// let place = Place { me: 0, nodes: 1, key: b"what only the nodes have", start: 1 };
+    /// let apart = Apart::open("nodes 1\nset a\nclient ann at 0\n", place, 1 << 20, carrier)?;
+    /// assert_eq!((apart.sent, apart.received), (0, 0));
+    /// # Ok::<(), lockrun::Error>(())
+    /// ```
     pub fn open(script: &str, place: Place<'_>, limit: u64, carrier: C) -> Result<Apart<C>, Error> {
         let script = with_version(script);
         let (text, length, key, mut node) = (script.as_ptr(), script.len(), place.key, Handle::NONE);
@@ -60,11 +105,31 @@ impl<C: Carrier> Apart<C> {
     }
 
     /// Waits until a client of this node has the lock; `client` is its place among them.
+    ///
+    /// ```
+    /// # use lockrun::{Apart, Mode, Place, Tcp};
+    /// # let carrier = Tcp::begin(0, &["127.0.0.1:0".parse().unwrap()]).unwrap();
+    /// # let place = Place { me: 0, nodes: 1, key: b"what only the nodes have", start: 1 };
+    /// # let mut apart = Apart::open("nodes 1\nset a\nclient ann at 0\n", place, 1 << 20, carrier)?;
+    /// apart.lock(0, 0, Mode::Write)?;
+    /// # Ok::<(), lockrun::Error>(())
+    /// ```
     pub fn lock(&mut self, client: usize, set: u32, mode: Mode) -> Result<(), Error> {
         self.call(client, exports::LOCK, set, mode, exports::GRANTED)
     }
 
     /// Gives a lock up.
+    ///
+    /// ```
+    /// # use lockrun::{Apart, Mode, Place, Tcp};
+    /// # let carrier = Tcp::begin(0, &["127.0.0.1:0".parse().unwrap()]).unwrap();
+    /// # let place = Place { me: 0, nodes: 1, key: b"what only the nodes have", start: 1 };
+    /// # let mut apart = Apart::open("nodes 1\nset a\nclient ann at 0\n", place, 1 << 20, carrier)?;
+    /// apart.lock(0, 0, Mode::Write)?;
+    /// apart.unlock(0, 0, Mode::Write)?;
+    /// assert_eq!(apart.unlock(0, 0, Mode::Write), Err(lockrun::Error::NotHeld));
+    /// # Ok::<(), lockrun::Error>(())
+    /// ```
     pub fn unlock(&mut self, client: usize, set: u32, mode: Mode) -> Result<(), Error> {
         self.call(client, exports::UNLOCK, set, mode, exports::UNLOCKED)
     }
@@ -87,14 +152,32 @@ impl<C: Carrier> Apart<C> {
     }
 
     /// Sleeps until something comes, at most so long, and serves the others.
+    ///
+    /// ```
+    /// # use lockrun::{Apart, Mode, Place, Tcp};
+    /// # let carrier = Tcp::begin(0, &["127.0.0.1:0".parse().unwrap()]).unwrap();
+    /// # let place = Place { me: 0, nodes: 1, key: b"what only the nodes have", start: 1 };
+    /// # let mut apart = Apart::open("nodes 1\nset a\nclient ann at 0\n", place, 1 << 20, carrier)?;
+    /// apart.serve(std::time::Duration::from_millis(1))?;
+    /// # Ok::<(), lockrun::Error>(())
+    /// ```
     pub fn serve(&mut self, patience: Duration) -> Result<(), Error> {
-        let end = Instant::now() + patience;
+        let end = Instant::now().checked_add(patience);
         self.turn()?;
-        self.sleep(Some(end.saturating_duration_since(Instant::now())))?;
+        self.sleep(end.map(|end| end.saturating_duration_since(Instant::now())))?;
         self.turn()
     }
 
     /// Whether something waits to be carried to a node.
+    ///
+    /// ```
+    /// # use lockrun::{Apart, Mode, Place, Tcp};
+    /// # let carrier = Tcp::begin(0, &["127.0.0.1:0".parse().unwrap()]).unwrap();
+    /// # let place = Place { me: 0, nodes: 1, key: b"what only the nodes have", start: 1 };
+    /// # let mut apart = Apart::open("nodes 1\nset a\nclient ann at 0\n", place, 1 << 20, carrier)?;
+    /// assert!(!apart.pending(0)?);
+    /// # Ok::<(), lockrun::Error>(())
+    /// ```
     pub fn pending(&mut self, to: u32) -> Result<bool, Error> {
         // SAFETY: as above.
         match unsafe { exports::lockrun_pending(&mut self.node, to) } {
@@ -105,6 +188,17 @@ impl<C: Carrier> Apart<C> {
 
     /// Ends the node: the lines of its own moves, with the line `cut NODE` after them, and the script with the commands of its own
     /// clients. `tools/join` joins those of all nodes.
+    ///
+    /// ```
+    /// # use lockrun::{Apart, Mode, Place, Tcp};
+    /// # let carrier = Tcp::begin(0, &["127.0.0.1:0".parse().unwrap()]).unwrap();
+    /// # let place = Place { me: 0, nodes: 1, key: b"what only the nodes have", start: 1 };
+    /// # let mut apart = Apart::open("nodes 1\nset a\nclient ann at 0\n", place, 1 << 20, carrier)?;
+    /// apart.lock(0, 0, Mode::Write)?;
+    /// let journal = apart.finish()?;
+    /// assert_eq!((journal.held, journal.waiting), (1, 0));
+    /// # Ok::<(), lockrun::Error>(())
+    /// ```
     pub fn finish(mut self) -> Result<Journal, Error> {
         let mut journal = Handle::NONE;
         // SAFETY: two handles, of which the former stands for something, and the latter for nothing.
@@ -129,7 +223,11 @@ impl<C: Carrier> Apart<C> {
                 break;
             }
         }
-        (0..self.came.len() as u32).filter(|&to| to != self.me).collect::<Vec<_>>().into_iter().try_for_each(|to| self.send(to))
+        (0..self.came.len() as u32)
+            .filter(|&to| to != self.me)
+            .collect::<Vec<_>>()
+            .into_iter()
+            .try_for_each(|to| self.send(to))
     }
 
     fn make_moves(&mut self) -> Result<bool, Error> {

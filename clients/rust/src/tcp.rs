@@ -21,6 +21,20 @@ pub struct Tcp {
 impl Tcp {
     /// A stream to each other node, whose addresses these are: each node listens, and the greater of two nodes connects and says
     /// which it is.
+    ///
+    /// ```
+    /// use lockrun::{Carrier, Tcp};
+    /// use std::net::TcpListener;
+    ///
+    /// // Two ports that are free now. Each node would be in a process of its own.
+    /// let free = || TcpListener::bind("127.0.0.1:0")?.local_addr();
+    /// let nodes = [free()?, free()?];
+    /// let other = std::thread::spawn(move || Tcp::begin(1, &nodes)?.carry(0, b"frames"));
+    /// let mut carrier = Tcp::begin(0, &nodes)?;
+    /// assert_eq!(carrier.sleep(None)?, Some((1, b"frames".to_vec())));
+    /// other.join().unwrap()?;
+    /// # Ok::<(), std::io::Error>(())
+    /// ```
     pub fn begin(me: u32, nodes: &[SocketAddr]) -> Result<Tcp> {
         let (sender, came) = channel();
         let mut streams: Vec<Option<TcpStream>> = nodes.iter().map(|_| None).collect();

@@ -37,7 +37,8 @@ struct Seen(File);
 
 impl Seen {
     fn open(folder: &str) -> std::io::Result<Seen> {
-        let file = OpenOptions::new().read(true).write(true).create(true).truncate(false).open(format!("{folder}/money"))?;
+        let file =
+            OpenOptions::new().read(true).write(true).create(true).truncate(false).open(format!("{folder}/money"))?;
         file.set_len(8 * (ACCOUNTS + 4 * MOST_NODES))?;
         Ok(Seen(file))
     }
