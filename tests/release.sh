@@ -105,8 +105,13 @@ try_library() {
   fi
 }
 
-# The manual pages and completions below $1, of which those of zsh are in $2.
+# The manual pages and completions below $1, of which those of zsh are in $2, and where links of the other pages lead.
 try_pages() {
+  if [ -n "$python" ]; then
+    expect "$label: links" '' "$(said "$python" "$top/tools/links" "${1%/*}")"
+  else
+    leave_out "links of $label: python3 is not there"
+  fi
   if has mandoc; then
     expect "$label: manual pages" '' "$(cd "$1/man" && for page in man?/*; do
       case $page in *.gz) gzip -dc "$page" ;; *) cat "$page" ;; esac | mandoc -T lint -W style 2>&1 |
@@ -118,6 +123,9 @@ try_pages() {
   expect "$label: a page for each call" '' "$(for call in $("$top/tools/manual" --calls) $("$top/tools/manual" --easy-calls); do
     ls "$1/man/man3/$call.3"* >/dev/null 2>&1 || echo "$call"
   done)"
+  for page in "$1"/man/man1/*; do
+    case $page in *.gz) gzip -dc "$page" >"$room/$(basename "$page" .gz)" ;; *) cp "$page" "$room/" ;; esac
+  done
   if has bash; then
     # shellcheck disable=SC2016 # bash opens these
     expect "$label: words for bash" 'sim seeds soak show, first' "$(bash -c '. "$1"; COMP_WORDS=(/x/lockrun s) COMP_CWORD=1
@@ -126,6 +134,14 @@ try_pages() {
   else
     leave_out "words for bash of $label: bash is not there"
   fi
+  expect "$label: each word is completed and has its line in the manual" '' "$(for program in lockrun lockwaits locklive locknest; do
+    sed -n "s/^usage='*//p;s/^also='*//p" "$top/$program" | grep -o '[a-z][a-z]*' | sort -u | while read -r word; do
+      grep "[0-9]:$program:.*[' -]$word[' ]" "$1/bash-completion/completions/lockrun" >/dev/null || [ "$word" = "$program" ] ||
+        echo "no completion: $program $word"
+      grep "^\.\(Nm\|It\) .*[ -]$word\( \|$\)" "$room/$program.1" >/dev/null || [ "$word" = "$program" ] ||
+        echo "no line of the manual: $program $word"
+    done
+  done)"
   if has zsh; then expect "$label: words for zsh" '' "$(said zsh -n "$1/$2/_lockrun")"; else leave_out 'words for zsh'; fi
   if has fish; then
     expect "$label: words for fish" '' "$(cat "$1"/fish/vendor_completions.d/*.fish | said fish -n)"
@@ -167,9 +183,12 @@ try_wheel() {
   expect "$label: its version" "$version" \
     "$(said alone "$room/venv/bin/python" -c 'from importlib.metadata import version; print(version("lockrun"))')"
   expect "$label: a program in Python" "$wanted" "$(said alone "$room/venv/bin/python" "$top/examples/first.py")"
+  expect "$label: two nodes apart" 100 "$(said alone "$room/venv/bin/python" "$top/tests/wheel_apart.py")"
+  expect "$label: ZeroMQ, if it is there" "ModuleNotFoundError: No module named 'zmq'" \
+    "$(said alone "$room/venv/bin/python" -c 'import lockrun_zmq' | grep '^Module')"
   if has mypy; then
     expect "$label: its types" '' "$(said alone mypy --strict --no-error-summary --cache-dir "$room/types" \
-      --python-executable "$room/venv/bin/python" -p lockrun)"
+      --python-executable "$room/venv/bin/python" -p lockrun -p lockrun_apart -p lockrun_zmq)"
   else
     leave_out "types of $label: mypy is not there"
   fi

@@ -1,6 +1,5 @@
 #!/usr/bin/env python3
-"""A bank of which each node lies in a process of its own, as clients/c/bank_apart.c, by ZeroMQ: a PAIR socket for each two
-nodes, without a high-water mark, so that nothing is dropped.
+"""A bank of which each node lies in a process of its own, as clients/c/bank_apart.c, by ZeroMQ.
 
 usage: bank_apart.py FOLDER START TRANSFERS NODE NODES: START is a number that differs from that of each earlier time in this
 folder. It writes the script of what was asked at its node and the lines of the node's moves into FOLDER/part.NODE."""
@@ -9,9 +8,8 @@ import os
 import struct
 import sys
 
-import zmq
-
 from lockrun_apart import Apart
+from lockrun_zmq import Sockets
 
 ACCOUNTS, FIRST, AMOUNT, MOST_NODES = 4, 1000, 5, 16
 KEY, MOMENT = b'a key that the nodes of this bank share', 0.001
@@ -46,38 +44,11 @@ class Seen:
 THERE, DONE, SENT, RECEIVED = range(4)
 
 
-class Sockets:
-    """The transport of a node: frames go to the socket of their node, and it sleeps until something comes."""
-
-    def __init__(self, folder, me, nodes):
-        self.context, self.poller, self.socket = zmq.Context(), zmq.Poller(), {}
-        for node in range(nodes):
-            if node == me:
-                continue
-            socket = self.context.socket(zmq.PAIR)
-            socket.setsockopt(zmq.SNDHWM, 0)
-            socket.setsockopt(zmq.RCVHWM, 0)
-            name = f'ipc://{folder}/{min(me, node)}-{max(me, node)}'
-            if me < node:
-                socket.bind(name)
-            else:
-                socket.connect(name)
-            self.socket[node] = socket
-            self.poller.register(socket, zmq.POLLIN)
-        self.node = {socket: node for node, socket in self.socket.items()}
-
-    def carry(self, node, frames):
-        """Carries frames to a node."""
-        self.socket[node].send(frames)
-
-    def sleep(self, patience):
-        """Sleeps until something comes, or for so many seconds: pairs of a node and what came from it."""
-        for socket, _ in self.poller.poll(None if patience is None else max(0, patience * 1000)):
-            yield self.node[socket], socket.recv()
-
-    def close(self):
-        """Sends what is still to be sent."""
-        self.context.destroy(linger=1000)
+def sockets(folder, me, nodes):
+    """The sockets of a node: of two nodes the first one binds."""
+    names = {node: f'ipc://{folder}/{min(me, node)}-{max(me, node)}' for node in range(nodes) if node != me}
+    return Sockets(connects={node: name for node, name in names.items() if node < me},
+                   binds={node: name for node, name in names.items() if me < node})
 
 
 def script(nodes):
@@ -124,8 +95,8 @@ def main():
     if len(sys.argv) != 6:
         sys.exit('usage: bank_apart.py FOLDER START TRANSFERS NODE NODES')
     folder, start, transfers, me, nodes = sys.argv[1], *map(int, sys.argv[2:])
-    seen, sockets = Seen(folder), Sockets(folder, me, nodes)
-    apart = Apart(script(nodes), me, nodes, KEY, start, sockets)
+    seen, carries = Seen(folder), sockets(folder, me, nodes)
+    apart = Apart(script(nodes), me, nodes, KEY, start, carries)
     session = apart.session(f'caller{me}')
     if me == 0:
         for account in range(ACCOUNTS):
@@ -142,7 +113,7 @@ def main():
     journal = apart.finish()
     with open(os.path.join(folder, f'part.{me}'), 'w', encoding='ascii') as file:
         file.write(journal.script + 'journal\n' + journal.text)
-    sockets.close()
+    carries.close()
     if me == 0:
         print(f'all together: {total}')
     return total != ACCOUNTS * FIRST or journal.held > 0 or journal.waiting > 0

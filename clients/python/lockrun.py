@@ -20,7 +20,7 @@ import threading
 import time
 from contextlib import contextmanager
 from ctypes import POINTER, c_size_t, c_uint8, c_uint32, c_uint64
-from typing import Any, Callable, Dict, Iterator, List, Optional, Sequence, Tuple
+from typing import Any, Callable, Dict, Iterator, List, Optional, Protocol, Sequence, Tuple
 
 
 OK, NOTHING, WRONG_HANDLE, NO_MEMORY, BAD_ARGUMENT, BAD_SCRIPT, SPENT, FULL, LOG_FULL, FORGOTTEN, TOO_MANY, BAD_SET = \
@@ -308,10 +308,26 @@ class Journal:
         return whole.decode()
 
 
+class Turned(Protocol):
+    """What a session waits by: the nodes of one process, or a node whose other nodes lie in other processes."""
+    library: ctypes.CDLL
+    clients: Dict[str, int]
+    gives_up: bool
+
+    def turn(self, node: int) -> bool:
+        """Turns of a node: whether it made a move."""
+
+    def turn_all(self) -> bool:
+        """Turns of all nodes: whether one made a move."""
+
+    def nap(self, tries: int, end: Optional[float]) -> int:
+        """Naps after some tries, and counts them."""
+
+
 class Session:
     """The session of one client. Its calls wait by turning the nodes."""
 
-    def __init__(self, nodes: Nodes, handle: Handle) -> None:
+    def __init__(self, nodes: Turned, handle: Handle) -> None:
         self.nodes, self.handle, self.one = nodes, handle, threading.RLock()
         # The command whose reply is still to come, whether that to a withdraw of it is to come too, and the reply to the command
         # where only that to the withdraw is.
