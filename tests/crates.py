@@ -1,6 +1,7 @@
 #!/usr/bin/env python3
 """Sees that no chain of crates is longer than 10, and that no more names of definitions stand in two crates than do now.
-With the word --list it names these."""
+A crate that only hands on what others have isn't counted in a chain. With the word --list it names these names."""
+import re
 import sys
 from pathlib import Path
 
@@ -13,10 +14,16 @@ MOST_IN_CHAIN = 10
 MOST_TWICE = 37
 
 
+def hands_on(crate):
+    """Whether the crate has no item of its own: its sources have only `pub use`."""
+    text = ''.join(path.read_text() for path in sorted((TOP / 'crates' / crate / 'src').glob('*.rt')))
+    return not re.search(r'^ *(pub )?(fn|struct|enum|trait|const|impl|mod) ', text, re.MULTILINE)
+
+
 def chain(crates, name):
     """The longest chain of crates from this one down."""
     chains = [chain(crates, other) for other in crates[name] if other in crates]
-    return [name] + max(chains, key=len, default=[])
+    return ([] if hands_on(name) else [name]) + max(chains, key=len, default=[])
 
 
 def twice(house):

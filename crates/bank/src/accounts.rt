@@ -1,5 +1,5 @@
 use anyhow::{Result, bail};
-use lt_script::Script;
+use lt_locks::Script;
 use std::alloc::Global;
 use std::sync::atomic::{AtomicU64, Ordering};
 

@@ -1,8 +1,6 @@
 use crate::accounts::{Bank, total};
 use crate::clerk::{lock, unlock};
-use lt_live::Reply;
-use lt_live_callers::Caller;
-use lt_modes::{Command, Mode};
+use lt_locks::{Caller, Command, Mode, Reply};
 
 const AUDITS: u32 = 20;
 

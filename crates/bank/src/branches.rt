@@ -1,5 +1,5 @@
 use anyhow::{Result, bail};
-use lt_script::{Script, SetByName};
+use lt_locks::{Script, SetByName};
 use std::alloc::Global;
 
 /// How many branches the bank has, and how many accounts each: the sets of a branch, which are a family, are twenty.
@@ -68,7 +68,7 @@ fn add_branch(alloc: Global, script: &mut Script, number: u32) -> Result<()> {
 
 /// The script of a bank with all these branches: 300 sets, more than a text may have.
 pub fn branches(alloc: Global) -> Result<Script> {
-    let mut script = lt_script::read(alloc, TEXT.as_bytes())?;
+    let mut script = lt_locks::read(alloc, TEXT.as_bytes())?;
     for number in 0..BRANCHES {
         add_branch(alloc, &mut script, number)?;
     }

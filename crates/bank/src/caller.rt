@@ -1,10 +1,7 @@
 use crate::accounts::Bank;
 use crate::auditor::Auditor;
 use crate::clerk::Clerk;
-use lt_live::Reply;
-use lt_live_callers::Caller;
-use lt_modes::Command;
-use lt_script::Script;
+use lt_locks::{Caller, Command, Reply, Script};
 use std::alloc::{AllocError, Global};
 
 // The client who adds up the accounts.

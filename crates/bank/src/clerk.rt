@@ -1,7 +1,5 @@
 use crate::accounts::{Bank, transfer};
-use lt_live::Reply;
-use lt_live_callers::Caller;
-use lt_modes::{Command, Mode};
+use lt_locks::{Caller, Command, Mode, Reply};
 
 // How many transfers a clerk makes, how many commands each takes, and how many of these are locks, which come first.
 const TRANSFERS: u32 = 42;

@@ -18,10 +18,10 @@ use accounts::Bank;
 use anyhow::{Result, bail};
 use branches::{CLIENTS, branches};
 use caller::{BankCaller, callers_of};
-use lt_checker::check_input;
-use lt_io::{ReaderSource, Sink, Source, WriterSink, read_all, write_all};
-use lt_live_callers::{Called, Caller, Served, serve_callers};
-use lt_script::Script;
+use lt_locks::{
+    Called, Caller, ReaderSource, Script, Served, Sink, Source, WriterSink, check_input, read_all,
+    serve_callers, write_all,
+};
 use std::alloc::{AllocError, Global};
 use std::io::Print;
 use std::sync::atomic::Ordering;
@@ -64,7 +64,7 @@ fn look_at(callers: &[Called<BankCaller<'_>>]) -> Result<()> {
 
 fn script_of<S: Source>(alloc: Global, source: &mut S) -> Result<Script> {
     let text = read_all(alloc, source, MOST_BYTES)?;
-    Ok(lt_script::read(alloc, &text)?)
+    Ok(lt_locks::read(alloc, &text)?)
 }
 
 // The script and the journal of the run, once all callers came to their end.

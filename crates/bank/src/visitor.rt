@@ -1,9 +1,7 @@
 use crate::branches::{ACCOUNTS, BRANCHES, CLIENTS, NODES, account, branch};
 use crate::clerk::{lock, unlock};
 use lt_gen::Draws;
-use lt_live::Reply;
-use lt_live_callers::Caller;
-use lt_modes::{Command, Mode};
+use lt_locks::{Caller, Command, Mode, Reply};
 
 // How many errands a visitor makes, and how many commands each takes.
 const ERRANDS: u32 = 8;

@@ -5,12 +5,10 @@
 #![tactic(auto)]
 
 use anyhow::{Result, bail};
-use lt_checker::check_input;
-use lt_io::{ReaderSource, Source, WriterSink, read_all, write_all};
-use lt_live::Reply;
-use lt_live_callers::{Caller, Served, serve_callers};
-use lt_modes::{Command, Mode};
-use lt_script::Script;
+use lt_locks::{
+    Caller, Command, Mode, ReaderSource, Reply, Script, Served, Source, WriterSink, check_input,
+    read_all, serve_callers, write_all,
+};
 use std::alloc::Global;
 use std::env;
 use std::io::Print;
@@ -155,7 +153,7 @@ fn print_stock<R: Print>(rt: &R, shop: &Shop) -> Result<()> {
 
 fn script_of<S: Source>(alloc: Global, source: &mut S) -> Result<Script> {
     let text = read_all(alloc, source, MOST_BYTES)?;
-    Ok(lt_script::read(alloc, &text)?)
+    Ok(lt_locks::read(alloc, &text)?)
 }
 
 fn text_of(alloc: Global, served: &Served<Buyer<'_>>) -> Result<Vec<u8>> {
