@@ -547,6 +547,17 @@ expect 'lockwaits why with a file' 'why<nodes 1
 journal
 end 0>
 status 0' "$(cd "$room" && said "$waits/lockwaits" why why)"
+mkfifo "$room/pipe"
+cat "$room/why" >"$room/pipe" &
+expect 'lockwaits why with a pipe' 'why<nodes 1
+journal
+end 0>
+status 0' "$(cd "$room" && said "$waits/lockwaits" why pipe)"
+cat "$room/a script" >"$room/pipe" &
+expect 'lockrun check with a pipe and a device' '<check>
+nodes 1
+journal
+status 0' "$(said "$top/lockrun" check "$room/pipe" /dev/null)"
 expect 'lockwaits with a file that is none' "lockwaits: $room/none can't be read
 status 125" "$(said "$waits/lockwaits" "$room/a script" "$room/none")"
 expect 'lockrun check with two files' '<check>
@@ -576,12 +587,16 @@ expect 'lockwaits --help names the two files' 1 "$("$waits/lockwaits" --help | g
 expect 'lockwaits called by a link' '<x>
 status 0' "$(ln -s "$waits/lockwaits" "$room/waiting" && echo x | said "$room/waiting")"
 cp "$here"/tools/*.py "$here/tools/journal-summary" "$waits/tools/"
-printf '# bad\nnodes 1\nset s\n# journal\n journal\r\nowner s 0 0\nmo\001ve\r\n' >"$room/bad"
+printf '# bad\nnodes 1\nset s\n' >"$room/bad"
+expect 'lockwaits, an input without a journal' 'lockwaits: line 7: journal
+lockwaits: line 7 is missing: behind its script the input has the line journal, and then a journal
+status 8' "$(said "$waits/lockwaits" <"$room/bad")"
+printf '# bad\nnodes 1\nset s\n# journal\n journal\r\nowner s 0 0\nmo\r\001ve\r\n' >"$room/bad"
 expect 'lockwaits, a bad journal' 'lockwaits: line 7: journal
-lockwaits: "mo?ve": line 2 of the journal: no run that ends at rest goes on so; due there is end 0
+lockwaits: "mo??ve": line 2 of the journal: no run that ends at rest goes on so; due there is end 0
 status 8' "$(said "$waits/lockwaits" <"$room/bad")"
 expect 'lockwaits, a bad journal, with no Python' 'lockwaits: line 7: journal
-lockwaits: "mo?ve": line 2 of the journal: no run that ends at rest goes on so
+lockwaits: "mo??ve": line 2 of the journal: no run that ends at rest goes on so
 status 8' "$(PATH=$room/no-rt && said "$waits/lockwaits" <"$room/bad")"
 printf '# bad\nnodes 1\nset s\nset t\njournal\nowner s 0 0\n' >"$room/bad"
 expect 'lockwaits, a journal too short' 'lockwaits: line 7: journal
