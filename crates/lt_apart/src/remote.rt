@@ -95,6 +95,13 @@ impl Remote {
         self.station.misfit()
     }
 
+    /// What serves its sessions.
+    pub fn station(&self) -> &Station
+        ensures { result.now ≡ self.now.station }
+    {
+        &self.station
+    }
+
     /// How many commands were appended here, forgotten or not.
     pub fn commands(&self) -> u64
         ensures commands { result ≡ length self.now.station.runner.node.script.commands }

@@ -25,6 +25,7 @@ mod shares;
 mod starting;
 mod station;
 mod turning;
+mod viewing;
 mod visiting;
 
 pub use ends::{Seat, Session};

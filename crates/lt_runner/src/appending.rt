@@ -9,6 +9,7 @@ ghost use Rattle.lt_runner.specs.Kept.{with_appended};
 use crate::runner::Runner;
 use lt_log::LongLog;
 use lt_modes::Command;
+use lt_node::Node;
 use lt_script::Script;
 use std::alloc::{AllocError, Global};
 
@@ -27,6 +28,13 @@ impl Runner {
         parts.node.append(client, command)?;
         parts.idle = false;
         Ok(())
+    }
+
+    /// Its node.
+    pub fn node(&self) -> &Node
+        ensures { result.now ≡ self.now.node }
+    {
+        &self.parts.node
     }
 
     /// The script, with the commands that were appended here, without those that were forgotten.

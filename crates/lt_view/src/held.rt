@@ -1,0 +1,55 @@
+// What a client holds.
+ghost use Rattle.std.specs.Prelude.{◌≡◌, ◌<◌, ◌≤◌, ◌+◌, length};
+ghost use Rattle.lt_node.specs.NodeData.{state_of};
+ghost use Rattle.lt_view.specs.View.{holds_in, held_among, first_held, locks_in};
+
+use lt_modes::Mode;
+use lt_node::Node;
+
+/// How many locks of the mode the client holds in the set; 0 if there is no such set.
+pub fn locks_in(node: &Node, client: u16, set: u32, mode: Mode) -> u64
+    ensures { result ≡ locks_in node.now.script (state_of node.now) client set mode }
+{
+    if set < node.script().sets() {
+        node.count(set, client, mode)
+    } else {
+        0
+    }
+}
+
+/// The first set, from this one on, in which the client holds a lock.
+pub fn first_held(node: &Node, client: u16, from: u32) -> Option<u32>
+    ensures { result ≡ first_held node.now.script (state_of node.now) client from }
+{
+    let sets = node.script().sets();
+    if from >= sets {
+        return None;
+    }
+    first_among(node, client, from, sets - from)
+}
+
+// The first of so many sets, from this one on, in which the client holds a lock.
+fn first_among(node: &Node, client: u16, from: u32, count: u32) -> Option<u32>
+    requires { from + count ≤ length node.now.script.sets }
+    ensures { result ≡ held_among (state_of node.now) client from count }
+{
+    for step in 0..count {
+        if holds_in(node, client, from + step) {
+            return Some(from + step);
+        }
+    }
+    None
+}
+
+// Whether the client holds a lock in the set.
+fn holds_in(node: &Node, client: u16, set: u32) -> bool
+    requires { set < length node.now.script.sets }
+    ensures { result ≡ holds_in (state_of node.now) client set }
+{
+    node.count(set, client, Mode::IntentionRead) > 0
+        || node.count(set, client, Mode::Read) > 0
+        || node.count(set, client, Mode::Upgrade) > 0
+        || node.count(set, client, Mode::IntentionWrite) > 0
+        || node.count(set, client, Mode::ReadIntentionWrite) > 0
+        || node.count(set, client, Mode::Write) > 0
+}
