@@ -1,5 +1,5 @@
 // What a client holds.
-ghost use Rattle.std.specs.Prelude.{◌≡◌, ◌<◌, ◌≤◌, ◌+◌, length};
+ghost use Rattle.std.specs.Prelude.{◌≡◌, ◌<◌, ◌≤◌, ◌-◌, length};
 ghost use Rattle.lt_node.specs.NodeData.{state_of};
 ghost use Rattle.lt_view.specs.View.{holds_in, held_among, first_held, locks_in};
 
@@ -21,21 +21,22 @@ pub fn locks_in(node: &Node, client: u16, set: u32, mode: Mode) -> u64
 pub fn first_held(node: &Node, client: u16, from: u32) -> Option<u32>
     ensures { result ≡ first_held node.now.script (state_of node.now) client from }
 {
-    let sets = node.script().sets();
-    if from >= sets {
+    let end = node.script().sets();
+    if from >= end {
         return None;
     }
-    first_among(node, client, from, sets - from)
+    first_between(node, client, from, end)
 }
 
-// The first of so many sets, from this one on, in which the client holds a lock.
-fn first_among(node: &Node, client: u16, from: u32, count: u32) -> Option<u32>
-    requires { from + count ≤ length node.now.script.sets }
-    ensures { result ≡ held_among (state_of node.now) client from count }
+// The first set, from this one on and before that one, in which the client holds a lock.
+fn first_between(node: &Node, client: u16, from: u32, end: u32) -> Option<u32>
+    requires order { from ≤ end }
+    requires inside { end ≤ length node.now.script.sets }
+    ensures { result ≡ held_among (state_of node.now) client from (end - from) }
 {
-    for step in 0..count {
-        if holds_in(node, client, from + step) {
-            return Some(from + step);
+    for set in from..end {
+        if holds_in(node, client, set) {
+            return Some(set);
         }
     }
     None

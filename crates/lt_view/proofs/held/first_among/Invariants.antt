@@ -1,7 +1,0 @@
-use Rattle.std.proofs.Common.{◌≡◌, None}
-use Rattle.lt_node.specs.NodeData.{state_of}
-use Rattle.lt_view.specs.View.{held_among}
-use Rattle.lt_view.proofs.held.first_among.Given as goal
-
-abbrev pub invariant-loop-step : goal.invariant-loop-step
-invariant-loop-step l = held_among (state_of l.node) l.client l.from l.step ≡ None
