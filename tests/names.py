@@ -32,7 +32,7 @@ FIRST_WORDS = '''
 OTHERS = '''
     abbrev pub record unfoldable ensures requires ghost result self.old self.new IfOk IfErr IfSome OnFalse IsTrue Err Model
     true false none None λ (x clap awk sh args stdin stdout HANDLES lt_ lt_law_ line rand_pcg rand_core itoa rtrb arrayvec anyhow
-    atomic_table seed_from_u64 for_each_mut join_mut rattle-kit-13b specs/declared Goals Given crates/lockrun/out/sources
+    atomic_table seed_from_u64 for_each_mut join_mut rattle-kit-13f specs/declared Goals Given crates/lockrun/out/sources
     --help --version --kind --moves --waits --all-waits --diff --set --client --json --chrome --words --write --nested --commands chrome://tracing
     pg_locks readers chain
     lock_within and_within change_within timeout= sets= StillWaits -std=c11

@@ -10,8 +10,8 @@ use Rattle.lt_spec.specs.NodeMove.{NodeState}
 use Rattle.lt_node.specs.NodeData.{first_ask}
 
 -- how many locks of the mode the client holds in the set; none if the script has no such set
-abbrev pub locks_in : ScriptData → NodeState → ℕ → ℕ → Mode → ℕ
-locks_in script n client set mode =
+abbrev pub count_held : ScriptData → NodeState → ℕ → ℕ → Mode → ℕ
+count_held script n client set mode =
     if nat_lt set (length script.sets) then count_of (n.set set).held client mode else 0
 
 -- the client holds a lock in the set
@@ -32,9 +32,9 @@ abbrev pub first_held : ScriptData → NodeState → ℕ → ℕ → Option ℕ
 first_held script n client from = held_among n client from (length script.sets - from)
 
 -- the set in which the client waits, and the mode that it waits for
-abbrev pub asked_of : ScriptData → NodeState → ℕ → Option (ℕ × Mode)
-asked_of script n client = option_map (λ (found : ℕ × Ask). (found.0, found.1.mode)) (first_ask script n client)
+abbrev pub wait_of : ScriptData → NodeState → ℕ → Option (ℕ × Mode)
+wait_of script n client = option_map (λ (found : ℕ × Ask). (found.0, found.1.mode)) (first_ask script n client)
 
 -- in the queue of the set's desk here an ask of the other client stands before one of the client
-abbrev pub is_before : ScriptData → NodeState → ℕ → ℕ → ℕ → Bool
-is_before script n set other client = nat_lt set (length script.sets) && stands_before (n.set set) other client
+abbrev pub queues_before : ScriptData → NodeState → ℕ → ℕ → ℕ → Bool
+queues_before script n set other client = nat_lt set (length script.sets) && stands_before (n.set set) other client

@@ -3,7 +3,7 @@ use Rattle.std.specs.Prelude.{◌≡◌, ◌<◌, ◌≤◌, ℕ, IsTrue, IsFals
 use Rattle.lt_modes.specs.declared.mode.Mode.{Mode}
 use Rattle.lt_modes.specs.Script.{ScriptData}
 use Rattle.lt_spec.specs.NodeMove.{NodeState}
-use Rattle.lt_view.specs.View.{first_held, holds_in, locks_in}
+use Rattle.lt_view.specs.View.{first_held, holds_in, count_held}
 
 -- the set is one of the script from this one on in which the client holds a lock, and it holds none in those between
 pub record IsFirstHeld (script : ScriptData) (n : NodeState) (client from set : ℕ) : Type 0 where
@@ -25,8 +25,8 @@ FindsNoneHeld = (script : ScriptData) (n : NodeState) (client from : ℕ)
 
 -- a client holds a lock in a set of the script exactly if it holds at least one of some mode there
 pub record HoldsBy (script : ScriptData) (n : NodeState) (client set : ℕ) : Type 0 where
-  pub some : (mode : Mode) → 0 < locks_in script n client set mode → IsTrue (holds_in n client set)
-  pub none : IsFalse (holds_in n client set) → (mode : Mode) → locks_in script n client set mode ≡ 0
+  pub some : (mode : Mode) → 0 < count_held script n client set mode → IsTrue (holds_in n client set)
+  pub none : IsFalse (holds_in n client set) → (mode : Mode) → count_held script n client set mode ≡ 0
 
 abbrev pub HoldsByLocks : Type 0
 HoldsByLocks = (script : ScriptData) (n : NodeState) (client set : ℕ) → HoldsBy script n client set

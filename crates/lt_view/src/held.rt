@@ -1,14 +1,14 @@
 // What a client holds.
 ghost use Rattle.std.specs.Prelude.{◌≡◌, ◌<◌, ◌≤◌, ◌-◌, length};
 ghost use Rattle.lt_node.specs.NodeData.{state_of};
-ghost use Rattle.lt_view.specs.View.{holds_in, held_among, first_held, locks_in};
+ghost use Rattle.lt_view.specs.View.{holds_in, held_among, first_held, count_held};
 
 use lt_modes::Mode;
 use lt_node::Node;
 
 /// How many locks of the mode the client holds in the set; 0 if there is no such set.
-pub fn locks_in(node: &Node, client: u16, set: u32, mode: Mode) -> u64
-    ensures { result ≡ locks_in node.now.script (state_of node.now) client set mode }
+pub fn count_held(node: &Node, client: u16, set: u32, mode: Mode) -> u64
+    ensures { result ≡ count_held node.now.script (state_of node.now) client set mode }
 {
     if set < node.script().sets() {
         node.count(set, client, mode)

@@ -5,6 +5,6 @@ mod asked;
 mod held;
 mod laws;
 
-pub use asked::{asked_of, is_before};
-pub use held::{first_held, locks_in};
+pub use asked::{queues_before, wait_of};
+pub use held::{count_held, first_held};
 pub use laws::law_view;
