@@ -75,4 +75,9 @@ said=$("$top/tools/join" "$room/part-0" 2>&1) && fail 'a node is missing, and no
 case $said in 'join: no moves of node 1'*) ;; *) fail "a missing node: $said" ;; esac
 said=$("$top/tools/join" "$room/part-0" "$room/part-0" 2>&1) && fail 'a node is there twice, and nothing is said'
 case $said in *'node 0 is there twice') ;; *) fail "a node twice: $said" ;; esac
+
+# Moves of a node that stand twice are in no order.
+{ sed '/^cut /d' "$room/part-0" && sed -n '/^move /,$p' "$room/part-0"; } >"$room/twice"
+said=$("$top/tools/join" "$room/twice" 2>&1) && fail 'moves stand twice, and nothing is said'
+case $said in *'moves that are not in order of their stamps') ;; *) fail "moves twice: $said" ;; esac
 exit $failed

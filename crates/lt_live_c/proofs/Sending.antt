@@ -121,6 +121,7 @@ sends_frame code place to length_was length_now frame buffer buffer_now was now 
   some = omega (arith, out.size, some);
   passes = passes place to (take length_now buffer_now) frame was now a b h gives
       (ap (λ (bytes : List ℕ). take length_now buffer_now ++ bytes) out.gone ∙ (append-nil (take length_now buffer_now) ∙ front));
+  unsent_none = left place to was now a b h ∙ out.gone;
   rest = behind;
 })
   where

@@ -45,10 +45,10 @@ pub client_read : read_of client_text ≡ Ok with_command
 unfolding reading.script_body reading.read_from text.lines text.cut_at reading.line_step text.words
 client_read = refl
 
-abbrev no_nodes : ScriptFault
+abbrev pub no_nodes : ScriptFault
 no_nodes = record { line = 1; fault = faults.Nodes }
 
-nothing_read : read_of [] ≡ Err no_nodes
+pub nothing_read : read_of [] ≡ Err no_nodes
 unfolding reading.script_body reading.read_from text.lines text.cut_at reading.line_step text.words
 nothing_read = refl
 

@@ -12,3 +12,5 @@ pub mod Serving
 pub mod Told
 pub mod ServicesTold
 pub mod SetsTold
+pub mod NodesTold
+pub mod LettersTold

@@ -99,6 +99,7 @@ pub record SendsBytes (code to length_now : ℕ) (buffer buffer_now : List ℕ) 
   pub same_size : length buffer_now ≡ length buffer
   pub some : 0 < length_now
   pub passes : PassesOn to (take length_now buffer_now) a b
+  pub unsent_none : unsent b to ≡ []
   pub rest : drop length_now buffer_now ≡ drop length_now buffer
 
 -- why no letter was given out

@@ -2,6 +2,8 @@
 ghost use Rattle.lt_live_c.specs.Told.{CallCodesAre, ReplyNumbersAre, ModeNumbersAre, CommandNumbersAre, TurnsTold, ForgetsTold, SubmitsTold, PollsTold, KindsTold, AsksTold};
 ghost use Rattle.lt_live_c.specs.ServicesTold.{TakesTold, GivesTold, OpensTold, FinishesTold, CopiesTold, ServedTold};
 ghost use Rattle.lt_live_c.specs.SetsTold.{NamesTold, OpensSetsTold};
+ghost use Rattle.lt_live_c.specs.NodesTold.{NodeOpensTold, PendingTold, NodeFinishesTold};
+ghost use Rattle.lt_live_c.specs.LettersTold.{SendsTold, ReceivesTold};
 
 use lt_script::law_print;
 
@@ -27,6 +29,11 @@ pub fn law_c_told()
     ensures served { ServedTold }
     ensures names { NamesTold }
     ensures opens_sets { OpensSetsTold }
+    ensures node_opens { NodeOpensTold }
+    ensures sends { SendsTold }
+    ensures receives { ReceivesTold }
+    ensures pending { PendingTold }
+    ensures node_finishes { NodeFinishesTold }
 {
     law_print();
 }

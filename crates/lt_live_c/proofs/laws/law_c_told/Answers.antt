@@ -5,6 +5,9 @@ use Rattle.lt_live_c.proofs.TakingOpened.{takes_told, gives_told}
 use Rattle.lt_live_c.proofs.ServicesOpened.{opens_told, finishes_told, copies_told}
 use Rattle.lt_live_c.proofs.ServingOpened.{served_told}
 use Rattle.lt_live_c.proofs.SetsOpened.{names_told, opens_sets_told}
+use Rattle.lt_live_c.proofs.NodesOpened.{node_opens_told, pending_told, node_finishes_told}
+use Rattle.lt_live_c.proofs.LettersOpened.{sends_told}
+use Rattle.lt_live_c.proofs.FramesOpened.{receives_told}
 use Rattle.lt_live_c.proofs.laws.law_c_told.Goals as goal
 
 pub returns : goal.returns
@@ -27,4 +30,9 @@ returns c = record {
   served = served_told;
   names = names_told;
   opens_sets = opens_sets_told;
+  node_opens = node_opens_told;
+  sends = sends_told;
+  receives = receives_told;
+  pending = pending_told;
+  node_finishes = node_finishes_told;
 }

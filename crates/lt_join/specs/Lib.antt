@@ -1,0 +1,3 @@
+pub mod Parts
+pub mod JoinLaws
+pub mod JoinRows
