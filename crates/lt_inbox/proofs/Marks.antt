@@ -1,5 +1,5 @@
 -- The oldest letter from one node to another.
-use Rattle.std.proofs.Common.{◌≡◌, Bool, true, false, ℕ, suc, ◌+◌, ◌<◌, ◌==◌, List, [], ◌∷◌, ◌++◌, length, take, drop, inl, inr, refl, sym, ap, subst, ◌∙◌, arith, take-suc, ◌-◌, ◌≤◌, append_assoc, ◌≢◌, length-set, get_or-set_same, get_or-set_other, slice_index_or, Option, Some, None, IfSome, IfNone, is_some, All, slice_set, remove, eqb-true, eq-eqb, ne_eqb, append-nil}
+use Rattle.std.proofs.Common.{◌≡◌, Bool, true, false, ℕ, suc, ◌+◌, ◌<◌, ◌==◌, List, [], ◌∷◌, ◌++◌, length, take, drop, inl, inr, refl, sym, ap, subst, ◌∙◌, arith, take-suc, ◌-◌, ◌≤◌, append_assoc, ◌≢◌, length-set, get_or-set_same, get_or-set_other, slice_index_or, All, slice_set, remove, eqb-true, eq-eqb, ne_eqb, append-nil}
 use Rattle.std.proofs.Math.Seq.{split_at}
 use Rattle.std.proofs.lemmas.Bool.{cases_eq, and_parts}
 use Rattle.std.proofs.lemmas.List.{get_or_default}
@@ -76,16 +76,6 @@ first_at p q sent k one below is hit none = record {
         ∙ (between_append p q before (one ∷ after)
         ∙ (ap (λ (ls : List Letter). ls ++ letters_between p q (one ∷ after)) none
         ∙ (between_cons p q one after ∙ ap (λ (t : Bool). with_letter t one.letter (letters_between p q after)) hit)))
-
--- where a first one is found, there is one
-pub any_between : (p q : ℕ) (sent : List SentData) (place : Option ℕ) → IfSome place (IsOldest p q sent) → IfNone place (letters_between p q sent ≡ [])
-    → is_some place ≡ is_some_letter (letters_between p q sent)
-any_between p q sent None found none = sym (ap is_some_letter none)
-any_between p q [] (Some k) found none = absurd (omega (arith, found.below))
-any_between p q (x ∷ xs) (Some k) found none =
-    let one = slice_index_or (x ∷ xs) k x in
-    let here : one ≡ slice_index_or (x ∷ xs) k one = get_or_default (x ∷ xs) k x one found.below in
-    sym (ap is_some_letter (found.first one here))
 
 -- Letters that are put behind those on their way, one after another.
 
@@ -223,7 +213,3 @@ pub marked_front : (boxes : List (List Bool)) (sent : List SentData) (p q : ℕ)
     → AreMarked (put_mark boxes p q true) (sent_of p q letter ∷ sent)
 marked_front boxes sent p q letter h sender receiver =
     marked boxes sent (sent_of p q letter ∷ sent) p q true h sender receiver (ap is_some_letter (one_own p q letter sent)) (λ a b apart. one_other p q letter sent a b apart)
-
-pub letters_marked : (boxes : List (List Bool)) (sent : List SentData) (p q : ℕ) → AreMarked boxes sent → p < length boxes → q < length boxes
-    → has_between boxes p q ≡ is_some_letter (letters_between p q sent)
-letters_marked boxes sent p q h sender receiver = h.marks p q sender receiver

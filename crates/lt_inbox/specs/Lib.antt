@@ -1,3 +1,4 @@
 pub mod Mail
 pub mod Bits
+pub mod Counts
 pub mod Takes

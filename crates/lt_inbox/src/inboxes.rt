@@ -5,8 +5,9 @@ ghost use Rattle.lt_spec.specs.World.{is_some_letter};
 ghost use Rattle.lt_inbox.specs.Mail.{SameLetters, AreDelivered, IsTaken, mail_in, sent_of, takes_in};
 ghost use Rattle.lt_inbox.specs.Takes.{turn_of_take};
 
+use crate::counting::{SenderCounts, count_sent, count_taken, no_counts};
 use crate::pairs::Pairs;
-use crate::sent::{Sent, is_any_between, take_first};
+use crate::sent::{Sent, take_first};
 use crate::takes::Take;
 use lt_desk::{Letter, Out, Post};
 use std::alloc::{AllocError, Global};
@@ -19,12 +20,15 @@ pub struct Inboxes {
     sent: VecDeque<Sent>,
     // From whom to whom they go.
     pairs: Pairs,
+    // How many go from whom to whom, by receiver: so the one that is taken needs no look for those behind it.
+    counts: Vec<SenderCounts>,
 }
 
 impl Model for Inboxes {
     ghost use Rattle.std.specs.Prelude.{◌-◌, length};
     ghost use Rattle.std.specs.VecDeque.{deque_capacity};
-    ghost use Rattle.lt_inbox.specs.Mail.{MailData, AreMarked};
+    ghost use Rattle.lt_inbox.specs.Mail.{MailData};
+    ghost use Rattle.lt_inbox.specs.Counts.{AreNoted};
 
     ghost Value = { MailData };
 
@@ -34,15 +38,20 @@ impl Model for Inboxes {
       free = deque_capacity i.sent - length i.sent.items;
     } };
 
-    ghost invariant = { λ i. AreMarked i.pairs i.sent.items };
+    ghost invariant = { λ i. AreNoted i.pairs i.counts.items i.sent.items };
 }
 
 // Written out, so that all places which let the inboxes go call this.
 impl Drop for Inboxes {
     fn drop(self) {
-        let Inboxes { sent, pairs } = self;
+        let Inboxes {
+            sent,
+            pairs,
+            counts,
+        } = self;
         drop(sent);
         drop(pairs);
+        drop(counts);
     }
 }
 
@@ -53,12 +62,17 @@ impl Inboxes {
         ensures empty { IfOk result (λ inboxes. inboxes.sent ≡ []) }
     {
         let pairs = Pairs::new(alloc, nodes)?;
+        let counts = no_counts(alloc, nodes)?;
         let sent = VecDeque::new(alloc);
-        Ok(Inboxes { sent, pairs })
+        Ok(Inboxes {
+            sent,
+            pairs,
+            counts,
+        })
     }
 
     /// Whether a letter is on its way from the sender to the receiver.
-    #[tactic(auto, using(crate::proofs::Marks::letters_marked))]
+    #[tactic(auto, using(crate::proofs::Counts::letters_noted))]
     pub fn has_mail(&self, sender: u8, receiver: u8) -> bool
         requires { (sender < self.now.nodes) × (receiver < self.now.nodes) }
         ensures { result ≡ is_some_letter (mail_in self.now sender receiver) }
@@ -100,6 +114,7 @@ impl Inboxes {
         ensures { self.new ≡ record self.old { sent = self.old.sent ++ sent_of sender post.to (letter_seen post.letter) ∷ []; free = self.old.free - 1 } }
     {
         self.pairs.mark(sender, post.to);
+        count_sent(&mut self.counts, sender, post.to);
         self.sent.push_back_reserved(Sent::new(sender, post));
     }
 
@@ -110,7 +125,7 @@ impl Inboxes {
         ensures { IsTaken sender receiver (letter_seen result) self.old self.new }
     {
         let letter = take_first(&mut self.sent, sender, receiver);
-        let more = is_any_between(&self.sent, sender, receiver);
+        let more = count_taken(&mut self.counts, sender, receiver);
         self.pairs.set(sender, receiver, more);
         letter
     }
@@ -122,6 +137,7 @@ impl Inboxes {
         ensures { self.new ≡ record self.old { sent = sent_of sender receiver (letter_seen letter) ∷ self.old.sent; free = self.old.free - 1 } }
     {
         self.pairs.mark(sender, receiver);
+        count_sent(&mut self.counts, sender, receiver);
         let post = Post {
             to: receiver,
             letter,

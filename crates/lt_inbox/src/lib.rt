@@ -1,6 +1,7 @@
 //! The letters that are on their way between the nodes of one thread, with one room for all.
 #![tactic(auto)]
 
+mod counting;
 mod inboxes;
 mod node_set;
 mod pairs;

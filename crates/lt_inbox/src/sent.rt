@@ -1,7 +1,6 @@
 ghost use Rattle.std.specs.Prelude.{◌≡◌, ◌<◌, ◌+◌, ℕ, [], ◌∷◌, length, IfSome, IfNone, IsSome, remove, slice_index_or};
 ghost use Rattle.std.specs.VecDeque.{deque_capacity};
 ghost use Rattle.lt_desk.specs.LetterSeen.{letter_seen};
-ghost use Rattle.lt_spec.specs.World.{is_some_letter};
 ghost use Rattle.lt_inbox.specs.Mail.{IsOldest, goes, letters_between, sent_of};
 
 use lt_desk::{Letter, Post};
@@ -57,13 +56,6 @@ fn first_between(sent: &VecDeque<Sent>, sender: u8, receiver: u8) -> Option<usiz
         }
     }
     None
-}
-
-/// Whether a letter is on its way from the sender to the receiver.
-pub(crate) fn is_any_between(sent: &VecDeque<Sent>, sender: u8, receiver: u8) -> bool
-    ensures { result ≡ is_some_letter (letters_between sender receiver sent.now.items) }
-{
-    first_between(sent, sender, receiver).is_some()
 }
 
 /// Takes the oldest letter from the sender to the receiver.

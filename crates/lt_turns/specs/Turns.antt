@@ -1,5 +1,5 @@
 -- Which players can act, and the first of them.
-use Rattle.std.specs.Prelude.{◌≡◌, ◌≢◌, ◌<◌, ◌≤◌, ◌+◌, ◌*◌, ◌%◌, ◌^◌, ◌==◌, ◌&&◌, ◌⊎◌, nat_lt, ℕ, List, Option, Some, None, length, min, count_by, is_some, slice_index_or, slice_set, if◌then◌else◌}
+use Rattle.std.specs.Prelude.{◌≡◌, ◌≢◌, ◌<◌, ◌≤◌, ◌+◌, ◌*◌, ◌%◌, ◌^◌, ◌==◌, ◌&&◌, ◌⊎◌, not, nat_lt, ℕ, List, Option, Some, None, length, min, count_by, is_some, slice_index_or, slice_set, if◌then◌else◌}
 
 -- the number of the player's next turn, where it can act
 abbrev pub number_at : List (Option ℕ) → ℕ → Option ℕ
@@ -35,14 +35,14 @@ IsNext numbers player None =
 IsNext numbers player (Some next) =
     (number later : ℕ) × (number_at numbers player ≡ Some number) × LeadsAfter numbers number player next later
 
--- the rank of a turn: none has the greatest one
+-- the rank of a turn: none has the greatest one, and so have turns with numbers that have no rank
 abbrev pub rank_of : Option ℕ → ℕ → ℕ
-rank_of None player = 2 ^ 80
-rank_of (Some number) player = number * 65536 + player
+rank_of None player = 2 ^ 63
+rank_of (Some number) player = if nat_lt number (2 ^ 47) then number * 65536 + player else 2 ^ 63
 
 -- the player whose turn has this rank
 abbrev pub player_of : ℕ → Option ℕ
-player_of rank = if rank == 2 ^ 80 then None else Some (rank % 65536)
+player_of rank = if rank == 2 ^ 63 then None else Some (rank % 65536)
 
 abbrev pub rank_at : List ℕ → ℕ → ℕ
 rank_at ranks node = slice_index_or ranks node 0
@@ -77,9 +77,42 @@ pub record IsLeaf (ranks : List ℕ) (end rank : ℕ) : Type 0 where
 
 -- the least rank, greater than this one, of the leaves before the end, or that of no turn
 pub record IsFirstAfter (ranks : List ℕ) (here end first : ℕ) : Type 0 where
-  pub either : (first ≡ 2 ^ 80) ⊎ ((here < first) × IsLeaf ranks end first)
-  pub leads : (leaf : ℕ) → length ranks ≤ 2 * leaf → leaf < end → here < rank_at ranks leaf → rank_at ranks leaf < 2 ^ 80
+  pub either : (first ≡ 2 ^ 63) ⊎ ((here < first) × IsLeaf ranks end first)
+  pub leads : (leaf : ℕ) → length ranks ≤ 2 * leaf → leaf < end → here < rank_at ranks leaf → rank_at ranks leaf < 2 ^ 63
       → first ≤ rank_at ranks leaf
+
+-- The places of all turns, whatever their numbers.
+
+-- the place of a turn: that of none comes last
+abbrev pub turn_place : Option ℕ → ℕ → ℕ
+turn_place None player = 2 ^ 80
+turn_place (Some number) player = number * 65536 + player
+
+-- the player whose turn has this place
+abbrev pub player_at_place : ℕ → Option ℕ
+player_at_place place = if place == 2 ^ 80 then None else Some (place % 65536)
+
+-- the second place where it lies before the first one, but not before where to begin, else the first one
+abbrev pub nearer_place : ℕ → ℕ → ℕ → ℕ
+nearer_place from first second = if not (nat_lt second from) && nat_lt second first then second else first
+
+-- a player before the end has a turn with this place
+pub record IsTurnPlace (numbers : List (Option ℕ)) (end place : ℕ) : Type 0 where
+  pub player : ℕ
+  pub number : ℕ
+  pub inside : player < end
+  pub can_act : number_at numbers player ≡ Some number
+  pub is : place ≡ number * 65536 + player
+
+-- the least place, from this one on, of the turns of the players before the end, or that of no turn
+pub record IsLeastFrom (numbers : List (Option ℕ)) (from end first : ℕ) : Type 0 where
+  pub either : (first ≡ 2 ^ 80) ⊎ ((from ≤ first) × IsTurnPlace numbers end first)
+  pub leads : (player number : ℕ) → player < end → number_at numbers player ≡ Some number → from ≤ number * 65536 + player
+      → first ≤ number * 65536 + player
+
+-- the numbers of turns have 64 bits
+abbrev pub AreSmall : List (Option ℕ) → Type 0
+AreSmall numbers = (player number : ℕ) → number_at numbers player ≡ Some number → number < 2 ^ 64
 
 -- a tree over these players, of which so many can act
 pub record IsTree (numbers : List (Option ℕ)) (ranks : List ℕ) (count : ℕ) : Type 0 where

@@ -1,6 +1,7 @@
 //! Players that take turns: which of them can act, and which one is first.
 #![tactic(auto)]
 
+mod places;
 mod tree;
 mod turns;
 

@@ -1,21 +1,24 @@
 ghost use Rattle.std.specs.Prelude.{◌≡◌, ◌<◌, ◌≤◌, ◌*◌, ◌%◌, length};
 ghost use Rattle.lt_turns.specs.Turns.{rank_of, player_of, AreLeast, AreLeaves, IsFirstAfter, nearest_leaf};
 
-/// The rank where there is no turn: the greatest one.
-pub(crate) const NO_TURN: u128 = 1 << 80;
+/// The rank where there is no turn, and that of a turn whose number is too great to have one: the greatest rank.
+pub(crate) const NO_TURN: u64 = 1 << 63;
+
+// Lesser numbers have a rank of their own for each player.
+const RANKED: u64 = 1 << 47;
 
 /// The turn of this number and player as one number: of two turns the first one has the lesser rank.
-pub(crate) fn rank_of(number: Option<u64>, player: u16) -> u128
+pub(crate) fn rank_of(number: Option<u64>, player: u16) -> u64
     ensures { result ≡ rank_of number player }
 {
     match number {
-        Some(number) => u128::from(number) * 65536 + u128::from(player),
-        None => NO_TURN,
+        Some(number) if number < RANKED => number * 65536 + u64::from(player),
+        _ => NO_TURN,
     }
 }
 
 /// The player whose turn has this rank, where there is one.
-pub(crate) fn player_of(rank: u128) -> Option<u16>
+pub(crate) fn player_of(rank: u64) -> Option<u16>
     ensures { result ≡ player_of rank }
 {
     if rank == NO_TURN {
@@ -26,7 +29,7 @@ pub(crate) fn player_of(rank: u128) -> Option<u16>
 
 /// Gives the leaf this rank, and goes up from there to find the least rank of each node anew, until it is the one that
 /// the node had.
-pub(crate) fn update(ranks: &mut [u128], leaf: usize, rank: u128)
+pub(crate) fn update(ranks: &mut [u64], leaf: usize, rank: u64)
     requires even { length ranks.old % 2 ≡ 0 }
     requires leaf { length ranks.old ≤ 2 * leaf }
     requires inside { leaf < length ranks.old }
@@ -48,7 +51,7 @@ pub(crate) fn update(ranks: &mut [u128], leaf: usize, rank: u128)
 }
 
 /// The least rank of the leaves that is greater than this one.
-pub(crate) fn first_after(ranks: &[u128], here: u128) -> u128
+pub(crate) fn first_after(ranks: &[u64], here: u64) -> u64
     requires { length ranks.now % 2 ≡ 0 }
     ensures { IsFirstAfter ranks.now here (length ranks.now) result }
 {
@@ -60,7 +63,7 @@ pub(crate) fn first_after(ranks: &[u128], here: u128) -> u128
 }
 
 // The second rank where it lies between the other two, else the first one.
-fn nearest_leaf(here: u128, first: u128, second: u128) -> u128
+fn nearest_leaf(here: u64, first: u64, second: u64) -> u64
     ensures { result ≡ nearest_leaf here first second }
 {
     if here < second && second < first {

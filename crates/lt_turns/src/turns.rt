@@ -1,6 +1,7 @@
 ghost use Rattle.std.specs.Prelude.{◌≡◌, ◌<◌, None, ℕ, length, count_by, is_some, slice_index_or, slice_set, IfOk, if◌then◌else◌};
 ghost use Rattle.lt_turns.specs.Turns.{IsFirst, IsNext};
 
+use crate::places::{first_after_turn, first_of_all};
 use crate::tree::{NO_TURN, first_after, player_of, rank_of, update};
 use std::alloc::{AllocError, Global};
 use std::marker::Model;
@@ -10,8 +11,9 @@ use std::marker::Model;
 pub struct Turns {
     numbers: Vec<Option<u64>>,
     // A tree over the players: node 1 is the root, nodes 2k and 2k + 1 stand below node k, and from the number of players
-    // on each node is a player. Here is the rank of the first turn at or below each node.
-    ranks: Vec<u128>,
+    // on each node is a player. Here is the rank of the first turn at or below each node, where its number is small
+    // enough to have one.
+    ranks: Vec<u64>,
     // How many players can act.
     count: u32,
 }
@@ -88,7 +90,10 @@ impl Turns {
         if self.numbers.is_empty() {
             return None;
         }
-        player_of(self.ranks[1])
+        match player_of(self.ranks[1]) {
+            Some(player) => Some(player),
+            None => first_of_all(&self.numbers),
+        }
     }
 
     /// The first player of those that come after this one, which can act itself. Goes through all players.
@@ -97,7 +102,13 @@ impl Turns {
         ensures { IsNext self.now player result }
     {
         let here = self.ranks[self.numbers.len() + usize::from(player)];
-        player_of(first_after(&self.ranks, here))
+        if here == NO_TURN {
+            return first_after_turn(&self.numbers, player);
+        }
+        match player_of(first_after(&self.ranks, here)) {
+            Some(next) => Some(next),
+            None => first_after_turn(&self.numbers, player),
+        }
     }
 
     /// How many players can act.

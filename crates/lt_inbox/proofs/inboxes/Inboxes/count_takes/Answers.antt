@@ -7,5 +7,5 @@ pub returns-clause-count : goal.returns-clause-count
 returns-clause-count c =
     let inside = c.self.inside in
     c.count_takes.ensures.count
-    ∙ (ap length (takes_marked inside.pairs inside.sent.items (deque_capacity inside.sent - length inside.sent.items) c.self.invariant)
+    ∙ (ap length (takes_marked inside.pairs inside.sent.items (deque_capacity inside.sent - length inside.sent.items) c.self.invariant.marked)
     ∙ ap (λ (m : MailData). length (takes_in m)) c.self.view_is)

@@ -8,5 +8,5 @@ pub returns : goal.returns
 returns c =
     let inside = c.self.inside in
     c.take_at.ensures
-    ∙ (ap (λ (ts : List Turn). slice_get ts c.args.k) (takes_marked inside.pairs inside.sent.items (deque_capacity inside.sent - length inside.sent.items) c.self.invariant)
+    ∙ (ap (λ (ts : List Turn). slice_get ts c.args.k) (takes_marked inside.pairs inside.sent.items (deque_capacity inside.sent - length inside.sent.items) c.self.invariant.marked)
     ∙ ap (λ (m : MailData). slice_get (takes_in m) c.args.k) c.self.view_is)

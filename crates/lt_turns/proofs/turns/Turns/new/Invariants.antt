@@ -7,5 +7,5 @@ invariant-loop l = record {
   players : length l.numbers.items ≡ l.counter;
   nodes : length l.ranks.items ≡ 2 * l.counter;
   none : (player : ℕ) → slice_index_or l.numbers.items player None ≡ None;
-  nobody : (node : ℕ) → node < length l.ranks.items → rank_at l.ranks.items node ≡ 2 ^ 80;
+  nobody : (node : ℕ) → node < length l.ranks.items → rank_at l.ranks.items node ≡ 2 ^ 63;
 }
