@@ -1,5 +1,5 @@
 -- What follows from each code where a node takes letters in.
-use Rattle.std.proofs.Common.{◌≡◌, ◌≢◌, ◌<◌, ◌≤◌, ◌+◌, ◌⊎◌, inl, inr, ℕ, List, [], ◌∷◌, ◌++◌, Vec, length, take, drop, refl, sym, ap, subst, arith, ◌∙◌, slice_get, append-nil}
+use Rattle.std.proofs.Common.{◌≡◌, ◌≢◌, ◌≤◌, ◌⊎◌, inl, inr, ℕ, List, [], ◌++◌, Vec, length, take, refl, sym, ap, subst, arith, ◌∙◌, slice_get, append-nil}
 use Rattle.std.specs.Global.{Global}
 use Rattle.lt_modes.specs.State.{Letter}
 use Rattle.lt_letters.specs.declared.fault.Fault.{Fault}
@@ -244,6 +244,7 @@ takes code peer misfit = (peer, misfit)
 pub receives_told : ReceivesTold
 receives_told = record {
   within = λ code takes. letters_as code takes _ (λ call a b h. h.brings.within);
+  fits = λ code takes. letters_as code takes _ (λ call a b h. h.fits);
   came_in = λ code takes. letters_as code takes _ (λ call a b h. (h.brings.letters, h.brings.goes_on, h.brings.bytes_are));
   none_came = λ code takes. letters_as code takes _ no_letter_came;
   waits = receive_as 0 _ (λ call a b h. elim ((came 0 call a b (takes 0 (λ e. omega (arith, e)) (λ e. omega (arith, e))) h).1) [

@@ -1,5 +1,5 @@
 -- What follows where a node in a process of its own is opened, asked or ended.
-use Rattle.std.proofs.Common.{◌≡◌, ◌≢◌, ◌<◌, ◌≤◌, ◌⊎◌, inl, inr, ℕ, zero, suc, List, [], ◌∷◌, Result, Ok, Err, Option, Some, None, Vec, length, refl, sym, ap, subst, arith, ◌∙◌, slice_get}
+use Rattle.std.proofs.Common.{◌≡◌, ◌≢◌, ◌<◌, ◌≤◌, inl, inr, ℕ, zero, suc, List, [], ◌∷◌, Ok, Option, Some, None, Vec, length, refl, sym, ap, subst, arith, ◌∙◌, slice_get}
 use Rattle.std.specs.Global.{Global}
 use Rattle.std.specs.List.{AllByRecursion}
 use Rattle.std.proofs.lemmas.Bool.{false≢true}
@@ -13,7 +13,7 @@ use Rattle.lt_live_c.specs.declared.content.Content.{Content}
 use Rattle.lt_live_c.specs.declared.content.Content.TheVariants as contents
 use Rattle.lt_live_c.specs.declared.journal.Journal.{Journal}
 use Rattle.lt_live_c.specs.OwnNode.{OwnNode}
-use Rattle.lt_live_c.specs.Nodes.{bytes_of, unsent, NoFrameWaits, IsOpenedNode, NodeOpenRefused, TellsPending, IsPending}
+use Rattle.lt_live_c.specs.Nodes.{bytes_of, IsOpenedNode, NodeOpenRefused, TellsPending}
 use Rattle.lt_live_c.specs.NodeCalls.{HandleOpenedNode, WithPeer, AtNode, HandleFinishesNode, HandleNotFinishedNode, IsJournalOfOwnNode}
 use Rattle.lt_live_c.specs.Told.{kind_of, IsOfKind}
 use Rattle.lt_live_c.specs.ServicesTold.{client_text, client_script, OfJournal}

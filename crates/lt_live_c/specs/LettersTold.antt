@@ -1,5 +1,5 @@
 -- What C is told of the letters of nodes in processes of their own, in literals.
-use Rattle.std.specs.Prelude.{◌≡◌, ◌≢◌, ◌<◌, ◌≤◌, ◌+◌, ◌^◌, ◌⊎◌, ◌++◌, ◌∷◌, [], ℕ, List, Option, Some, length, take, drop, IsSome}
+use Rattle.std.specs.Prelude.{◌≡◌, ◌≢◌, ◌<◌, ◌≤◌, ◌+◌, ◌⊎◌, ◌++◌, ◌∷◌, [], ℕ, List, Option, Some, None, length, take, drop, IsSome}
 use Rattle.lt_modes.specs.State.{Letter}
 use Rattle.lt_letters.specs.Causes.{IsCause}
 use Rattle.lt_letters.specs.Spelling.{letter_bytes}
@@ -8,7 +8,7 @@ use Rattle.lt_frames.specs.Causes.{BeginWithHead, BeginWithSealed, BeginWithFram
 use Rattle.lt_frames.specs.Frames.{head_bytes, frame_bytes}
 use Rattle.lt_frames.specs.Sealing.{seal_of}
 use Rattle.lt_runner.specs.Choices.{misfit}
-use Rattle.lt_apart.specs.Remote.{RemoteData, brought, given, me, nodes}
+use Rattle.lt_apart.specs.Remote.{brought, given, me, nodes}
 use Rattle.lt_apart.specs.Carrying.{wire_from, wire_to, frames, WaitsForMore}
 use Rattle.lt_apart.specs.Faults.{BeginWithOne}
 use Rattle.lt_live_c.specs.declared.content.Content.{Content}
@@ -132,6 +132,7 @@ TakesFrames code = (code ≢ 4) × (code ≢ 48)
 -- what each code of `lockrun_receive` says
 pub record ReceivesTold : Type 0 where
   pub within : (code : ℕ) → TakesFrames code → AfterReceive code (λ call a b. call.used ≤ length call.bytes)
+  pub fits : (code : ℕ) → TakesFrames code → AfterReceive code (λ call a b. misfit a.remote.station.runner ≡ None)
   pub came_in : (code : ℕ) → TakesFrames code → AfterReceive code CameIn
   pub none_came : (code : ℕ) → TakesFrames code → AfterReceive code (λ call a b.
       call.used ≡ 0 → brought b.remote call.from ≡ brought a.remote call.from)

@@ -1,6 +1,7 @@
 pub mod Handles
 pub mod Calls
 pub mod NewSets
+pub mod KeySets
 pub mod Opening
 pub mod OwnNode
 pub mod Nodes
@@ -14,3 +15,5 @@ pub mod ServicesTold
 pub mod SetsTold
 pub mod NodesTold
 pub mod LettersTold
+pub mod EmptyTold
+pub mod KeysTold

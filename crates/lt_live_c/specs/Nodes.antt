@@ -174,10 +174,12 @@ number_of_fault (faults.Letter fault) = NO_LETTER
 number_of_fault faults.Again = AGAIN
 number_of_fault faults.Missing = MISSING
 
--- the letters of the frames that these bytes begin with came in, and nothing else happened
+-- no letter that came before was one that fits no node; the letters of the frames that these bytes begin with came in,
+-- and nothing else happened
 pub record ReceivesLetters (from used : ℕ) (bytes : List ℕ) (a b : OwnNode) : Type 0 where
   pub brings : BringsIn a.remote.key (wire_from a.remote from) used (brought a.remote from)
       (brought b.remote from) bytes
+  pub fits : misfit a.remote.station.runner ≡ None
   pub only : OnlyBrings from a.remote.far b.remote.far
   pub same : (b.remote.service ≡ a.remote.service) × (b.remote.key ≡ a.remote.key)
       × (b.remote.station ≡ a.remote.station)

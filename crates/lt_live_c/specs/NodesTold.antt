@@ -1,11 +1,11 @@
 -- What C is told of nodes in processes of their own, but for their letters, in literals.
-use Rattle.std.specs.Prelude.{◌≡◌, ◌≢◌, ◌<◌, ◌≤◌, ◌⊎◌, [], ℕ, List, Option, Some, None, Ok, length}
+use Rattle.std.specs.Prelude.{◌≡◌, ◌≢◌, ◌<◌, ◌≤◌, ◌⊎◌, [], ℕ, List, Option, Some, Ok, length}
 use Rattle.lt_modes.specs.Script.{ScriptData}
 use Rattle.lt_frames.specs.Sealing.{service_number}
 use Rattle.lt_journal.specs.RunLines.{text_of}
 use Rattle.lt_script.specs.Printing.{print_of}
 use Rattle.lt_script.specs.Reading.{read_of}
-use Rattle.lt_runner.specs.Kept.{HasAll, AsSeen}
+use Rattle.lt_runner.specs.Kept.{HasAll}
 use Rattle.lt_apart.specs.Remote.{IsOpenRemote, brought, given, me, nodes}
 use Rattle.lt_live_c.specs.declared.content.Content.{Content}
 use Rattle.lt_live_c.specs.declared.content.Content.TheVariants as contents
