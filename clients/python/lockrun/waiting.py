@@ -114,10 +114,10 @@ class Waiter:
 
     def _within(self, command: Command, timeout: Optional[float]) -> Waits:
         """Submits, and gives up once the time is over. What was given up before in the same set may still stand at
-        another node; then it asks again, after pauses that grow."""
+        another node; then it asks again, once all nodes have done what they can, and after pauses that grow."""
         if timeout is not None and not self.nodes.gives_up:
             raise LockError(BAD_ARGUMENT, 'a script of version 2 can give nothing up, so no call has a timeout')
-        end, pause = until(timeout), FIRST_PAUSE
+        end, pause = until(timeout), 0.0
         while True:
             self._submit(command)
             while (code := self._look(command)) is None and not is_over(end):
@@ -125,13 +125,15 @@ class Waiter:
             code = self._give_up(command) if code is None else self._close(command)
             if code != WITHHELD:
                 return code
-            if is_over(end):
+            if pause > 0 and is_over(end):
                 return WITHDRAWN
             again = time.monotonic() + pause
-            again, pause = again if end is None else min(again, end), min(2 * pause, LONGEST_PAUSE)
+            again, pause = again if end is None else min(again, end), min(2 * pause or FIRST_PAUSE, LONGEST_PAUSE)
+            self.asked = command
+            self._help(command)
             while not is_over(again):
-                self._help(command)
                 yield again
+                self._help(command)
             command.again()
 
     def _begin(self) -> None:
@@ -223,6 +225,7 @@ class Waiter:
             else:
                 self._until_known(command)
                 self._close(command)
+        self.asked = None
         if command.grants():
             self._finish(Command(UNLOCK, command.name, command.set, command.first))
 
