@@ -9,9 +9,9 @@ import sys
 import threading
 import time
 
-from lockrun import Nodes, Withdrawn
+from lockrun import Key, Nodes, Withdrawn
 
-THREADS, TASKS, SESSIONS, NODES, KEYS, HOT, FIRST = 40, 24, 20, 2, 100000, 50, 1000
+THREADS, TASKS, SESSIONS, NODES, FAMILIES, KEYS, HOT, FIRST = 40, 24, 20, 2, 4096, 100000, 50, 1000
 SECONDS = float(os.environ.get('LOCKRUN_SECONDS', '5'))
 LONG, WAIT, MOST_SHARE, MOST_GROWTH = 60, 1.0, 0.01, 4 << 20
 MONEY, DONE, FAULTS = [FIRST] * KEYS, {}, []
@@ -25,7 +25,7 @@ def tell(what, count=1):
 def opened():
     """Nodes with so many sessions, and sets for keys."""
     lines = [f'nodes {NODES}', *(f'client c{k} at {k % NODES}' for k in range(SESSIONS))]
-    return Nodes('\n'.join(lines) + '\n', families=6000, members=10)
+    return Nodes('\n'.join(lines) + '\n', families=FAMILIES)
 
 
 def drawn(draw):
@@ -108,10 +108,10 @@ def size():
 
 
 def touch(nodes):
-    """Each account is locked once, so that its set is there."""
+    """Each set of keys is locked once, so that it takes its memory."""
     with nodes.client() as client:
-        for k in range(KEYS):
-            client.lock(nodes[f'account {k}'], 'write', 0).unlock()
+        for number in range(FAMILIES):
+            client.lock(Key(nodes.keys, b'', number), 'write', 0).unlock()
 
 
 def serve(nodes):

@@ -31,8 +31,8 @@ class Guard:
         return f'<lock {self.mode} of {self.name!r}>'
 
     def change(self, mode: str, timeout: Optional[float] = None) -> None:
-        """Changes the mode. It waits until the new one goes with what others hold, or for so many seconds; then it gives
-        up, and Withdrawn is raised. After an exception it has the mode that `mode` says."""
+        """Changes the mode. It waits until the new one goes with what others hold, or for so many seconds; then it
+        gives up, and Withdrawn is raised. After an exception it has the mode that `mode` says."""
         code = self.session.wait_for(self._change_to(mode), timeout)
         if code != CHANGED:
             raise fault_of(code)

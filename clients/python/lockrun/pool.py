@@ -1,6 +1,7 @@
 """Clients that come and go: sessions that are lent and given back."""
 from __future__ import annotations
 
+import threading
 import weakref
 from collections import deque
 from contextlib import closing, suppress
@@ -13,61 +14,71 @@ from .waiting import is_over, until
 from .work import Bell, Sleeper, patience
 
 
+class Place:
+    """One who waits for a session: who sleeps, and where its session is put."""
+
+    def __init__(self, sleeper: Sleeper, taken: List[Handle]) -> None:
+        self.sleeper, self.taken = sleeper, taken
+
+
 class Pool:
-    """The sessions that nobody has. Who waits for one enters itself before it looks a last time, and who gives one
-    back looks for who waits after that, so that no wake-up is lost; who goes away without one passes a ring on."""
+    """The sessions that nobody has, and those who wait for one, in their order. A session goes from one list into
+    another while the interpreter runs nothing else, so no exception, as one of the keyboard, loses it."""
 
     def __init__(self, sessions: List[Handle], session: Callable[[Handle], Session]) -> None:
-        self.free, self.session = sessions, session
+        self.free, self.session, self.one = sessions, session, threading.RLock()
+        self.waiting: Deque[Place] = deque()
         # By each client that is lent: to whom, its session, and where its handle is until it is given back.
         self.out: Dict[int, Tuple[weakref.ref[Lent], Session, List[Handle]]] = {}
-        self.waiting: Deque[Sleeper] = deque()
 
     def withhold(self, handle: Handle) -> None:
         """A session that isn't lent any more."""
-        with suppress(ValueError):
+        with self.one, suppress(ValueError):
             self.free.remove(handle)
 
     def take(self, taken: List[Handle], sleeper: Sleeper, timeout: Optional[float]) -> Generator[float, None, None]:
         """Takes a session. It yields for how long to sleep."""
-        end = until(timeout)
+        end, place = until(timeout), Place(sleeper, taken)
         try:
-            while not self._takes(taken):
-                self.waiting.append(sleeper)
-                if self._takes(taken):
-                    return
+            with self.one:
+                self.waiting.append(place)
+                self._pass_on()
+            while not taken:
                 if is_over(end):
                     raise Withdrawn('no session is free')
                 yield patience(end, len(self.waiting))
-                self._forget(sleeper)
+                self.recover()
         finally:
-            self._forget(sleeper)
-            if self.free:
-                self._ring()
+            with self.one, suppress(ValueError):
+                self.waiting.remove(place)
 
     def give(self, taken: List[Handle]) -> None:
-        """Gives a session back."""
-        with suppress(IndexError):
-            self.free.extend(map(taken.pop, (-1,)))
-        self._ring()
+        """Gives a session back, if there is one."""
+        with self.one:
+            with suppress(IndexError):
+                self.free.extend(map(taken.pop, (-1,)))
+            self._pass_on()
 
-    def _takes(self, taken: List[Handle]) -> bool:
-        """Whether one was free. The interpreter runs nothing between the two lists, so no exception loses it."""
+    def _pass_on(self) -> None:
+        """Gives free sessions to those who wait."""
         if not self.free:
             self.recover()
-        with suppress(IndexError):
-            taken.extend(map(self.free.pop, (-1,)))
-        return bool(taken)
+        while self.free and self.waiting:
+            place = self.waiting[0]
+            if not place.taken:
+                place.taken.extend(map(self.free.pop, (-1,)))
+            place.sleeper.ring()
+            self.waiting.popleft()
 
     def recover(self) -> None:
-        """Takes back what was lent to who is gone: an exception, as one of the keyboard, came just before the end."""
+        """Takes back what was lent to who is gone: an exception came just before its end."""
         for client, (lent, session, taken) in self.out.copy().items():
             if lent() is None:
                 self.take_back(session, taken)
                 self.out.pop(client, None)
 
     def take_back(self, session: Session, taken: List[Handle]) -> None:
-        """Gives a session back that holds nothing any more. If it can't drop its locks, it isn't given to anybody else."""
+        """Gives a session back that holds nothing any more. If it can't drop its locks, nobody else gets it."""
         try:
             if taken:
                 session.abort()
@@ -80,14 +91,6 @@ class Pool:
         finally:
             session.handle = Handle()
             self.give(taken)
-
-    def _forget(self, sleeper: Sleeper) -> None:
-        with suppress(ValueError):
-            self.waiting.remove(sleeper)
-
-    def _ring(self) -> None:
-        with suppress(IndexError):
-            self.waiting.popleft().ring()
 
 
 class Lent:
