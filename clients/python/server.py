@@ -117,8 +117,8 @@ def touch(nodes):
 def serve(nodes):
     """The whole server: by how much memory grew between the middle and the end."""
     end = time.monotonic() + SECONDS
-    threads = [threading.Thread(target=call, args=(nodes, k, end)) for k in range(THREADS)]
-    threads.append(threading.Thread(target=lambda: asyncio.run(call_all(nodes, end))))
+    threads = [threading.Thread(target=lambda: asyncio.run(call_all(nodes, end)))]
+    threads += [threading.Thread(target=call, args=(nodes, k, end)) for k in range(THREADS)]
     for thread in threads:
         thread.start()
     time.sleep(SECONDS / 2)
