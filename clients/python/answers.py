@@ -189,7 +189,9 @@ def calls_of(nodes, guard):
     yield from ((ann.lock, 'a', 'read'), (ann.lock, 'a', 'read', 1), (ann.ask, 'a', 'read'), (ann.try_lock, 'a', 'read'),
                 (ann.drop, 'a', 'ann'), (ann.withdraw, 'a', 'ben'), (ann.left,), (ann.number, 'b'), (guard.unlock,),
                 (guard.change, 'write'), (guard.__exit__,), (nodes.served,), (nodes.turn, 0), (nodes.forget,),
-                (nodes.finish,), (nodes.locks,))
+                (nodes.finish,))
+    if nodes.library.views:
+        yield (nodes.locks,)
 
 
 def ended():
@@ -257,6 +259,9 @@ def viewed():
     ann.lock('b', 'read')
     ann.lock('a', 'write')
     yield fault_of(ben.ask, 'a', 'read', 0), StillWaits
+    if not nodes.library.views:
+        yield fault_of(nodes.locks), NotImplementedError
+        return
     yield nodes.locks().held, [('ann', 'a', 'write', 1), ('ann', 'b', 'read', 2)]
     yield nodes.locks().asked, [('ben', 'a', 'read', 0)]
 

@@ -25,8 +25,8 @@ from .codes import (AGAIN, BAD_ARGUMENT, BAD_SCRIPT, BAD_SEAL, BAD_SET, BUSY, CH
 from .guard import Guard
 from .journal import Journal
 from .keys import Key
-from .library import (AT, BYTES, CLIENTS, COUNT, EXPORTS, NUMBER, SETS, SHARED, SIZE, Clients, Handle, NewSet, bytes_of,
-                      library_path, live, load, new_sets)
+from .library import (AT, BYTES, CLIENTS, COUNT, EXPORTS, FURTHER, NUMBER, SETS, SHARED, SIZE, Clients, Handle, NewSet,
+                      bytes_of, library_path, live, load, new_sets)
 from .nodes import Nodes
 from .script import numbered, version
 from .session import Session
@@ -39,7 +39,7 @@ __all__ = [
     'LOG_FULL', 'MISFIT', 'MISSING', 'MODES', 'NO_LETTER', 'NO_MEMORY', 'NOT_HELD', 'NOTHING', 'OK', 'OTHER_NODE',
     'OTHER_SERVICE', 'OTHER_VERSION', 'SPENT', 'TOO_LONG', 'TOO_MANY', 'TRUE', 'TRY', 'UNLOCK', 'UNLOCKED',
     'WITHDRAW', 'WITHDRAWN', 'WITHHELD', 'WRONG_HANDLE', 'LockError', 'StillWaits', 'Withdrawn', 'fault_of',
-    'number_of', 'said', 'Guard', 'Journal', 'Key', 'AT', 'BYTES', 'CLIENTS', 'COUNT', 'EXPORTS', 'NUMBER', 'SETS',
+    'number_of', 'said', 'Guard', 'Journal', 'Key', 'AT', 'BYTES', 'CLIENTS', 'COUNT', 'EXPORTS', 'FURTHER', 'NUMBER', 'SETS',
     'SHARED', 'SIZE', 'Clients', 'Handle', 'NewSet', 'bytes_of', 'library_path', 'live', 'load', 'new_sets', 'Nodes',
     'numbered', 'version', 'Session', 'Turned', 'Lock', 'Locks',
 ]

@@ -3,14 +3,14 @@ from __future__ import annotations
 
 from typing import List, Optional, Tuple
 
-from .codes import FALSE, GRANTED, LOCK, LOG_FULL, NO_MEMORY, NOTHING, TRUE, TRY
+from .codes import FALSE, GRANTED, LOCK, LOG_FULL, NO_MEMORY, NOTHING, OK, TRUE, TRY
 from .keys import Name
 
 
 def is_submitted(answers: List[int]) -> bool:
     """Whether the call that submits was made and wasn't refused. Its answer is the first one, and a turn of it may
     have found no memory, or no place in the log."""
-    return bool(answers) and (answers[0] >= GRANTED or answers[0] in (NOTHING, NO_MEMORY, LOG_FULL))
+    return bool(answers) and (answers[0] >= GRANTED or answers[0] in (OK, NOTHING, NO_MEMORY, LOG_FULL))
 
 
 class Command:

@@ -1,19 +1,18 @@
 """What nodes did."""
 from __future__ import annotations
 
-import ctypes
 from ctypes import c_size_t, c_uint8
 from typing import Callable
 
 from .codes import said
-from .library import Handle
+from .library import Handle, Library
 
 
 class Journal:
     """The text of the script with all commands, the journal, and how many lines of it say what is held and who
     waits."""
 
-    def __init__(self, library: ctypes.CDLL, handle: Handle) -> None:
+    def __init__(self, library: Library, handle: Handle) -> None:
         held, waiting = c_size_t(), c_size_t()
         said(library.lockrun_end(handle, held, waiting))
         self.held, self.waiting = held.value, waiting.value

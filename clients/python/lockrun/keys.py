@@ -1,11 +1,11 @@
 """Keys that come as they come: each has a set by its hash."""
 from __future__ import annotations
 
-import ctypes
 from typing import Tuple, Union
 
 from . import calls
 from .codes import BAD_ARGUMENT, LockError
+from .library import Library
 
 Word = Union[str, bytes]
 
@@ -14,7 +14,7 @@ class Keys:
     """The families of sets that nodes were opened with for keys: `first` is the number of the first one's root. The
     same key has the same set in each process whose nodes were opened so."""
 
-    def __init__(self, library: ctypes.CDLL, first: int, families: int, members: int) -> None:
+    def __init__(self, library: Library, first: int, families: int, members: int) -> None:
         self.library, self.first, self.families, self.members = library, first, families, members
 
     def key(self, word: Word, parent: Word = b'') -> Key:

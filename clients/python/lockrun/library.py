@@ -15,6 +15,8 @@ SHARED = 'liblockrun.so.1'
 class Handle(ctypes.Structure):
     """A handle of the library; it is never copied."""
     _fields_ = [('at', ctypes.c_void_p)]
+    # Of a station, whether its last turn made a move.
+    moved = False
 
 
 class Clients(ctypes.Structure):
@@ -42,11 +44,6 @@ EXPORTS = {
     'lockrun_take_station': (c_uint32, AT, AT),
     'lockrun_take_session': (c_uint32, AT, AT),
     'lockrun_turn': (c_uint32, AT),
-    'lockrun_turn_telling': (c_uint32, AT, COUNT, CLIENTS),
-    'lockrun_do': (c_uint32, AT, AT, c_uint32, c_uint32, c_uint32, c_uint32, COUNT, COUNT, CLIENTS),
-    'lockrun_rests': (c_uint32, AT),
-    'lockrun_held': (c_uint32, AT, c_uint32, c_uint32, NUMBER, COUNT),
-    'lockrun_asked': (c_uint32, AT, c_uint32, NUMBER, NUMBER),
     'lockrun_forget': (c_uint32, AT),
     'lockrun_submit': (c_uint32, AT, c_uint32, c_uint32, c_uint32, c_uint32),
     'lockrun_poll': (c_uint32, AT, COUNT),
@@ -67,6 +64,14 @@ EXPORTS = {
     'lockrun_pending': (c_uint32, AT, c_uint32),
     'lockrun_node_finish': (c_uint32, AT, AT),
 }
+# Calls without which the module does: `calls` has what it makes of the others then.
+FURTHER = {
+    'lockrun_turn_telling': (c_uint32, AT, COUNT, CLIENTS),
+    'lockrun_do': (c_uint32, AT, AT, c_uint32, c_uint32, c_uint32, c_uint32, COUNT, COUNT, CLIENTS),
+    'lockrun_rests': (c_uint32, AT),
+    'lockrun_held': (c_uint32, AT, c_uint32, c_uint32, NUMBER, COUNT),
+    'lockrun_asked': (c_uint32, AT, c_uint32, NUMBER, NUMBER),
+}
 
 
 def library_path() -> str:
@@ -75,16 +80,22 @@ def library_path() -> str:
     return os.environ.get('LOCKRUN_LIBRARY') or (beside if os.path.exists(beside) else SHARED)
 
 
-def load(path: str) -> ctypes.PyDLL:
+class Library(ctypes.PyDLL):
+    """The library, and whether it has the calls that tell of turns, and those that tell of locks."""
+    tells = views = False
+
+
+def load(path: str) -> Library:
     """The library, with the types of its exports. Each call keeps the interpreter's lock, so that no two calls
     overlap: all of them are short, and none waits."""
     if not getattr(sys, '_is_gil_enabled', lambda: True)():
         raise RuntimeError("lockrun wants the interpreter's lock: start Python with -X gil=1")
-    library = ctypes.PyDLL(path)
-    for name, (result, *arguments) in EXPORTS.items():
-        if hasattr(library, name):
-            call = getattr(library, name)
-            call.restype, call.argtypes = result, arguments
+    library = Library(path)
+    for name, (result, *arguments) in [*EXPORTS.items(), *(row for row in FURTHER.items() if hasattr(library, row[0]))]:
+        call = getattr(library, name)
+        call.restype, call.argtypes = result, arguments
+    library.tells = hasattr(library, 'lockrun_turn_telling') and hasattr(library, 'lockrun_do')
+    library.views = hasattr(library, 'lockrun_held') and hasattr(library, 'lockrun_asked')
     return library
 
 

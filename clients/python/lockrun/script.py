@@ -1,12 +1,12 @@
 """What a script declares, and what is wrong with it."""
 from __future__ import annotations
 
-import ctypes
 import re
 from typing import Dict, List, Optional, Sequence, Tuple
 
 from .calls import first_fault
 from .codes import BAD_SCRIPT, BAD_SET, SCRIPT_FAULTS, LockError
+from .library import Library
 
 Sets = Sequence[Tuple[str, Optional[str]]]
 NAME = re.compile(r'[A-Za-z][A-Za-z0-9_.-]{0,31}')
@@ -36,7 +36,7 @@ def in_version(script: str) -> str:
     return 'version 3\n' * (version(script) == 1) + script
 
 
-def error_of(library: ctypes.CDLL, code: int, script: str, sets: Sets = ()) -> LockError:
+def error_of(library: Library, code: int, script: str, sets: Sets = ()) -> LockError:
     """Why nodes aren't opened with this script and these further sets."""
     found = first_fault(library, in_version(script)) if code == BAD_SCRIPT else None
     if found is not None:

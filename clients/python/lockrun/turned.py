@@ -1,11 +1,10 @@
 """What a session waits by."""
 from __future__ import annotations
 
-import ctypes
 from typing import Callable, Dict, Optional, Protocol
 
 from .calls import Hints
-from .library import Handle
+from .library import Handle, Library
 from .work import Bell
 
 
@@ -41,7 +40,7 @@ class Working(Protocol):
 
 class Turned(Protocol):
     """The nodes of one process, or a node whose other nodes lie in other processes."""
-    library: ctypes.CDLL
+    library: Library
     clients: Dict[str, int]
     sets: Dict[str, int]
     gives_up: bool

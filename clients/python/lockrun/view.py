@@ -1,12 +1,11 @@
 """Who holds what, and who waits for what, by now."""
 from __future__ import annotations
 
-import ctypes
 from typing import List, NamedTuple, Sequence, Tuple, Union
 
 from . import calls
 from .codes import MODES
-from .library import Handle
+from .library import Handle, Library
 
 
 class Lock(NamedTuple):
@@ -24,12 +23,14 @@ class Locks(NamedTuple):
     asked: List[Lock]
 
 
-def view(library: ctypes.CDLL, homes: Sequence[Tuple[Handle, int]], clients: Sequence[str],
+def view(library: Library, homes: Sequence[Tuple[Handle, int]], clients: Sequence[str],
          sets: Sequence[str]) -> Locks:
     """The locks of these clients, each with the station of its node."""
     def name(number: int) -> Union[str, int]:
         return sets[number] if number < len(sets) else number
 
+    if not library.views:
+        raise NotImplementedError('this library does not tell what is held')
     found = Locks([], [])
     for station, client in homes:
         for number, counts in calls.held(library, station, client):

@@ -1,14 +1,13 @@
 """Who turns which nodes, and who sleeps."""
 from __future__ import annotations
 
-import ctypes
 import queue
 import time
 from typing import Callable, Dict, List, Optional, Protocol, Set
 
 from .calls import Hints, turn
 from .codes import LOG_FULL, NO_MEMORY, OK, WRONG_HANDLE, LockError, said
-from .library import Handle, live
+from .library import Handle, Library, live
 
 # The most turns that a caller makes for others before it goes back, and those that it makes before it sleeps.
 FOR_OTHERS, FOR_ITSELF = 64, 1024
@@ -72,7 +71,7 @@ class Work:
     What is told of work may be wrong in time alone: a node that found no place for its letters is looked at again
     after moves of others, and at the latest after a second in which somebody slept."""
 
-    def __init__(self, library: ctypes.CDLL, stations: List[Handle], keep: bool) -> None:
+    def __init__(self, library: Library, stations: List[Handle], keep: bool) -> None:
         self.library, self.stations, self.keep = library, stations, keep
         self.everybody = range(len(stations))
         self.busy: Set[int] = set(self.everybody)
