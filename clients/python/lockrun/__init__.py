@@ -39,7 +39,7 @@ __all__ = [
     'LOG_FULL', 'MISFIT', 'MISSING', 'MODES', 'NO_LETTER', 'NO_MEMORY', 'NOT_HELD', 'NOTHING', 'OK', 'OTHER_NODE',
     'OTHER_SERVICE', 'OTHER_VERSION', 'SPENT', 'TOO_LONG', 'TOO_MANY', 'TRUE', 'TRY', 'UNLOCK', 'UNLOCKED',
     'WITHDRAW', 'WITHDRAWN', 'WITHHELD', 'WRONG_HANDLE', 'LockError', 'StillWaits', 'Withdrawn', 'fault_of',
-    'number_of', 'said', 'Guard', 'Journal', 'Key', 'AT', 'BYTES', 'CLIENTS', 'COUNT', 'EXPORTS', 'FURTHER', 'NUMBER', 'SETS',
-    'SHARED', 'SIZE', 'Clients', 'Handle', 'NewSet', 'bytes_of', 'library_path', 'live', 'load', 'new_sets', 'Nodes',
-    'numbered', 'version', 'Session', 'Turned', 'Lock', 'Locks',
+    'number_of', 'said', 'Guard', 'Journal', 'Key', 'AT', 'BYTES', 'CLIENTS', 'COUNT', 'EXPORTS', 'FURTHER', 'NUMBER',
+    'SETS', 'SHARED', 'SIZE', 'Clients', 'Handle', 'NewSet', 'bytes_of', 'library_path', 'live', 'load', 'new_sets',
+    'Nodes', 'numbered', 'version', 'Session', 'Turned', 'Lock', 'Locks',
 ]
