@@ -3,7 +3,7 @@ from __future__ import annotations
 
 import ctypes
 from ctypes import c_uint32, c_uint64
-from typing import Any, Iterator, List, Optional, Tuple, Union
+from typing import Iterator, List, Optional, Tuple, Union
 
 from .codes import BAD_SCRIPT, NOTHING, OK, said
 from .library import Clients, Handle, Library, bytes_of, live
@@ -108,7 +108,7 @@ def asked(library: Library, station: Handle, client: int) -> Optional[Tuple[int,
     return number.value, mode.value
 
 
-def number_of_set(library: Library, session: Handle, name: str) -> Any:
+def number_of_set(library: Library, session: Handle, name: str) -> Optional[int]:
     """The number of the set with this name, or None."""
     number = c_uint32()
     return number.value if library.lockrun_set(live(session), *bytes_of(name), number) == OK else None

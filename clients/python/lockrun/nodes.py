@@ -40,7 +40,6 @@ class Nodes:
         self.keys = Keys(self.library, len(self.names), families, members)
         self.stations = self._all(self.library.lockrun_take_station)
         self.work = Work(self.library, self.stations, keep)
-        self.hints = calls.Hints()
         self.sessions = [Session(self, session) for session in self._all(self.library.lockrun_take_session)]
         self.pool = Pool([session.handle for session in reversed(self.sessions)], lambda handle: Session(self, handle))
 
@@ -93,7 +92,9 @@ class Nodes:
 
     def turn(self, node: int) -> bool:
         """One turn of a node: whether it made a move."""
-        code = self.work.turn(node, self.hints)
+        code = self.work.turn(node, calls.Hints())
+        if self.work.busy and self.work.sleepers:
+            self.work.hand_over()
         if code not in (OK, NOTHING):
             raise LockError(code)
         return code == OK
