@@ -1,6 +1,6 @@
 #!/usr/bin/env python3
-"""What is answered by keys, by sessions that are lent, by calls in tasks, by nodes that forget or have ended, by faults,
-and by a session that two threads use. The status is 0 if each answer is as it should be."""
+"""What is answered by keys, by sessions that are lent, by calls in tasks, by nodes that forget or have ended, by
+faults, and by a session that two threads use. The status is 0 if each answer is as it should be."""
 import asyncio
 import hashlib
 import sys
@@ -186,8 +186,8 @@ def with_reasons():
 def calls_of(nodes, guard):
     """Each call of a session, and of its nodes."""
     ann = nodes.sessions[0]
-    yield from ((ann.lock, 'a', 'read'), (ann.lock, 'a', 'read', 1), (ann.ask, 'a', 'read'), (ann.try_lock, 'a', 'read'),
-                (ann.drop, 'a', 'ann'), (ann.withdraw, 'a', 'ben'), (ann.left,), (ann.number, 'b'), (guard.unlock,),
+    yield from ((ann.lock, 'a', 'read'), (ann.lock, 'a', 'read', 1), (ann.ask, 'a', 'read'),
+                (ann.try_lock, 'a', 'read'), (ann.drop, 'a', 'ann'), (ann.withdraw, 'a', 'ben'), (ann.left,), (ann.number, 'b'), (guard.unlock,),
                 (guard.change, 'write'), (guard.__exit__,), (nodes.served,), (nodes.turn, 0), (nodes.forget,),
                 (nodes.finish,))
     if nodes.library.views:

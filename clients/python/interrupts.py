@@ -1,6 +1,6 @@
 #!/usr/bin/env python3
-"""Exceptions of the keyboard, at any place of any call: the session goes on after each, no lock is held or asked for that
-nobody knows of, and other threads go on. For LOCKRUN_SECONDS seconds (5). The status is 0 if all of it is so."""
+"""Exceptions of the keyboard, at any place of any call: the session goes on after each, no lock is held or asked for
+that nobody knows of, and other threads go on. For LOCKRUN_SECONDS seconds (5). The status is 0 if all of it is so."""
 import os
 import random
 import signal

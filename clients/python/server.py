@@ -1,7 +1,7 @@
 #!/usr/bin/env python3
-"""As in a server: 64 threads and tasks come and go over 20 sessions, and move money between accounts of 100,000 keys, with
-deadlines and cancels, for LOCKRUN_SECONDS seconds (5). At the end the sum is right, memory stayed flat, and those who
-only wait take next to no processor time. The status is 0 if all of it is so."""
+"""As in a server: 64 threads and tasks come and go over 20 sessions, and move money between accounts of 100,000 keys,
+with deadlines and cancels, for LOCKRUN_SECONDS seconds (5). At the end the sum is right, memory stayed flat, and those
+who only wait take next to no processor time. The status is 0 if all of it is so."""
 import asyncio
 import os
 import random
