@@ -186,10 +186,10 @@ def with_reasons():
 def calls_of(nodes, guard):
     """Each call of a session, and of its nodes."""
     ann = nodes.sessions[0]
-    yield from ((ann.lock, 'a', 'read'), (ann.lock, 'a', 'read', 1), (ann.ask, 'a', 'read'),
-                (ann.try_lock, 'a', 'read'), (ann.drop, 'a', 'ann'), (ann.withdraw, 'a', 'ben'), (ann.left,), (ann.number, 'b'), (guard.unlock,),
-                (guard.change, 'write'), (guard.__exit__,), (nodes.served,), (nodes.turn, 0), (nodes.forget,),
-                (nodes.finish,))
+    yield from ((ann.lock, 'a', 'read'), (ann.lock, 'a', 'read', 1), (ann.ask, 'a', 'read'))
+    yield from ((ann.try_lock, 'a', 'read'), (ann.drop, 'a', 'ann'), (ann.withdraw, 'a', 'ben'), (ann.left,))
+    yield from ((ann.number, 'b'), (guard.unlock,), (guard.change, 'write'), (guard.__exit__,), (nodes.served,))
+    yield from ((nodes.turn, 0), (nodes.forget,), (nodes.finish,))
     if nodes.library.views:
         yield (nodes.locks,)
 
