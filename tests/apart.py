@@ -126,7 +126,7 @@ class Holders:
 def run_node(stream, me, nodes, start, holders, locks, folder):
     """The process of a node: its client takes locks one after the other, and then it serves the others."""
     link = Link(stream, me)
-    link.apart = apart = Apart(script(nodes), me, nodes, KEY, start, link)
+    link.apart = apart = Apart(script(nodes), me, nodes, KEY, start, link, keep=True)
     session, draw = apart.session(f'c{me}'), random.Random(start * 64 + me)
     for _ in range(locks):
         name = draw.randrange(SETS)

@@ -29,6 +29,7 @@ IN_C = {'uint32_t': 'u32', 'uint64_t': 'u64', 'size_t': 'size', 'lockrun_handle 
 IN_RUST = {'u32': 'u32', 'u64': 'u64', 'usize': 'size', '*mut Handle': '*handle', '*const NewSet': '*set', '*const u8': '*u8',
            '*mut u8': '*u8', '*mut u32': '*u32', '*mut u64': '*u64', '*mut usize': '*size', '': None}
 IN_PYTHON = {ctypes.c_uint32: 'u32', ctypes.c_size_t: 'size', lockrun.AT: '*handle', lockrun.SETS: '*set',
+             lockrun.CLIENTS: '*clients',
              lockrun.BYTES: '*u8', lockrun.NUMBER: '*u32', lockrun.SIZE: '*size', None: None}
 # What a command's kind is called outside, by the function that makes it.
 KINDS = {'lock': 'LOCK', 'try_lock': 'TRY', 'unlock': 'UNLOCK', 'change': 'CHANGE', 'drop_locks': 'DROP',
@@ -76,9 +77,10 @@ def of_rust():
 
 
 def of_python():
-    """The same of the Python module, which has no names of arguments."""
+    """The same of the Python module, which has no names of arguments, and does without some calls."""
+    further = {name: kinds for name, kinds in lockrun.FURTHER.items() if name in of_crate()}
     return {name: (IN_PYTHON[result], [(None, IN_PYTHON[kind]) for kind in kinds])
-            for name, (result, *kinds) in lockrun.EXPORTS.items()}
+            for name, (result, *kinds) in {**lockrun.EXPORTS, **further}.items()}
 
 
 def calls_differ(language, found):

@@ -1,8 +1,8 @@
 #!/usr/bin/env python3
 """A bank: callers on threads move money from account to account under locks, and one adds up all accounts.
 
-usage: bank.py CALLERS NODES TRANSFERS SCRIPT JOURNAL: it writes the script of what was asked, and the journal, into these
-files."""
+usage: bank.py CALLERS NODES TRANSFERS SCRIPT JOURNAL: it writes the script of what was asked, and the journal, into
+these files."""
 import sys
 import threading
 import time
@@ -65,7 +65,8 @@ def compare(nodes, commands):
 
 
 def audit(session):
-    """No intention to write goes with a read of the whole bank. It is asked for with little patience, and waited for."""
+    """No intention to write goes with a read of the whole bank. It is asked for with little patience, and waited
+    for."""
     try:
         bank = session.ask('bank', 'read', 0)
     except StillWaits:
@@ -81,7 +82,7 @@ def main():
     if len(sys.argv) != 6:
         sys.exit('usage: bank.py CALLERS NODES TRANSFERS SCRIPT JOURNAL')
     callers, count, transfers = map(int, sys.argv[1:4])
-    nodes = Nodes(script(callers, count))
+    nodes = Nodes(script(callers, count), keep=True)
     compare(nodes, 0)
     each = -(-BETWEEN // callers)
     for first in range(0, transfers, each):

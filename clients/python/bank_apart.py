@@ -1,8 +1,9 @@
 #!/usr/bin/env python3
 """A bank of which each node lies in a process of its own, as clients/c/bank_apart.c, by ZeroMQ.
 
-usage: bank_apart.py FOLDER START TRANSFERS NODE NODES: START is a number that differs from that of each earlier time in this
-folder. It writes the script of what was asked at its node and the lines of the node's moves into FOLDER/part.NODE."""
+usage: bank_apart.py FOLDER START TRANSFERS NODE NODES: START is a number that differs from that of each earlier time
+in this folder. It writes the script of what was asked at its node and the lines of the node's moves into
+FOLDER/part.NODE."""
 import mmap
 import os
 import struct
@@ -17,8 +18,9 @@ WORD = struct.Struct('=q')
 
 
 class Seen:
-    """Words that all processes see, in a file: the money, who is there and done, and of each node the letters that it sent and
-    received. Nothing but the locks keeps callers from each other's money; every other word is written by one process."""
+    """Words that all processes see, in a file: the money, who is there and done, and of each node the letters that it
+    sent and received. Nothing but the locks keeps callers from each other's money; every other word is written by one
+    process."""
 
     def __init__(self, folder):
         size = WORD.size * (ACCOUNTS + 4 * MOST_NODES)
@@ -77,8 +79,8 @@ def audit(session, seen):
 
 
 def serve(apart, seen, phase):
-    """Serves the others until all nodes are in this phase, and all came that was sent: the former is looked at later, and only
-    grows."""
+    """Serves the others until all nodes are in this phase, and all came that was sent: the former is looked at later,
+    and only grows."""
     seen.tell(DONE, apart.me, phase)
     while True:
         apart.serve(MOMENT)
@@ -96,7 +98,7 @@ def main():
         sys.exit('usage: bank_apart.py FOLDER START TRANSFERS NODE NODES')
     folder, start, transfers, me, nodes = sys.argv[1], *map(int, sys.argv[2:])
     seen, carries = Seen(folder), sockets(folder, me, nodes)
-    apart = Apart(script(nodes), me, nodes, KEY, start, carries)
+    apart = Apart(script(nodes), me, nodes, KEY, start, carries, keep=True)
     session = apart.session(f'caller{me}')
     if me == 0:
         for account in range(ACCOUNTS):

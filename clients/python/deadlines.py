@@ -1,9 +1,9 @@
 #!/usr/bin/env python3
-"""Calls that give up: what they leave behind; a ring of three callers that is broken by the time of one; and callers on threads
-with random times on few sets, of whom no two hold locks that conflict, and none is left waiting.
+"""Calls that give up: what they leave behind; a ring of three callers that is broken by the time of one; and callers
+on threads with random times on few sets, of whom no two hold locks that conflict, and none is left waiting.
 
-usage: deadlines.py NODES SCRIPT JOURNAL: the ring and the threads on so many nodes. It writes the script of what the threads
-asked, and the journal, into these files. The status is 0 if each answer is as it should be."""
+usage: deadlines.py NODES SCRIPT JOURNAL: the ring and the threads on so many nodes. It writes the script of what the
+threads asked, and the journal, into these files. The status is 0 if each answer is as it should be."""
 import random
 import sys
 import threading
@@ -43,7 +43,7 @@ def two_locks(session):
 
 def in_time():
     """What is answered by calls with a time, and what should be."""
-    nodes = Nodes('nodes 1\nset a\nset b\nclient ann at 0\nclient ben at 0\n')
+    nodes = Nodes('nodes 1\nset a\nset b\nclient ann at 0\nclient ben at 0\n', keep=True)
     ann, ben = nodes.sessions
     held = ann.lock('a', 'write')
     yield fault_of(ben.lock, 'a', 'read', 0), Withdrawn
@@ -60,8 +60,9 @@ def in_time():
 
 
 def by_others():
-    """Who goes on waiting gives up when it likes, or a neighbour gives it up; and a guard's end gives up what is asked for."""
-    nodes = Nodes('nodes 1\nset a\nset b\nclient ann at 0\nclient ben at 0\n')
+    """Who goes on waiting gives up when it likes, or a neighbour gives it up; and a guard's end gives up what is asked
+    for."""
+    nodes = Nodes('nodes 1\nset a\nset b\nclient ann at 0\nclient ben at 0\n', keep=True)
     ann, ben = nodes.sessions
     held = ann.lock('a', 'write')
     ben.lock('b', 'write')
@@ -89,16 +90,14 @@ class Interrupted(BaseException):
 
 def interrupted():
     """An exception that comes while a session waits leaves nothing asked for."""
-    nodes = Nodes('nodes 1\nset a\nclient ann at 0\nclient ben at 0\n')
+    nodes = Nodes('nodes 1\nset a\nclient ann at 0\nclient ben at 0\n', keep=True)
     ann, ben = nodes.sessions
-    turn_all = nodes.turn_all
 
-    def interrupt():
-        nodes.turn_all = turn_all
+    def interrupt(_):
         raise Interrupted
 
     with ann.lock('a', 'write'):
-        nodes.turn_all = interrupt
+        ben.bell.sleep = interrupt
         try:
             ben.lock('a', 'write')
         except Interrupted:
@@ -108,7 +107,7 @@ def interrupted():
 
 def in_another_version():
     """In a script of version 2 nothing is given up, so that nothing is asked for in so much time."""
-    nodes = Nodes('# old\n\nversion 2\nnodes 1\nset a\nclient ann at 0\nclient ben at 0\n')
+    nodes = Nodes('# old\n\nversion 2\nnodes 1\nset a\nclient ann at 0\nclient ben at 0\n', keep=True)
     ann, ben = nodes.sessions
     with ann.lock('a', 'read_intention_write'):
         yield fault_of(ben.lock, 'a', 'read', 0), BAD_ARGUMENT
@@ -121,7 +120,7 @@ def in_another_version():
 def opened(count, clients):
     """Nodes, sets, and so many clients, one after the other on each node."""
     lines = ['version 3', f'nodes {count}', *(f'set s{k}' for k in range(SETS))]
-    return Nodes('\n'.join(lines + [f'client c{k} at {k % count}' for k in range(clients)]) + '\n')
+    return Nodes('\n'.join(lines + [f'client c{k} at {k % count}' for k in range(clients)]) + '\n', keep=True)
 
 
 def run_all(nodes, call, *arguments):

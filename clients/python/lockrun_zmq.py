@@ -1,5 +1,5 @@
-"""Nodes apart by ZeroMQ, which is package pyzmq: a PAIR socket for each two nodes, without a high-water mark, so that nothing is
-dropped while connections stand.
+"""Nodes apart by ZeroMQ, which is package pyzmq: a PAIR socket for each two nodes, without a high-water mark, so that
+nothing is dropped while connections stand.
 
     transport = Sockets({1: 'tcp://host:5001'}, binds={2: 'tcp://*:5002'})
     apart = Apart(script, me=0, nodes=3, key=key, start=start, transport=transport)
@@ -13,8 +13,8 @@ zmq: Any = import_module('zmq')
 
 
 class Sockets:
-    """The sockets of a node, by the other nodes' numbers and the addresses: it connects to some, and binds those of the others,
-    which connect to it."""
+    """The sockets of a node, by the other nodes' numbers and the addresses: it connects to some, and binds those of
+    the others, which connect to it."""
 
     def __init__(self, connects: Mapping[int, str], binds: Mapping[int, str]) -> None:
         self.context, self.poller = zmq.Context(), zmq.Poller()

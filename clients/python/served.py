@@ -1,7 +1,7 @@
 #!/usr/bin/env python3
-"""What sessions were served so far: before anything, while a client waits, after all nodes have forgotten, and at the end; and
-while one is out, or of what is no service, nothing is told. Nodes that have forgotten have no journal, nor have those of 65,536
-sets. The status is 0 if each answer is as it should be."""
+"""What sessions were served so far: before anything, while a client waits, after all nodes have forgotten, and at the
+end; and while one is out, or of what is no service, nothing is told. Nodes that have forgotten have no journal, nor
+have those of 65,536 sets. The status is 0 if each answer is as it should be."""
 import sys
 from ctypes import c_size_t, c_uint8, c_uint32
 
@@ -37,7 +37,7 @@ def finish(nodes):
 
 def forgetful():
     """What nodes that forget in the middle answer, and what they should."""
-    nodes = Nodes(SCRIPT)
+    nodes = Nodes(SCRIPT, keep=True)
     ann, ben = nodes.sessions
     yield nodes.library.lockrun_forget(ann.handle), WRONG_HANDLE
     held = ann.lock('a', 'read')
@@ -63,7 +63,7 @@ def opens(sets):
 def many_sets():
     """What nodes of 65,536 sets answer, and what they should."""
     sets = [(f's{k}', 's1' if k == 2 else None) for k in range(1, 65536)]
-    nodes = Nodes(SCRIPT, sets=sets)
+    nodes = Nodes(SCRIPT, sets=sets, keep=True)
     ann = nodes.session('ann')
     yield ann.number('a'), 0
     yield ann.number('s65535'), 65535
@@ -80,7 +80,7 @@ def many_sets():
 
 def answers():
     """What is answered, and what should be."""
-    nodes = Nodes(SCRIPT)
+    nodes = Nodes(SCRIPT, keep=True)
     ann, ben = nodes.sessions
     yield nodes.served(), (0, 0)
     yield asked(nodes, nodes.service), (NOTHING, 11, 13)
@@ -91,7 +91,7 @@ def answers():
     held.unlock()
     ben.wait(60).unlock()
     yield nodes.served(), (4, 4)
-    for handle in [station for station, _ in nodes.stations] + [ann.handle]:
+    for handle in nodes.stations + [ann.handle]:
         yield nodes.library.lockrun_give(nodes.service, handle), OK
     yield asked(nodes, nodes.service), (NOTHING, 11, 13)
     yield nodes.library.lockrun_give(nodes.service, ben.handle), OK
