@@ -1,7 +1,8 @@
 //! A node in a process of its own: all other nodes lie in other processes, and a carrier takes bytes between them.
 use crate::error::{check, Error};
 use crate::exports::{self, Handle};
-use crate::nodes::{read_journal, take_all, with_version, Journal};
+use crate::journal::{read_journal, Journal};
+use crate::opening::{fault_of, take_all, with_version};
 use crate::session::Mode;
 use std::time::{Duration, Instant};
 
@@ -91,14 +92,28 @@ impl<C: Carrier> Apart<C> {
     /// assert_eq!((apart.sent, apart.received), (0, 0));
     /// # Ok::<(), lockrun::Error>(())
     /// ```
-    pub fn open(script: &str, place: Place<'_>, limit: u64, carrier: C) -> Result<Apart<C>, Error> {
-        let script = with_version(script);
-        let (text, length, key, mut node) = (script.as_ptr(), script.len(), place.key, Handle::NONE);
+    pub fn open(text: &str, place: Place<'_>, limit: u64, carrier: C) -> Result<Apart<C>, Error> {
+        let script = with_version(text);
+        let (key, mut node) = (place.key, Handle::NONE);
         let (place_of, start) = (place.me, place.start);
         // SAFETY: the text and the key are borrowed for the call, and the handle stands for nothing.
-        check(unsafe {
-            exports::lockrun_node_open(text, length, place_of, key.as_ptr(), key.len(), start, limit, 4, &mut node)
-        })?;
+        let code = unsafe {
+            exports::lockrun_node_open(
+                script.as_ptr(),
+                script.len(),
+                place_of,
+                key.as_ptr(),
+                key.len(),
+                start,
+                limit,
+                4,
+                &mut node,
+            )
+        };
+        match code {
+            exports::BAD_SCRIPT => return Err(Error::BadScript(fault_of(text))),
+            code => check(code)?,
+        }
         let sessions = take_all(&mut node, exports::lockrun_take_session)?;
         let came = vec![Vec::new(); place.nodes as usize];
         Ok(Apart { node, sessions, me: place.me, came, frames: vec![0; ROOM], carrier, sent: 0, received: 0 })

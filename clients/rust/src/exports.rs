@@ -11,6 +11,8 @@ pub struct Handle {
 
 // SAFETY: it is proved of the library's handle that it may go from thread to thread.
 unsafe impl Send for Handle {}
+// SAFETY: each call of the library wants the handle alone, by `&mut`; a shared one tells no more than whether it is none.
+unsafe impl Sync for Handle {}
 
 /// A further set, by its name and that of its parent.
 #[repr(C)]
@@ -19,6 +21,13 @@ pub struct NewSet {
     pub length: usize,
     pub parent: *const u8,
     pub parent_length: usize,
+}
+
+/// A bit for each client.
+#[repr(C)]
+#[derive(Clone, Copy, Default)]
+pub struct Clients {
+    pub bits: [u64; 16],
 }
 
 extern "C" {
@@ -32,9 +41,41 @@ extern "C" {
         places: u32,
         service: *mut Handle,
     ) -> u32;
+    pub fn lockrun_open_keys(
+        text: *const u8,
+        length: usize,
+        families: u32,
+        members: u32,
+        limit: u64,
+        places: u32,
+        service: *mut Handle,
+    ) -> u32;
+    pub fn lockrun_key(
+        first: u32,
+        families: u32,
+        members: u32,
+        parent: *const u8,
+        parent_length: usize,
+        key: *const u8,
+        length: usize,
+        set: *mut u32,
+    ) -> u32;
+    pub fn lockrun_fault(text: *const u8, length: usize, line: *mut u64, fault: *mut u32) -> u32;
     pub fn lockrun_take_station(service: *mut Handle, station: *mut Handle) -> u32;
     pub fn lockrun_take_session(service: *mut Handle, session: *mut Handle) -> u32;
     pub fn lockrun_turn(station: *mut Handle) -> u32;
+    pub fn lockrun_turn_telling(station: *mut Handle, sent: *mut u64, told: *mut Clients) -> u32;
+    pub fn lockrun_do(
+        station: *mut Handle,
+        session: *mut Handle,
+        kind: u32,
+        set: u32,
+        first: u32,
+        second: u32,
+        count: *mut u64,
+        sent: *mut u64,
+        told: *mut Clients,
+    ) -> u32;
     pub fn lockrun_forget(station: *mut Handle) -> u32;
     pub fn lockrun_submit(session: *mut Handle, kind: u32, set: u32, first: u32, second: u32) -> u32;
     pub fn lockrun_poll(session: *mut Handle, count: *mut u64) -> u32;
