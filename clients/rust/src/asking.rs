@@ -111,8 +111,8 @@ impl Session {
         }
     }
 
-    /// Gives up what it waits for, and then drops all locks that it was granted and whose guards were forgotten, family by family:
-    /// how many they were.
+    /// Gives up what it waits for, and then drops all locks that it was granted and whose guards were forgotten, family by
+    /// family: how many they were.
     ///
     /// ```
     /// # use lockrun::Mode;

@@ -84,8 +84,8 @@ impl<'s> Guard<'s> {
         self.session.lock_async(set, mode)
     }
 
-    /// Changes the mode: so an upgrade becomes a write. It waits until the new mode goes with what others hold. After an error it has
-    /// the mode that it had.
+    /// Changes the mode: so an upgrade becomes a write. It waits until the new mode goes with what others hold. After an error
+    /// it has the mode that it had.
     ///
     /// ```
     /// # use lockrun::Mode;
@@ -148,7 +148,8 @@ impl<'s> Guard<'s> {
         Changing::new(self, mode)
     }
 
-    /// Goes on to another set, hand over hand: takes a lock there, and then gives the one up that it had. After an error it has that.
+    /// Goes on to another set, hand over hand: takes a lock there, and then gives up the one that it had. After an error it has
+    /// that one.
     ///
     /// ```
     /// # use lockrun::Mode;

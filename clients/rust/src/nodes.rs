@@ -35,16 +35,17 @@ const PAUSE: Duration = Duration::from_millis(1);
 /// ```
 pub struct Nodes {
     service: Handle,
-    stations: Arc<Stations>,
-    clients: usize,
+    pub(crate) stations: Arc<Stations>,
+    /// The node of each client.
+    pub(crate) homes: Vec<usize>,
     keeps: bool,
     pub(crate) keys: Keys,
     pub(crate) pool: Pool,
 }
 
 impl Nodes {
-    pub(crate) fn new(service: Handle, stations: Arc<Stations>, clients: usize, keys: Keys, keeps: bool) -> Nodes {
-        Nodes { service, stations, clients, keeps, keys, pool: Pool::default() }
+    pub(crate) fn new(service: Handle, stations: Arc<Stations>, homes: Vec<usize>, keys: Keys, keeps: bool) -> Nodes {
+        Nodes { service, stations, homes, keeps, keys, pool: Pool::default() }
     }
 
     /// Lets each node forget its moves and commands: their memory serves further ones. Then they have no journal. Other
@@ -72,10 +73,10 @@ impl Nodes {
     /// # Ok::<(), lockrun::Error>(())
     /// ```
     pub fn served(&mut self, sessions: &mut [Session]) -> Result<Served, Error> {
-        let Nodes { service, stations, clients, pool, .. } = self;
+        let Nodes { service, stations, homes, pool, .. } = self;
         let mut sessions: Vec<&mut Session> = sessions.iter_mut().chain(pool.sessions()).collect();
         sessions.sort_by_key(|session| session.client());
-        if !are_all(stations, *clients, sessions.iter().map(|session| &**session)) {
+        if !are_all(stations, homes.len(), sessions.iter().map(|session| &**session)) {
             return Err(Error::OtherSessions);
         }
         // No other thread has one: each that turns nodes has a session.
@@ -109,7 +110,7 @@ impl Nodes {
     pub fn finish(mut self, mut sessions: Vec<Session>) -> Result<Journal, Error> {
         sessions.extend(self.pool.into_sessions());
         sessions.sort_by_key(Session::client);
-        if !are_all(&self.stations, self.clients, sessions.iter()) {
+        if !are_all(&self.stations, self.homes.len(), sessions.iter()) {
             return Err(Error::OtherSessions);
         }
         if !self.keeps {

@@ -36,8 +36,8 @@ pub struct Opening<'a> {
 }
 
 impl<'a> Opening<'a> {
-    /// The nodes, sets and clients of a script. Its nodes forget their moves now and then, each so many, so that their memory doesn't
-    /// grow with what they did.
+    /// The nodes, sets and clients of a script. Its nodes forget their moves now and then, so that their memory doesn't grow
+    /// with what they did.
     ///
     /// ```
     /// let (_nodes, sessions) = lockrun::Opening::new("nodes 1\nset a\nclient ann at 0\n").open()?;
@@ -113,9 +113,11 @@ impl<'a> Opening<'a> {
         let stations = take_all(&mut service, exports::lockrun_take_station)?;
         let sessions = take_all(&mut service, exports::lockrun_take_session)?;
         let stations = Arc::new(Stations::new(stations, sessions.len(), !self.keeps));
-        let nodes = Nodes::new(service, stations.clone(), sessions.len(), self.keys, self.keeps);
         let gives_up = version(self.script) != 2;
-        Ok((nodes, sessions.into_iter().map(|raw| Session::new(raw, stations.clone(), gives_up)).collect()))
+        let sessions: Vec<Session> =
+            sessions.into_iter().map(|raw| Session::new(raw, stations.clone(), gives_up)).collect();
+        let homes = sessions.iter().map(|session| session.waiter.home).collect();
+        Ok((Nodes::new(service, stations, homes, self.keys, self.keeps), sessions))
     }
 
     /// The nodes, with all sessions in their pool: see [`Nodes::client`].

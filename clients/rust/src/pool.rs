@@ -124,8 +124,8 @@ impl Pool {
     }
 }
 
-/// A session of the pool: it holds and asks nothing at first, and when it is dropped it gives up what it asks and holds then, and is
-/// another one's. It is used as the session is.
+/// A session of the pool: it holds and asks nothing at first. When it is dropped it gives up what it asks and holds then, and
+/// somebody else may have it. It is used as the session is.
 #[must_use = "a client that isn't kept is given back at once"]
 pub struct Client<'n> {
     // Until it is dropped.

@@ -20,8 +20,8 @@ pub enum Mode {
     Write,
 }
 
-/// The session of one client. If it is dropped its locks stay held; a [`Client`](crate::Client) gives them up. No two of them are in
-/// one line of the caches.
+/// The session of one client. If it is dropped its locks stay held; a [`Client`](crate::Client) gives them up. No two of them
+/// are in one line of the caches.
 ///
 /// One thread at a time uses it:
 ///
@@ -142,8 +142,8 @@ impl Session {
         }
     }
 
-    /// A future that asks for the lock once it is polled. Any executor can poll it. If it is dropped before it is ready it gives up:
-    /// then nothing is asked for.
+    /// A future that asks for the lock once it is polled. Any executor can poll it. If it is dropped before it is ready it gives
+    /// up: then nothing is asked for.
     ///
     /// ```
     /// # use lockrun::Mode;

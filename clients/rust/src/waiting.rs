@@ -34,7 +34,7 @@ pub(crate) struct Waiter {
     pub raw: Handle,
     pub stations: Arc<Stations>,
     pub client: u32,
-    home: usize,
+    pub home: usize,
     // Whether the script is of version 3, which alone knows how to give up.
     gives_up: bool,
     // The command whose reply is still to come, and whether that to a withdraw of it is to come too.

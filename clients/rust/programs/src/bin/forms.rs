@@ -1,7 +1,8 @@
 //! All forms of locks: at once, within a time, for ever, and for tasks, on one node and on four; what a future that is dropped
 //! leaves behind; a pool of clients; keys; and errors with their reasons.
 use lockrun::{
-    block_on, open, open_sets, BadSet, Client, Error, Fault, Guard, Mode, NewSet, Nodes, Opening, Session, WhySet,
+    block_on, open, open_sets, BadSet, Client, Error, Fault, Guard, Holds, Locks, Mode, NewSet, Nodes, Opening,
+    Session, Waits, WhySet,
 };
 use std::future::Future;
 use std::pin::Pin;
@@ -66,7 +67,7 @@ fn at_once(count: usize) -> Result<(), Error> {
     Ok(())
 }
 
-// A task is woken once the lock is its; one that is dropped asks for nothing, and changes nothing.
+// A task is woken once the lock is its; one that is dropped asks for nothing.
 fn tasks(count: usize) -> Result<(), Error> {
     let (_nodes, mut ann, mut ben) = two(count);
     let woken = Arc::new(Woken(AtomicUsize::new(0)));
@@ -78,12 +79,27 @@ fn tasks(count: usize) -> Result<(), Error> {
     assert!(woken.0.load(SeqCst) > 0);
     let Poll::Ready(granted) = poll_once(&mut waits, &woken) else { panic!("it was woken for nothing") };
     drop(waits);
-    let mut held = granted?;
+    let held = granted?;
     drop(Box::pin(ann.lock_async(0, Mode::Read)));
     let mut waits = Box::pin(ann.lock_async(0, Mode::Read));
     assert!(poll_once(&mut waits, &woken).is_pending());
     drop(waits);
-    held.change(Mode::Upgrade)?;
+    drop(held);
+    // Granted in the meantime, and dropped before it was looked at.
+    let held = ann.lock(0, Mode::Write)?;
+    let mut waits = Box::pin(ben.lock_async(0, Mode::Write));
+    assert!(poll_once(&mut waits, &woken).is_pending());
+    drop(held);
+    drop(waits);
+    drop(ann.lock_within(0, Mode::Write, AT_ONCE)?);
+    Ok(())
+}
+
+// A change, or a step to another set, that is dropped leaves the lock as it was.
+fn dropped_changes(count: usize) -> Result<(), Error> {
+    let (_nodes, mut ann, mut ben) = two(count);
+    let woken = Arc::new(Woken(AtomicUsize::new(0)));
+    let mut held = ben.lock(0, Mode::Upgrade)?;
     let mut reads = block_on(ann.lock_async(0, Mode::Read))?;
     let mut waits = Box::pin(held.change_async(Mode::Write));
     assert!(poll_once(&mut waits, &woken).is_pending());
@@ -98,13 +114,8 @@ fn tasks(count: usize) -> Result<(), Error> {
     drop(block_on(held.and_async(1, Mode::Read))?);
     drop(reads);
     drop(held);
-    // Granted in the meantime, and dropped before it was looked at.
-    let held = ann.lock(0, Mode::Write)?;
-    let mut waits = Box::pin(ben.lock_async(0, Mode::Write));
-    assert!(poll_once(&mut waits, &woken).is_pending());
-    drop(held);
-    drop(waits);
     drop(ann.lock_within(0, Mode::Write, AT_ONCE)?);
+    drop(ann.lock_within(1, Mode::Write, AT_ONCE)?);
     Ok(())
 }
 
@@ -190,7 +201,7 @@ fn keys() -> Result<(), Error> {
 
 fn reasons() -> Result<(), Error> {
     let Some(Error::BadScript(fault)) = open("nodes 1\nset a\nset 9s\n", 1 << 20).err() else { panic!("a fault") };
-    assert!(fault == (Fault { line: 3, number: 6 }) || std::env::var_os("LOCKRUN_STUB").is_some());
+    assert_eq!(fault, Fault { line: 3, number: 6 });
     assert_eq!(Fault { line: 3, number: 6 }.to_string(), "line 3 of the script declares a word that is no name (S6)");
     let script = "nodes 1\nset a\nclient ann at 0\n";
     let refused = |name, parent| {
@@ -212,17 +223,36 @@ fn reasons() -> Result<(), Error> {
     Ok(())
 }
 
+// Who holds what, and who waits, of two nodes.
+fn view() -> Result<(), Error> {
+    let (nodes, mut ann, mut ben) = two(2);
+    let mut held = ann.lock(1, Mode::Read)?;
+    std::mem::forget(held.and(1, Mode::Read)?);
+    assert_eq!(ben.ask(1, Mode::Write, SHORT).err(), Some(Error::StillWaits));
+    let locks = nodes.locks();
+    assert_eq!(locks.held, [Holds { client: 0, set: 1, mode: Mode::Read, count: 2 }]);
+    assert_eq!(locks.waiting, [Waits { client: 1, set: 1, mode: Mode::Write }]);
+    drop(held);
+    assert_eq!(nodes.locks().held, [Holds { client: 0, set: 1, mode: Mode::Read, count: 1 }]);
+    assert_eq!(ann.abort()?, 1);
+    drop(ben.wait(LONG)?);
+    assert_eq!(nodes.locks(), Locks::default());
+    Ok(())
+}
+
 fn main() -> Result<(), Error> {
     goes_to_threads::<(Guard, Session, Client, Nodes)>();
     is_shared::<Nodes>();
     for count in [1, 2, 4] {
         at_once(count)?;
         tasks(count)?;
+        dropped_changes(count)?;
         in_turn(count)?;
     }
     pool()?;
     keys()?;
     reasons()?;
+    view()?;
     println!("forms: it is as it should be");
     Ok(())
 }
