@@ -15,8 +15,12 @@ fn main() -> Result<(), Error> {
     let nodes = Opening::new(script).keys(1 << 16, 1).open_pool()?;
     scope(|scope| {
         let nodes = &nodes;
-        let visits: Vec<_> = (0..8).map(|visitor| scope.spawn(move || visit(nodes, visitor))).collect();
-        visits.into_iter().try_for_each(|visit| visit.join().expect("no visitor panics"))
+        let visits: Vec<_> = (0..8)
+            .map(|visitor| scope.spawn(move || visit(nodes, visitor)))
+            .collect();
+        visits
+            .into_iter()
+            .try_for_each(|visit| visit.join().expect("no visitor panics"))
     })?;
     println!("8 visitors came and went");
     Ok(())

@@ -90,7 +90,8 @@ impl BadSet {
             }
             names.insert(set.name);
         }
-        BadSet::NONE
+        // The names of keys' sets are the library's own.
+        BadSet { why: WhySet::NameAgain, ..BadSet::NONE }
     }
 }
 

@@ -6,7 +6,7 @@ use std::cell::UnsafeCell;
 use std::ops::{Deref, DerefMut};
 use std::sync::atomic::{AtomicBool, Ordering::SeqCst};
 
-/// So many turns are made at most before the station is let go.
+/// So many turns are made at most before the station is let go. A ring of letters between two nodes has as many places.
 const TURNS: u32 = 64;
 
 /// A node that forgets does it each so many turns, so that each turn has a small part of it.
@@ -18,6 +18,8 @@ pub(crate) struct Turned {
     // How many turns were made since the node forgot.
     turns: u32,
     forgets: bool,
+    // Whether calls of clients made turns since other turns were made.
+    was_called: bool,
 }
 
 /// How turns ended.
@@ -47,7 +49,10 @@ pub(crate) struct Claim<'s>(&'s Station);
 
 impl Station {
     pub fn new(handle: Handle, forgets: bool) -> Station {
-        Station { claimed: AtomicBool::new(false), turned: UnsafeCell::new(Turned { handle, turns: 0, forgets }) }
+        Station {
+            claimed: AtomicBool::new(false),
+            turned: UnsafeCell::new(Turned { handle, turns: 0, forgets, was_called: false }),
+        }
     }
 
     /// The station, if no other thread has it.
@@ -88,21 +93,23 @@ impl Drop for Claim<'_> {
 }
 
 impl Turned {
-    /// Makes turns until one finds nothing to do, but not for long; and how many they were.
-    pub fn turn(&mut self, heard: &mut Heard) -> (Ended, u32) {
-        for turns in 0..TURNS {
+    /// Makes turns until one finds nothing to do, but not for long; and whether rings that were full may have places since.
+    pub fn turn(&mut self, heard: &mut Heard) -> (Ended, bool) {
+        let was_called = std::mem::take(&mut self.was_called);
+        for _ in 0..TURNS {
             match calls::turn(&mut self.handle, heard) {
                 exports::OK => self.count(),
-                exports::LOG_FULL => return (Ended::Full, turns),
-                exports::NO_MEMORY => return (Ended::NoMemory, turns),
-                _ => return (Ended::Quiet, turns),
+                exports::LOG_FULL => return (Ended::Full, was_called),
+                exports::NO_MEMORY => return (Ended::NoMemory, was_called),
+                _ => return (Ended::Quiet, was_called),
             }
         }
-        (Ended::Moved, TURNS)
+        (Ended::Moved, true)
     }
 
     /// Submits a command of a session of this node and makes turns until the reply is there, or none is to come yet.
     pub fn submit_and_turn(&mut self, session: &mut Handle, asked: Asked, heard: &mut Heard) -> (u32, u64) {
+        self.was_called = true;
         self.count();
         calls::submit_and_turn(&mut self.handle, session, asked, heard)
     }

@@ -1,29 +1,27 @@
 //! All stations, and who turns them: whoever made work for a node, until no node has any.
 //!
-//! Who makes work is who sees it done. Whoever submits a command, or makes a turn that sends a letter to a node, marks that
-//! node's word, and then turns each marked node that no other thread has. So a client that waits need not turn anything, and
-//! sleeps until it is told. No wake-up is lost, by the order of these steps, each of which is sequentially consistent:
+//! Whoever submits a command, or makes a turn that sends a letter to a node, marks that node, and then turns each marked node
+//! that no other thread has. So a client that waits need not turn anything, and sleeps until it is told. No wake-up is lost, by
+//! the order of these steps, each of which is sequentially consistent:
 //!
-//! - A node is marked after what it has to do is in its ring. Its word is cleared by who has claimed the station, before the
-//!   turns: what comes later marks it again. Who finds the station claimed leaves the mark. Who lets a station go looks at the
-//!   word after that, so that either the former found it free, or the latter finds the mark.
+//! - A node is marked after what it has to do is in its ring. The mark is cleared by who has claimed the station, before the turns,
+//!   which so find what was in the ring; what comes later marks it again. Who finds the station claimed leaves the mark. Who lets a
+//!   station go looks at the mark after that. So either the former found it free, or the latter finds the mark.
 //! - A client says that it sleeps, then looks whether nodes are marked and whether it was told, and then sleeps. Who puts a reply
 //!   into its ring then notes that it was told, and then looks whether it sleeps. So one of both sees what the other did.
 //! - A call that had its reply at once may leave nodes marked, but only if it finds, after it marked them and let its station go,
 //!   that nobody waits. Who is about to wait counts itself first, and then turns all nodes that are marked.
-//! - A ring of letters may be full. Then the sender keeps the letter, and nothing marks it once there is a place. To make that
-//!   place the taker made as many turns as the ring has places, so that after so many all other nodes are marked.
+//! - A ring of letters may be full. Then the sender keeps the letter, and is to be turned once there is a place. To make it
+//!   the taker made as many turns as the ring has places, in one claim, or some of them in a call of its own clients. So who
+//!   ends such a claim marks those whose letters had marked the node.
 use crate::calls::{bits_of, Heard};
 use crate::exports::{self, Handle};
 use crate::seat::Seat;
 use crate::station::{Claim, Ended, Station};
 use crate::waiting::Asked;
-use std::sync::atomic::{AtomicBool, AtomicUsize, Ordering::SeqCst};
+use std::sync::atomic::{AtomicBool, AtomicU64, AtomicUsize, Ordering::SeqCst};
 use std::thread::{sleep, yield_now};
 use std::time::Duration;
-
-/// How many places a ring of letters between two nodes has: who emptied a full one made as many turns.
-const PLACES: u32 = 64;
 
 /// So often one caller turns nodes in one call before it leaves what is left to those who sleep.
 const ROUNDS: u32 = 1024;
@@ -38,8 +36,8 @@ struct Alone<T>(T);
 
 pub(crate) struct Stations {
     stations: Vec<Station>,
-    // Whether a node may have something to do.
-    marks: Vec<Alone<AtomicBool>>,
+    // What a node may have to do: letters of each node whose bit is set, and commands or further turns if its own bit is.
+    marks: Vec<Alone<AtomicU64>>,
     seats: Vec<Seat>,
     waiting: Alone<AtomicUsize>,
     is_full: Alone<AtomicBool>,
@@ -74,24 +72,38 @@ impl Stations {
         self.is_full.0.load(SeqCst)
     }
 
-    /// A node may have something to do.
+    /// A command is in a ring of the node.
     pub fn mark(&self, node: usize) {
-        let mark = &self.marks[node].0;
-        if !mark.load(SeqCst) {
-            mark.store(true, SeqCst);
+        self.mark_from(node, node);
+    }
+
+    // A letter of the node `from` is in a ring of this node. It is no look and then a write: so who clears the mark sees the letter.
+    fn mark_from(&self, node: usize, from: usize) {
+        self.marks[node].0.fetch_or(1 << from, SeqCst);
+    }
+
+    // The node has further turns to make. Its station is claimed, so that nobody clears the mark meanwhile.
+    fn mark_claimed(&self, node: usize, senders: u64) {
+        let (mark, own) = (&self.marks[node].0, senders | 1 << node);
+        if mark.load(SeqCst) & own != own {
+            mark.fetch_or(own, SeqCst);
         }
     }
 
-    /// Submits a command and turns its node, if no other thread has that: the code and the count. If the reply isn't there yet the
-    /// caller waits for it.
+    fn is_marked(&self, node: usize) -> bool {
+        self.marks[node].0.load(SeqCst) != 0
+    }
+
+    /// Submits a command and turns its node, if no other thread has that: the code and the count. If the reply isn't there yet
+    /// the caller waits for it.
     pub fn submit_and_turn(&self, client: u32, home: usize, session: &mut Handle, asked: Asked) -> Option<(u32, u64)> {
         let mut heard = Heard::default();
         let mut claim = self.stations[home].claim()?;
         let (code, count) = claim.submit_and_turn(session, asked, &mut heard);
         // A letter of the last move may still wait at the station.
-        self.mark(home);
+        self.mark_claimed(home, 0);
         drop(claim);
-        self.pass_on(&heard, Some(client as usize));
+        self.pass_on(home, &heard, Some(client as usize));
         if code == exports::LOG_FULL {
             self.end_of_moves();
         }
@@ -103,9 +115,10 @@ impl Stations {
 
     /// Turns all nodes that have something to do: whether none had at the end, and no other thread was turning one.
     pub fn help_all(&self) -> bool {
-        let marked = |node: &usize| self.marks[*node].0.load(SeqCst);
-        self.help((0..self.stations.len()).filter(marked).fold(0, |nodes, node| nodes | 1 << node));
-        (0..self.stations.len()).all(|node| !marked(&node) && !self.stations[node].is_claimed())
+        let nodes = 0..self.stations.len();
+        let marked = nodes.clone().filter(|&node| self.is_marked(node)).fold(0, |marked, node| marked | 1 << node);
+        self.help(marked);
+        nodes.into_iter().all(|node| !self.is_marked(node) && !self.stations[node].is_claimed())
     }
 
     // Turns these nodes, and those that they send letters to.
@@ -123,8 +136,7 @@ impl Stations {
 
     // Turns a node, if it has something to do and no other thread has it: the nodes that have something to do then.
     fn turn(&self, node: usize) -> u64 {
-        let mark = &self.marks[node].0;
-        if !mark.load(SeqCst) {
+        if !self.is_marked(node) {
             return 0;
         }
         let mut claim = match self.stations[node].claim() {
@@ -132,16 +144,17 @@ impl Stations {
             None => return 0,
         };
         let mut heard = Heard::default();
-        mark.swap(false, SeqCst);
-        let (ended, turns) = claim.turn(&mut heard);
+        let senders = self.marks[node].0.swap(0, SeqCst) & !(1 << node);
+        let (ended, made_places) = claim.turn(&mut heard);
         if ended == Ended::Moved || ended == Ended::NoMemory {
-            mark.store(true, SeqCst);
+            self.mark_claimed(node, senders);
         }
         drop(claim);
-        self.pass_on(&heard, None);
+        self.pass_on(node, &heard, None);
+        let kept = if made_places { senders } else { 0 };
+        bits_of(kept).for_each(|sender| self.mark(sender));
         self.after(ended);
-        let others = if turns >= PLACES { self.mark_all() } else { 0 };
-        others | heard.sent & self.all() | u64::from(mark.load(SeqCst)) << node
+        kept | heard.sent & self.all() | u64::from(self.is_marked(node)) << node
     }
 
     fn after(&self, ended: Ended) {
@@ -162,9 +175,9 @@ impl Stations {
         u64::MAX >> (64 - self.stations.len())
     }
 
-    // Marks the nodes that were sent letters, and wakes the clients that were told, but not this one.
-    fn pass_on(&self, heard: &Heard, client: Option<usize>) {
-        bits_of(heard.sent & self.all()).for_each(|node| self.mark(node));
+    // Marks the nodes that this one sent letters to, and wakes the clients that it told, but not this client.
+    fn pass_on(&self, from: usize, heard: &Heard, client: Option<usize>) {
+        bits_of(heard.sent & self.all()).for_each(|node| self.mark_from(node, from));
         heard
             .clients()
             .filter(|&told| Some(told) != client)

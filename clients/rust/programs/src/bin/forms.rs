@@ -194,6 +194,8 @@ fn keys() -> Result<(), Error> {
     let whose = ann.client();
     assert_eq!(nodes.client()?.drop_locks(root, whose)?, 2);
     assert_eq!(Opening::new("nodes 1\nclient ann at 0\n").keys(1 << 16, 2).open_pool().err(), Some(Error::TooMany));
+    let taken = Opening::new("nodes 1\nset key.00000\nclient ann at 0\n").keys(2, 2).open_pool();
+    assert_eq!(taken.err(), Some(Error::BadSet(BadSet { place: 0, why: WhySet::NameAgain })));
     let (none, _sessions) = open("nodes 1\nset a\nclient ann at 0\n", 1 << 20)?;
     assert_eq!(none.key("users"), Err(Error::BadArgument));
     Ok(())
