@@ -11,11 +11,6 @@ pub(crate) struct Heard {
 }
 
 impl Heard {
-    /// The clients, in order.
-    pub fn clients(&self) -> impl Iterator<Item = usize> + '_ {
-        self.told.bits.iter().enumerate().flat_map(|(place, &bits)| bits_of(bits).map(move |bit| 64 * place + bit))
-    }
-
     fn add(&mut self, sent: u64, told: &Clients) {
         self.sent |= sent;
         self.told.bits.iter_mut().zip(&told.bits).for_each(|(all, some)| *all |= some);
@@ -41,19 +36,18 @@ pub(crate) fn turn(station: &mut Handle, heard: &mut Heard) -> u32 {
 }
 
 /// Submits a command, turns the station while it makes moves and no reply is known, and polls: the reply and its count, or what
-/// else the call answers.
+/// else the call answers. Nothing was heard before.
 pub(crate) fn submit_and_turn(
     station: &mut Handle,
     session: &mut Handle,
     asked: Asked,
     heard: &mut Heard,
 ) -> (u32, u64) {
-    let (mut count, mut sent, mut told) = (0, 0, Clients::default());
+    let mut count = 0;
     let Asked { kind, set, first, second } = asked;
+    let (sent, told) = (&mut heard.sent, &mut heard.told);
     // SAFETY: two handles, each of which stands for something, and `&mut` gives them to one call at a time.
-    let code =
-        unsafe { exports::lockrun_do(station, session, kind, set, first, second, &mut count, &mut sent, &mut told) };
-    heard.add(sent, &told);
+    let code = unsafe { exports::lockrun_do(station, session, kind, set, first, second, &mut count, sent, told) };
     (code, count)
 }
 

@@ -17,8 +17,8 @@ enum Sleeper {
 
 /// The seat of a client, in lines of the caches that no other one is in.
 #[repr(align(128))]
-#[derive(Default)]
 pub(crate) struct Seat {
+    pub client: u32,
     // Whether something was told since the client looked last, and whether somebody is to be woken then.
     told: AtomicBool,
     sleeps: AtomicBool,
@@ -26,6 +26,10 @@ pub(crate) struct Seat {
 }
 
 impl Seat {
+    pub fn new(client: u32) -> Seat {
+        Seat { client, told: AtomicBool::new(false), sleeps: AtomicBool::new(false), sleeper: Mutex::new(None) }
+    }
+
     /// Tells the client to look.
     pub fn tell(&self) {
         self.told.store(true, SeqCst);

@@ -48,7 +48,7 @@ impl Stations {
         Stations {
             marks: handles.iter().map(|_| Alone::default()).collect(),
             stations: handles.into_iter().map(|handle| Station::new(handle, forgets)).collect(),
-            seats: (0..clients).map(|_| Seat::default()).collect(),
+            seats: (0..clients as u32).map(Seat::new).collect(),
             waiting: Alone::default(),
             is_full: Alone::default(),
         }
@@ -103,7 +103,7 @@ impl Stations {
         // A letter of the last move may still wait at the station.
         self.mark_claimed(home, 0);
         drop(claim);
-        self.pass_on(home, &heard, Some(client as usize));
+        self.pass_on(home, &heard, Some(client));
         if code == exports::LOG_FULL {
             self.end_of_moves();
         }
@@ -176,13 +176,12 @@ impl Stations {
     }
 
     // Marks the nodes that this one sent letters to, and wakes the clients that it told, but not this client.
-    fn pass_on(&self, from: usize, heard: &Heard, client: Option<usize>) {
+    fn pass_on(&self, from: usize, heard: &Heard, client: Option<u32>) {
         bits_of(heard.sent & self.all()).for_each(|node| self.mark_from(node, from));
-        heard
-            .clients()
-            .filter(|&told| Some(told) != client)
-            .filter_map(|told| self.seats.get(told))
-            .for_each(Seat::tell);
+        for (seats, &told) in self.seats.chunks(64).zip(&heard.told.bits) {
+            let told = bits_of(told).filter_map(|place| seats.get(place));
+            told.filter(|seat| Some(seat.client) != client).for_each(Seat::tell);
+        }
     }
 
     #[cold]
