@@ -10,7 +10,7 @@ use std::time::{Duration, Instant};
 /// How often a thread looks before it sleeps until it is told.
 const LOOKS: u32 = 3;
 
-/// How long a call whose time is over lets other threads finish the turns that they are at.
+/// So long each call lets other threads finish the turns that they are at, if its time is over before.
 const GRACE: Duration = Duration::from_millis(2);
 
 /// How long it pauses before it asks again for what was withheld.
@@ -186,7 +186,7 @@ impl Waiter {
     }
 
     fn sleep_until(&mut self, end: Option<Instant>) -> Result<Reply, Error> {
-        let mut looks = 0;
+        let (mut looks, least) = (0, end.map(|_| Instant::now() + GRACE));
         loop {
             if looks >= LOOKS {
                 self.stations.seat(self.client).begin_sleep();
@@ -197,7 +197,7 @@ impl Waiter {
             }
             if !is_over(end) {
                 self.pause(looks, end);
-            } else if rests || is_over(end.map(|end| end + GRACE)) {
+            } else if rests || is_over(least) {
                 return Err(Error::StillWaits);
             } else {
                 yield_now();
