@@ -100,8 +100,10 @@ impl Stations {
         let mut heard = Heard::default();
         let mut claim = self.stations[home].claim()?;
         let (code, count) = claim.submit_and_turn(session, asked, &mut heard);
-        // A letter of the last move may still wait at the station.
-        self.mark_claimed(home, 0);
+        // Where the reply came the last turn has sent all that it had to send.
+        if code < exports::GRANTED {
+            self.mark_claimed(home, 0);
+        }
         drop(claim);
         self.pass_on(home, &heard, Some(client));
         if code == exports::LOG_FULL {
