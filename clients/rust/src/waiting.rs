@@ -96,12 +96,12 @@ impl Waiter {
     }
 
     /// Asks for a lock or a change, and gives up once the time is over. What was given up before in the same set may still stand
-    /// at another node; then it asks again, after pauses that grow.
+    /// at another node; then it asks again, at once after turns of the nodes, and then after pauses that grow.
     pub fn within(&mut self, asked: Asked, patience: Option<Duration>) -> Result<u32, Error> {
         if patience.is_some() {
             self.may_give_up()?;
         }
-        let (mut end, mut pause) = (None, FIRST_PAUSE);
+        let (mut end, mut pause) = (None, Duration::ZERO);
         loop {
             let code = match self.begin(asked)? {
                 Some((code, _)) => code,
@@ -115,11 +115,11 @@ impl Waiter {
             };
             end = end.or_else(|| if code == exports::WITHHELD { end_of(patience) } else { None });
             match code {
-                exports::WITHHELD if is_over(end) => return Err(Error::Withdrawn),
+                exports::WITHHELD if pause > Duration::ZERO && is_over(end) => return Err(Error::Withdrawn),
                 exports::WITHHELD => self.pause_withheld(left_of(end).map_or(pause, |left| pause.min(left))),
                 code => return Ok(code),
             }
-            pause = LONGEST_PAUSE.min(2 * pause);
+            pause = LONGEST_PAUSE.min(FIRST_PAUSE.max(2 * pause));
         }
     }
 
