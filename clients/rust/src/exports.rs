@@ -76,8 +76,6 @@ extern "C" {
         sent: *mut u64,
         told: *mut Clients,
     ) -> u32;
-    pub fn lockrun_held(station: *mut Handle, client: u32, from: u32, set: *mut u32, counts: *mut u64) -> u32;
-    pub fn lockrun_asked(station: *mut Handle, client: u32, set: *mut u32, mode: *mut u32) -> u32;
     pub fn lockrun_forget(station: *mut Handle) -> u32;
     pub fn lockrun_submit(session: *mut Handle, kind: u32, set: u32, first: u32, second: u32) -> u32;
     pub fn lockrun_poll(session: *mut Handle, count: *mut u64) -> u32;

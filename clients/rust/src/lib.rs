@@ -26,7 +26,6 @@ mod session;
 mod station;
 mod stations;
 mod tcp;
-mod view;
 mod waiting;
 
 pub use apart::{Apart, Carrier, Place};
@@ -40,4 +39,3 @@ pub use opening::{open, open_sets, NewSet, Opening};
 pub use pool::{Client, Coming};
 pub use session::{Mode, Session};
 pub use tcp::Tcp;
-pub use view::{Holds, Locks, Waits};
