@@ -65,6 +65,9 @@ extern "C" {
     pub fn lockrun_take_session(service: *mut Handle, session: *mut Handle) -> u32;
     pub fn lockrun_turn(station: *mut Handle) -> u32;
     pub fn lockrun_turn_telling(station: *mut Handle, sent: *mut u64, told: *mut Clients) -> u32;
+    pub fn lockrun_forget(station: *mut Handle) -> u32;
+    pub fn lockrun_submit(session: *mut Handle, kind: u32, set: u32, first: u32, second: u32) -> u32;
+    pub fn lockrun_poll(session: *mut Handle, count: *mut u64) -> u32;
     pub fn lockrun_do(
         station: *mut Handle,
         session: *mut Handle,
@@ -76,9 +79,6 @@ extern "C" {
         sent: *mut u64,
         told: *mut Clients,
     ) -> u32;
-    pub fn lockrun_forget(station: *mut Handle) -> u32;
-    pub fn lockrun_submit(session: *mut Handle, kind: u32, set: u32, first: u32, second: u32) -> u32;
-    pub fn lockrun_poll(session: *mut Handle, count: *mut u64) -> u32;
     pub fn lockrun_set(session: *mut Handle, name: *const u8, length: usize, set: *mut u32) -> u32;
     pub fn lockrun_left(session: *mut Handle) -> u64;
     pub fn lockrun_client(session: *mut Handle) -> u32;

@@ -1,8 +1,7 @@
 //! All forms of locks: at once, within a time, for ever, and for tasks, on one node and on four; what a future that is dropped
 //! leaves behind; a pool of clients; keys; and errors with their reasons.
 use lockrun::{
-    block_on, open, open_sets, BadSet, Client, Error, Fault, Guard, Mode, NewSet, Nodes, Opening, Session, Waits,
-    WhySet,
+    block_on, open, open_sets, BadSet, Client, Error, Fault, Guard, Mode, NewSet, Nodes, Opening, Session, WhySet,
 };
 use std::future::Future;
 use std::pin::Pin;
