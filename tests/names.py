@@ -36,6 +36,8 @@ OTHERS = '''
     --help --version --kind --moves --waits --all-waits --diff --set --client --json --chrome --words --write --nested --commands chrome://tracing
     pg_locks readers chain
     lock_within and_within change_within timeout= sets= StillWaits -std=c11
+    lock_async and_try and_async change_try change_async go_on_try go_on_within go_on_async client_within client_async block_on open_pool
+    key_under keep_journal BadScript Forgotten
     logic=proved functions=N axioms= axioms=N target=.. cpu=.. sum=dac8208d650f15bf native=nat,char,string logic-built=trusted
     libraries-built=trusted statements=trusted incremental=trusted batches=trusted cache=trusted main=Threads threads= may-wait= may-abort=
     partial= rattle_alloc rattle_realloc rattle_dealloc Appends

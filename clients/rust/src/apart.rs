@@ -1,7 +1,8 @@
 //! A node in a process of its own: all other nodes lie in other processes, and a carrier takes bytes between them.
 use crate::error::{check, Error};
 use crate::exports::{self, Handle};
-use crate::nodes::{read_journal, take_all, with_version, Journal};
+use crate::journal::{read_journal, Journal};
+use crate::opening::{fault_of, take_all, with_version};
 use crate::session::Mode;
 use std::time::{Duration, Instant};
 
@@ -91,14 +92,19 @@ impl<C: Carrier> Apart<C> {
     /// assert_eq!((apart.sent, apart.received), (0, 0));
     /// # Ok::<(), lockrun::Error>(())
     /// ```
-    pub fn open(script: &str, place: Place<'_>, limit: u64, carrier: C) -> Result<Apart<C>, Error> {
-        let script = with_version(script);
-        let (text, length, key, mut node) = (script.as_ptr(), script.len(), place.key, Handle::NONE);
-        let (place_of, start) = (place.me, place.start);
+    pub fn open(text: &str, place: Place<'_>, limit: u64, carrier: C) -> Result<Apart<C>, Error> {
+        let script = with_version(text);
+        let (bytes, key, mut node) = (script.as_bytes(), place.key, Handle::NONE);
+        let Place { me, start, .. } = place;
         // SAFETY: the text and the key are borrowed for the call, and the handle stands for nothing.
-        check(unsafe {
-            exports::lockrun_node_open(text, length, place_of, key.as_ptr(), key.len(), start, limit, 4, &mut node)
-        })?;
+        let code = unsafe {
+            let (text, length) = (bytes.as_ptr(), bytes.len());
+            exports::lockrun_node_open(text, length, me, key.as_ptr(), key.len(), start, limit, 4, &mut node)
+        };
+        match code {
+            exports::BAD_SCRIPT => return Err(Error::BadScript(fault_of(text))),
+            code => check(code)?,
+        }
         let sessions = take_all(&mut node, exports::lockrun_take_session)?;
         let came = vec![Vec::new(); place.nodes as usize];
         Ok(Apart { node, sessions, me: place.me, came, frames: vec![0; ROOM], carrier, sent: 0, received: 0 })
@@ -168,14 +174,23 @@ impl<C: Carrier> Apart<C> {
         self.turn()
     }
 
-    /// Whether something waits to be carried to a node.
+    /// Whether something waits to be carried to another node.
     ///
     /// ```
-    /// # use lockrun::{Apart, Mode, Place, Tcp};
-    /// # let carrier = Tcp::begin(0, &["127.0.0.1:0".parse().unwrap()]).unwrap();
-    /// # let place = Place { me: 0, nodes: 1, key: b"what only the nodes have", start: 1 };
-    /// # let mut apart = Apart::open("nodes 1\nset a\nclient ann at 0\n", place, 1 << 20, carrier)?;
-    /// assert!(!apart.pending(0)?);
+    /// # use lockrun::{Apart, Carrier, Place};
+    /// # use std::time::Duration;
+    /// # struct Nowhere;
+    /// # impl Carrier for Nowhere {
+    /// #     fn carry(&mut self, _to: u32, _frames: &[u8]) -> std::io::Result<()> {
+    /// #         Ok(())
+    /// #     }
+    /// #     fn sleep(&mut self, _patience: Option<Duration>) -> std::io::Result<Option<(u32, Vec<u8>)>> {
+    /// #         Ok(None)
+    /// #     }
+    /// # }
+    /// # let place = Place { me: 0, nodes: 2, key: b"what only the nodes have", start: 1 };
+    /// # let mut apart = Apart::open("nodes 2\nset a\nclient ann at 0\n", place, 1 << 20, Nowhere)?;
+    /// assert!(!apart.pending(1)?);
     /// # Ok::<(), lockrun::Error>(())
     /// ```
     pub fn pending(&mut self, to: u32) -> Result<bool, Error> {
@@ -196,7 +211,7 @@ impl<C: Carrier> Apart<C> {
     /// # let mut apart = Apart::open("nodes 1\nset a\nclient ann at 0\n", place, 1 << 20, carrier)?;
     /// apart.lock(0, 0, Mode::Write)?;
     /// let journal = apart.finish()?;
-    /// assert_eq!((journal.held, journal.waiting), (1, 0));
+    /// assert!(journal.text.ends_with(b"cut 0\n"));
     /// # Ok::<(), lockrun::Error>(())
     /// ```
     pub fn finish(mut self) -> Result<Journal, Error> {

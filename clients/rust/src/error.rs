@@ -1,12 +1,20 @@
 use crate::exports;
+use crate::fault::{BadSet, Fault};
 use std::fmt;
 
+/// Why a call didn't do what was asked.
+///
+/// ```
+/// let error = lockrun::open("nodes 1\nset a\nset 9s\n", 1 << 20).err().unwrap();
+/// println!("{error}");
+/// ```
 #[derive(Clone, Copy, Debug, PartialEq, Eq)]
 pub enum Error {
     NoMemory,
     /// A number out of range, or a command that names what the script doesn't have.
     BadArgument,
-    BadScript,
+    /// The script has this fault.
+    BadScript(Fault),
     /// The session's share of commands is used up.
     Spent,
     /// A node made as many moves as it may.
@@ -15,8 +23,8 @@ pub enum Error {
     Forgotten,
     /// More than 4,096 commands or 8 sets: no text of a script has as many; or more than 65,536 sets.
     TooMany,
-    /// A further set has no new name, or its parent is no set before it.
-    BadSet,
+    /// This one of the further sets has no new name, or its parent is no set before it.
+    BadSet(BadSet),
     /// The client didn't hold the mode that it gives up.
     NotHeld,
     /// The client whose locks should be dropped waits.
@@ -30,6 +38,8 @@ pub enum Error {
     StillWaits,
     /// Nothing is asked for.
     NothingAsked,
+    /// All clients of the pool are out, and none was given back in this time.
+    NoClient,
     /// These are not all sessions that were opened with the nodes.
     OtherSessions,
     /// A frame is of another version of the format.
@@ -58,12 +68,12 @@ impl Error {
     pub(crate) fn of(code: u32) -> Error {
         match code {
             exports::NO_MEMORY => Error::NoMemory,
-            exports::BAD_SCRIPT => Error::BadScript,
+            exports::BAD_SCRIPT => Error::BadScript(Fault::NONE),
             exports::SPENT => Error::Spent,
             exports::LOG_FULL => Error::LogFull,
             exports::FORGOTTEN => Error::Forgotten,
             exports::TOO_MANY => Error::TooMany,
-            exports::BAD_SET => Error::BadSet,
+            exports::BAD_SET => Error::BadSet(BadSet::NONE),
             exports::NOT_HELD => Error::NotHeld,
             exports::BUSY => Error::Busy,
             exports::WITHDRAWN => Error::Withdrawn,
@@ -85,20 +95,21 @@ impl Error {
 impl fmt::Display for Error {
     fn fmt(&self, out: &mut fmt::Formatter<'_>) -> fmt::Result {
         out.write_str(match self {
+            Error::BadScript(fault) => return fault.fmt(out),
+            Error::BadSet(set) => return set.fmt(out),
             Error::NoMemory => "out of memory",
             Error::BadArgument => "a number out of range, or the script has no such set, mode or client",
-            Error::BadScript => "the script has a fault",
             Error::Spent => "the session's share of commands is used up",
             Error::LogFull => "a node made as many moves as it may",
             Error::Forgotten => "a node has forgotten moves or commands",
             Error::TooMany => "more than 65,536 sets; or more than 8 sets or 4,096 commands, and so no journal",
-            Error::BadSet => "a further set has no new name, or its parent is no set before it",
             Error::NotHeld => "the client doesn't hold this mode",
             Error::Busy => "the client whose locks should be dropped waits",
             Error::Withdrawn => "the wait was given up",
             Error::Withheld => "what the client gave up in this set still stands",
             Error::StillWaits => "the client still waits",
             Error::NothingAsked => "the client asked for nothing",
+            Error::NoClient => "no client of the pool is free",
             Error::OtherSessions => "these are not all sessions of the nodes",
             Error::OtherVersion => "a frame is of another version of the format",
             Error::OtherService => "a frame is of another service: of another script, or of another start",

@@ -11,6 +11,8 @@ pub struct Handle {
 
 // SAFETY: it is proved of the library's handle that it may go from thread to thread.
 unsafe impl Send for Handle {}
+// SAFETY: each call of the library wants the handle alone, by `&mut`; a shared one tells no more than whether it is none.
+unsafe impl Sync for Handle {}
 
 /// A further set, by its name and that of its parent.
 #[repr(C)]
@@ -19,6 +21,13 @@ pub struct NewSet {
     pub length: usize,
     pub parent: *const u8,
     pub parent_length: usize,
+}
+
+/// A bit for each client.
+#[repr(C)]
+#[derive(Clone, Copy, Default)]
+pub struct Clients {
+    pub bits: [u64; 16],
 }
 
 extern "C" {
@@ -55,9 +64,21 @@ extern "C" {
     pub fn lockrun_take_station(service: *mut Handle, station: *mut Handle) -> u32;
     pub fn lockrun_take_session(service: *mut Handle, session: *mut Handle) -> u32;
     pub fn lockrun_turn(station: *mut Handle) -> u32;
+    pub fn lockrun_turn_telling(station: *mut Handle, sent: *mut u64, told: *mut Clients) -> u32;
     pub fn lockrun_forget(station: *mut Handle) -> u32;
     pub fn lockrun_submit(session: *mut Handle, kind: u32, set: u32, first: u32, second: u32) -> u32;
     pub fn lockrun_poll(session: *mut Handle, count: *mut u64) -> u32;
+    pub fn lockrun_do(
+        station: *mut Handle,
+        session: *mut Handle,
+        kind: u32,
+        set: u32,
+        first: u32,
+        second: u32,
+        count: *mut u64,
+        sent: *mut u64,
+        told: *mut Clients,
+    ) -> u32;
     pub fn lockrun_set(session: *mut Handle, name: *const u8, length: usize, set: *mut u32) -> u32;
     pub fn lockrun_left(session: *mut Handle) -> u64;
     pub fn lockrun_client(session: *mut Handle) -> u32;

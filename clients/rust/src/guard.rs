@@ -1,11 +1,15 @@
 //! The locks that sessions hold.
 use crate::error::Error;
 use crate::exports;
-use crate::session::{Mode, Session};
-use crate::waiting::Asked;
+use crate::futures::{Changing, Locking};
+use crate::session::{lock_of, unlock_of, Mode, Session};
+use crate::waiting::{Asked, Waiter};
 use std::time::Duration;
 
 /// A lock that a session holds. It is given up when it is dropped; if the share of commands is used up then, it stays held.
+///
+/// Further locks are taken under it, and end before it. To give locks up in any order let `std::mem::forget` have their guards, and
+/// call [`Session::unlock`].
 #[must_use = "a lock that isn't kept is given up at once"]
 pub struct Guard<'s> {
     session: &'s mut Session,
@@ -18,12 +22,16 @@ impl<'s> Guard<'s> {
         Guard { session, set, mode }
     }
 
+    pub(crate) fn waiter(&mut self) -> &mut Waiter {
+        &mut self.session.waiter
+    }
+
     /// A further lock of the same client, which is given up before this one.
     ///
     /// ```
     /// # use lockrun::Mode;
-    /// # let (mut nodes, mut sessions) = lockrun::open("nodes 1\nset a\nset b\nclient ann at 0\nclient ben at 0\n", 1 << 20)?;
-    /// # let (mut ben, mut ann) = (sessions.remove(1), sessions.remove(0));
+    /// # let (_nodes, mut sessions) = lockrun::open("nodes 1\nset a\nset b\nclient ann at 0\nclient ben at 0\n", 1 << 20)?;
+    /// # let mut ann = sessions.remove(0);
     /// let mut first = ann.lock(0, Mode::Read)?;
     /// let _second = first.and(1, Mode::Write)?;
     /// # Ok::<(), lockrun::Error>(())
@@ -36,7 +44,7 @@ impl<'s> Guard<'s> {
     ///
     /// ```
     /// # use lockrun::{Error, Mode};
-    /// # let (mut nodes, mut sessions) = lockrun::open("nodes 1\nset a\nset b\nclient ann at 0\nclient ben at 0\n", 1 << 20)?;
+    /// # let (_nodes, mut sessions) = lockrun::open("nodes 1\nset a\nset b\nclient ann at 0\nclient ben at 0\n", 1 << 20)?;
     /// # let (mut ben, mut ann) = (sessions.remove(1), sessions.remove(0));
     /// # let patience = std::time::Duration::from_millis(10);
     /// let _lock = ben.lock(1, Mode::Read)?;
@@ -48,12 +56,41 @@ impl<'s> Guard<'s> {
         self.session.lock_within(set, mode, patience)
     }
 
-    /// Changes the mode. It waits until the new one goes with what others hold. After an error it has the mode that it had.
+    /// The same at once, or none. It is no more exact than [`Session::try_lock`].
     ///
     /// ```
     /// # use lockrun::Mode;
-    /// # let (mut nodes, mut sessions) = lockrun::open("nodes 1\nset a\nset b\nclient ann at 0\nclient ben at 0\n", 1 << 20)?;
-    /// # let (mut ben, mut ann) = (sessions.remove(1), sessions.remove(0));
+    /// # let (_nodes, mut sessions) = lockrun::open("nodes 1\nset folder\nset file\nclient ann at 0\n", 1 << 20)?;
+    /// # let mut ann = sessions.remove(0);
+    /// let mut folder = ann.lock(0, Mode::IntentionWrite)?;
+    /// assert!(folder.and_try(1, Mode::Write)?.is_some());
+    /// # Ok::<(), lockrun::Error>(())
+    /// ```
+    pub fn and_try(&mut self, set: u32, mode: Mode) -> Result<Option<Guard<'_>>, Error> {
+        self.session.try_lock(set, mode)
+    }
+
+    /// The same for a task: see [`Session::lock_async`].
+    ///
+    /// ```
+    /// # use lockrun::Mode;
+    /// # let (_nodes, mut sessions) = lockrun::open("nodes 1\nset a\nset b\nclient ann at 0\nclient ben at 0\n", 1 << 20)?;
+    /// # let mut ann = sessions.remove(0);
+    /// let mut first = ann.lock(0, Mode::Read)?;
+    /// let _second = lockrun::block_on(first.and_async(1, Mode::Write))?;
+    /// # Ok::<(), lockrun::Error>(())
+    /// ```
+    pub fn and_async(&mut self, set: u32, mode: Mode) -> Locking<'_> {
+        self.session.lock_async(set, mode)
+    }
+
+    /// Changes the mode: so an upgrade becomes a write. It waits until the new mode goes with what others hold. After an error
+    /// it has the mode that it had.
+    ///
+    /// ```
+    /// # use lockrun::Mode;
+    /// # let (_nodes, mut sessions) = lockrun::open("nodes 1\nset a\nset b\nclient ann at 0\nclient ben at 0\n", 1 << 20)?;
+    /// # let mut ann = sessions.remove(0);
     /// let mut lock = ann.lock(0, Mode::Upgrade)?;
     /// lock.change(Mode::Write)?;
     /// # Ok::<(), lockrun::Error>(())
@@ -66,7 +103,7 @@ impl<'s> Guard<'s> {
     ///
     /// ```
     /// # use lockrun::{Error, Mode};
-    /// # let (mut nodes, mut sessions) = lockrun::open("nodes 1\nset a\nset b\nclient ann at 0\nclient ben at 0\n", 1 << 20)?;
+    /// # let (_nodes, mut sessions) = lockrun::open("nodes 1\nset a\nset b\nclient ann at 0\nclient ben at 0\n", 1 << 20)?;
     /// # let (mut ben, mut ann) = (sessions.remove(1), sessions.remove(0));
     /// # let patience = std::time::Duration::from_millis(10);
     /// let _lock = ben.lock(0, Mode::Read)?;
@@ -79,34 +116,177 @@ impl<'s> Guard<'s> {
         self.changed(mode, Some(patience))
     }
 
-    fn changed(&mut self, mode: Mode, patience: Option<Duration>) -> Result<(), Error> {
-        let asked = Asked { kind: exports::CHANGE, set: self.set, first: self.mode as u32, second: mode as u32 };
-        match self.session.waiter.within(asked, patience)? {
-            exports::CHANGED => {
-                self.mode = mode;
-                Ok(())
-            }
-            code => Err(Error::of(code)),
-        }
+    /// The same without waiting for another client: whether it has the new mode.
+    ///
+    /// ```
+    /// # use lockrun::Mode;
+    /// # let (_nodes, mut sessions) = lockrun::open("nodes 1\nset a\nset b\nclient ann at 0\nclient ben at 0\n", 1 << 20)?;
+    /// # let (mut ben, mut ann) = (sessions.remove(1), sessions.remove(0));
+    /// let other = ben.lock(0, Mode::Read)?;
+    /// let mut lock = ann.lock(0, Mode::Upgrade)?;
+    /// assert!(!lock.change_try(Mode::Write)?);
+    /// drop(other);
+    /// assert!(lock.change_try(Mode::Write)?);
+    /// # Ok::<(), lockrun::Error>(())
+    /// ```
+    pub fn change_try(&mut self, mode: Mode) -> Result<bool, Error> {
+        in_time(self.change_within(mode, Duration::ZERO))
+    }
+
+    /// The same for a task: see [`Session::lock_async`].
+    ///
+    /// ```
+    /// # use lockrun::Mode;
+    /// # let (_nodes, mut sessions) = lockrun::open("nodes 1\nset a\nset b\nclient ann at 0\nclient ben at 0\n", 1 << 20)?;
+    /// # let mut ann = sessions.remove(0);
+    /// let mut lock = ann.lock(0, Mode::Upgrade)?;
+    /// lockrun::block_on(lock.change_async(Mode::Write))?;
+    /// assert_eq!(lock.mode(), Mode::Write);
+    /// # Ok::<(), lockrun::Error>(())
+    /// ```
+    pub fn change_async(&mut self, mode: Mode) -> Changing<'_, 's> {
+        Changing::new(self, mode)
+    }
+
+    /// Goes on to another set, hand over hand: takes a lock there, and then gives up the one that it had. After an error it has
+    /// that one.
+    ///
+    /// ```
+    /// # use lockrun::Mode;
+    /// # let (_nodes, mut sessions) = lockrun::open("nodes 1\nset a\nset b\nclient ann at 0\nclient ben at 0\n", 1 << 20)?;
+    /// # let (mut ben, mut ann) = (sessions.remove(1), sessions.remove(0));
+    /// let mut lock = ann.lock(0, Mode::Write)?;
+    /// lock.go_on(1, Mode::Write)?;
+    /// assert_eq!(lock.set(), 1);
+    /// let _other = ben.lock(0, Mode::Write)?;
+    /// # Ok::<(), lockrun::Error>(())
+    /// ```
+    pub fn go_on(&mut self, set: u32, mode: Mode) -> Result<(), Error> {
+        self.gone_on(set, mode, None)
+    }
+
+    /// The same, waiting for so long.
+    ///
+    /// ```
+    /// # use lockrun::{Error, Mode};
+    /// # let (_nodes, mut sessions) = lockrun::open("nodes 1\nset a\nset b\nclient ann at 0\nclient ben at 0\n", 1 << 20)?;
+    /// # let (mut ben, mut ann) = (sessions.remove(1), sessions.remove(0));
+    /// # let patience = std::time::Duration::from_millis(10);
+    /// let _other = ben.lock(1, Mode::Read)?;
+    /// let mut lock = ann.lock(0, Mode::Write)?;
+    /// assert_eq!(lock.go_on_within(1, Mode::Write, patience), Err(Error::Withdrawn));
+    /// assert_eq!(lock.set(), 0);
+    /// # Ok::<(), lockrun::Error>(())
+    /// ```
+    pub fn go_on_within(&mut self, set: u32, mode: Mode, patience: Duration) -> Result<(), Error> {
+        self.gone_on(set, mode, Some(patience))
+    }
+
+    /// The same without waiting for another client: whether it has the other lock now.
+    ///
+    /// ```
+    /// # use lockrun::Mode;
+    /// # let (_nodes, mut sessions) = lockrun::open("nodes 1\nset a\nset b\nclient ann at 0\nclient ben at 0\n", 1 << 20)?;
+    /// # let (mut ben, mut ann) = (sessions.remove(1), sessions.remove(0));
+    /// let other = ben.lock(1, Mode::Read)?;
+    /// let mut lock = ann.lock(0, Mode::Write)?;
+    /// assert!(!lock.go_on_try(1, Mode::Write)?);
+    /// drop(other);
+    /// assert!(lock.go_on_try(1, Mode::Write)?);
+    /// # Ok::<(), lockrun::Error>(())
+    /// ```
+    pub fn go_on_try(&mut self, set: u32, mode: Mode) -> Result<bool, Error> {
+        in_time(self.go_on_within(set, mode, Duration::ZERO))
+    }
+
+    /// The same for a task: see [`Session::lock_async`].
+    ///
+    /// ```
+    /// # use lockrun::Mode;
+    /// # let (_nodes, mut sessions) = lockrun::open("nodes 1\nset a\nset b\nclient ann at 0\nclient ben at 0\n", 1 << 20)?;
+    /// # let mut ann = sessions.remove(0);
+    /// let mut lock = ann.lock(0, Mode::Write)?;
+    /// lockrun::block_on(lock.go_on_async(1, Mode::Write))?;
+    /// assert_eq!(lock.set(), 1);
+    /// # Ok::<(), lockrun::Error>(())
+    /// ```
+    pub async fn go_on_async(&mut self, set: u32, mode: Mode) -> Result<(), Error> {
+        std::mem::forget(self.session.lock_async(set, mode).await?);
+        self.move_to(set, mode);
+        Ok(())
     }
 
     /// The mode that it has.
     ///
     /// ```
     /// # use lockrun::Mode;
-    /// # let (mut nodes, mut sessions) = lockrun::open("nodes 1\nset a\nset b\nclient ann at 0\nclient ben at 0\n", 1 << 20)?;
-    /// # let (mut ben, mut ann) = (sessions.remove(1), sessions.remove(0));
-    /// assert_eq!(ann.lock(0, Mode::Upgrade)?.mode(), Mode::Upgrade);
+    /// # let (_nodes, mut sessions) = lockrun::open("nodes 1\nset a\nset b\nclient ann at 0\nclient ben at 0\n", 1 << 20)?;
+    /// assert_eq!(sessions[0].lock(0, Mode::Upgrade)?.mode(), Mode::Upgrade);
     /// # Ok::<(), lockrun::Error>(())
     /// ```
     pub fn mode(&self) -> Mode {
         self.mode
     }
+
+    /// The set that it is of.
+    ///
+    /// ```
+    /// # use lockrun::Mode;
+    /// # let (_nodes, mut sessions) = lockrun::open("nodes 1\nset a\nset b\nclient ann at 0\nclient ben at 0\n", 1 << 20)?;
+    /// assert_eq!(sessions[0].lock(1, Mode::Upgrade)?.set(), 1);
+    /// # Ok::<(), lockrun::Error>(())
+    /// ```
+    pub fn set(&self) -> u32 {
+        self.set
+    }
+
+    pub(crate) fn change_of(&self, mode: Mode) -> Asked {
+        Asked { kind: exports::CHANGE, set: self.set, first: self.mode as u32, second: mode as u32 }
+    }
+
+    pub(crate) fn changed_by(&mut self, code: u32, mode: Mode) -> Result<(), Error> {
+        if code != exports::CHANGED {
+            return Err(Error::of(code));
+        }
+        self.mode = mode;
+        Ok(())
+    }
+
+    fn changed(&mut self, mode: Mode, patience: Option<Duration>) -> Result<(), Error> {
+        let asked = self.change_of(mode);
+        let code = self.waiter().within(asked, patience)?;
+        self.changed_by(code, mode)
+    }
+
+    fn gone_on(&mut self, set: u32, mode: Mode, patience: Option<Duration>) -> Result<(), Error> {
+        match self.waiter().within(lock_of(set, mode), patience)? {
+            exports::GRANTED => self.move_to(set, mode),
+            code => return Err(Error::of(code)),
+        }
+        Ok(())
+    }
+
+    // Gives the lock up, and has that one, which was granted.
+    fn move_to(&mut self, set: u32, mode: Mode) {
+        let unlock = unlock_of(self.set, self.mode);
+        let _ = self.waiter().call(unlock);
+        self.set = set;
+        self.mode = mode;
+    }
+}
+
+// Whether it came in time.
+fn in_time(asked: Result<(), Error>) -> Result<bool, Error> {
+    match asked {
+        Ok(()) => Ok(true),
+        Err(Error::Withdrawn) => Ok(false),
+        Err(why) => Err(why),
+    }
 }
 
 impl Drop for Guard<'_> {
     fn drop(&mut self) {
-        let unlock = Asked { kind: exports::UNLOCK, set: self.set, first: self.mode as u32, second: 0 };
-        let _ = self.session.waiter.call(unlock);
+        let unlock = unlock_of(self.set, self.mode);
+        let _ = self.waiter().call(unlock);
     }
 }

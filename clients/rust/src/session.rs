@@ -1,8 +1,9 @@
-//! Sessions.
+//! Sessions: locks that a client takes.
 use crate::error::Error;
 use crate::exports::{self, Handle};
+use crate::futures::Locking;
 use crate::guard::Guard;
-use crate::nodes::Stations;
+use crate::stations::Stations;
 use crate::waiting::{Asked, Waiter};
 use std::sync::Arc;
 use std::time::Duration;
@@ -19,19 +20,29 @@ pub enum Mode {
     Write,
 }
 
-/// The session of one client. Its calls wait by turning the nodes. If it is dropped its locks stay held. No two of them are in one
-/// line of the caches.
+/// The session of one client. If it is dropped its locks stay held; a [`Client`](crate::Client) gives them up. No two of them
+/// are in one line of the caches.
+///
+/// One thread at a time uses it:
+///
+/// ```compile_fail
+/// # let (_nodes, mut sessions) = lockrun::open("nodes 1\nset a\nclient ann at 0\n", 1 << 20).unwrap();
+/// let session = &mut sessions[0];
+/// std::thread::scope(|scope| {
+///     scope.spawn(|| session.left());
+///     scope.spawn(|| session.left());
+/// });
+/// ```
 #[repr(align(128))]
 pub struct Session {
     pub(crate) waiter: Waiter,
-    client: u32,
 }
 
 impl Session {
     pub(crate) fn new(mut raw: Handle, stations: Arc<Stations>, gives_up: bool) -> Session {
         // SAFETY: the handle stands for something.
         let (client, home) = unsafe { (exports::lockrun_client(&mut raw), exports::lockrun_home(&mut raw)) };
-        Session { waiter: Waiter::new(raw, stations, client, home as usize, gives_up), client }
+        Session { waiter: Waiter::new(raw, stations, client, home as usize, gives_up) }
     }
 
     pub(crate) fn is_of(&self, stations: &Arc<Stations>) -> bool {
@@ -49,18 +60,18 @@ impl Session {
     /// The number of its client.
     ///
     /// ```
-    /// # let (mut nodes, mut sessions) = lockrun::open("nodes 1\nset a\nset b\nclient ann at 0\nclient ben at 0\n", 1 << 20)?;
+    /// # let (_nodes, mut sessions) = lockrun::open("nodes 1\nset a\nset b\nclient ann at 0\nclient ben at 0\n", 1 << 20)?;
     /// assert_eq!(sessions[1].client(), 1);
     /// # Ok::<(), lockrun::Error>(())
     /// ```
     pub fn client(&self) -> u32 {
-        self.client
+        self.waiter.client
     }
 
     /// How many commands may still be submitted.
     ///
     /// ```
-    /// # let (mut nodes, mut sessions) = lockrun::open("nodes 1\nset a\nset b\nclient ann at 0\nclient ben at 0\n", 1 << 20)?;
+    /// # let (_nodes, mut sessions) = lockrun::open("nodes 1\nset a\nset b\nclient ann at 0\nclient ben at 0\n", 1 << 20)?;
     /// assert!(sessions[0].left() > 1 << 50);
     /// # Ok::<(), lockrun::Error>(())
     /// ```
@@ -72,7 +83,7 @@ impl Session {
     /// The number of the set with this name.
     ///
     /// ```
-    /// # let (mut nodes, mut sessions) = lockrun::open("nodes 1\nset a\nset b\nclient ann at 0\nclient ben at 0\n", 1 << 20)?;
+    /// # let (_nodes, mut sessions) = lockrun::open("nodes 1\nset a\nset b\nclient ann at 0\nclient ben at 0\n", 1 << 20)?;
     /// assert_eq!((sessions[0].set("b"), sessions[0].set("c")), (Some(1), None));
     /// # Ok::<(), lockrun::Error>(())
     /// ```
@@ -87,7 +98,7 @@ impl Session {
     ///
     /// ```
     /// # use lockrun::Mode;
-    /// # let (mut nodes, mut sessions) = lockrun::open("nodes 1\nset a\nset b\nclient ann at 0\nclient ben at 0\n", 1 << 20)?;
+    /// # let (_nodes, mut sessions) = lockrun::open("nodes 1\nset a\nset b\nclient ann at 0\nclient ben at 0\n", 1 << 20)?;
     /// let lock = sessions[0].lock(0, Mode::Write)?;
     /// assert_eq!(lock.mode(), Mode::Write);
     /// # Ok::<(), lockrun::Error>(())
@@ -96,86 +107,28 @@ impl Session {
         self.locked(set, mode, None)
     }
 
-    /// Waits for so long. After `Withdrawn` nothing is asked for, and the session holds what it held.
+    /// Waits for so long. After `Withdrawn` nothing is asked for, and the session holds what it held. In no time at all it is
+    /// granted what is free, on any node: nodes make the turns that it takes, and no other client is waited for.
     ///
     /// ```
     /// # use lockrun::{Error, Mode};
-    /// # let (mut nodes, mut sessions) = lockrun::open("nodes 1\nset a\nset b\nclient ann at 0\nclient ben at 0\n", 1 << 20)?;
+    /// # use std::time::Duration;
+    /// # let (_nodes, mut sessions) = lockrun::open("nodes 2\nset a\nclient ann at 0\nclient ben at 1\n", 1 << 20)?;
     /// # let (mut ben, mut ann) = (sessions.remove(1), sessions.remove(0));
-    /// # let patience = std::time::Duration::from_millis(10);
-    /// let _lock = ann.lock(0, Mode::Read)?;
-    /// assert_eq!(ben.lock_within(0, Mode::Write, patience).err(), Some(Error::Withdrawn));
+    /// let lock = ben.lock_within(0, Mode::Write, Duration::ZERO)?;
+    /// assert_eq!(ann.lock_within(0, Mode::Read, Duration::from_millis(10)).err(), Some(Error::Withdrawn));
     /// # Ok::<(), lockrun::Error>(())
     /// ```
     pub fn lock_within(&mut self, set: u32, mode: Mode, patience: Duration) -> Result<Guard<'_>, Error> {
         self.locked(set, mode, Some(patience))
     }
 
-    /// Waits for so long, for callers that go on waiting: after `StillWaits` the lock is still asked for. `wait` goes on waiting
-    /// for it, `give_up` gives it up, and until then no other call does anything.
-    ///
-    /// ```
-    /// # use lockrun::{Error, Mode};
-    /// # let (mut nodes, mut sessions) = lockrun::open("nodes 1\nset a\nset b\nclient ann at 0\nclient ben at 0\n", 1 << 20)?;
-    /// # let (mut ben, mut ann) = (sessions.remove(1), sessions.remove(0));
-    /// # let patience = std::time::Duration::from_millis(10);
-    /// let _lock = ann.lock(0, Mode::Read)?;
-    /// assert_eq!(ben.ask(0, Mode::Write, patience).err(), Some(Error::StillWaits));
-    /// # Ok::<(), lockrun::Error>(())
-    /// ```
-    pub fn ask(&mut self, set: u32, mode: Mode, patience: Duration) -> Result<Guard<'_>, Error> {
-        self.waiter.submit(lock_of(set, mode))?;
-        self.wait(patience)
-    }
-
-    /// Goes on waiting for the lock that was asked for.
-    ///
-    /// ```
-    /// # use lockrun::{Error, Mode};
-    /// # let (mut nodes, mut sessions) = lockrun::open("nodes 1\nset a\nset b\nclient ann at 0\nclient ben at 0\n", 1 << 20)?;
-    /// # let (mut ben, mut ann) = (sessions.remove(1), sessions.remove(0));
-    /// # let patience = std::time::Duration::from_millis(10);
-    /// let lock = ann.lock(0, Mode::Read)?;
-    /// assert_eq!(ben.ask(0, Mode::Write, patience).err(), Some(Error::StillWaits));
-    /// drop(lock);
-    /// let _lock = ben.wait(patience)?;
-    /// # Ok::<(), lockrun::Error>(())
-    /// ```
-    pub fn wait(&mut self, patience: Duration) -> Result<Guard<'_>, Error> {
-        let (set, mode) = self.asked_lock()?;
-        match self.waiter.reply(Some(patience))?.0 {
-            exports::GRANTED => Ok(Guard::new(self, set, mode)),
-            code => Err(Error::of(code)),
-        }
-    }
-
-    /// Gives up the lock that was asked for; the guard, if it was granted first. It waits for no other client.
-    ///
-    /// ```
-    /// # use lockrun::{Error, Mode};
-    /// # let (mut nodes, mut sessions) = lockrun::open("nodes 1\nset a\nset b\nclient ann at 0\nclient ben at 0\n", 1 << 20)?;
-    /// # let (mut ben, mut ann) = (sessions.remove(1), sessions.remove(0));
-    /// # let patience = std::time::Duration::from_millis(10);
-    /// let _lock = ann.lock(0, Mode::Read)?;
-    /// assert_eq!(ben.ask(0, Mode::Write, patience).err(), Some(Error::StillWaits));
-    /// assert!(ben.give_up()?.is_none());
-    /// # Ok::<(), lockrun::Error>(())
-    /// ```
-    pub fn give_up(&mut self) -> Result<Option<Guard<'_>>, Error> {
-        let (set, mode) = self.asked_lock()?;
-        match self.waiter.give_up()?.0 {
-            exports::GRANTED => Ok(Some(Guard::new(self, set, mode))),
-            exports::WITHDRAWN | exports::WITHHELD => Ok(None),
-            code => Err(Error::of(code)),
-        }
-    }
-
-    /// Has the lock at once, or none: none may come though nobody holds the set, on another node than the one that has its token.
-    /// `lock_within` with a short time is granted then.
+    /// Has the lock at once, or none. It isn't exact: none may come though nobody holds the set, on another node than the one that
+    /// has its token. `lock_within` with no time is granted then.
     ///
     /// ```
     /// # use lockrun::Mode;
-    /// # let (mut nodes, mut sessions) = lockrun::open("nodes 1\nset a\nset b\nclient ann at 0\nclient ben at 0\n", 1 << 20)?;
+    /// # let (_nodes, mut sessions) = lockrun::open("nodes 1\nset a\nset b\nclient ann at 0\nclient ben at 0\n", 1 << 20)?;
     /// # let (mut ben, mut ann) = (sessions.remove(1), sessions.remove(0));
     /// let _lock = ann.lock(0, Mode::Read)?;
     /// assert!(ben.try_lock(0, Mode::Write)?.is_none());
@@ -189,63 +142,44 @@ impl Session {
         }
     }
 
-    /// Drops the locks of a client of the same node in the set's family: how many they were.
+    /// A future that asks for the lock once it is polled. Any executor can poll it. If it is dropped before it is ready it gives
+    /// up: then nothing is asked for.
     ///
     /// ```
     /// # use lockrun::Mode;
-    /// # let (mut nodes, mut sessions) = lockrun::open("nodes 1\nset a\nset b\nclient ann at 0\nclient ben at 0\n", 1 << 20)?;
+    /// # let (_nodes, mut sessions) = lockrun::open("nodes 1\nset a\nset b\nclient ann at 0\nclient ben at 0\n", 1 << 20)?;
     /// # let (mut ben, mut ann) = (sessions.remove(1), sessions.remove(0));
-    /// std::mem::forget(ann.lock(0, Mode::Read)?);
-    /// assert_eq!(ben.drop_locks(0, ann.client())?, 1);
+    /// async fn count(session: &mut lockrun::Session, number: &mut u64) -> Result<(), lockrun::Error> {
+    ///     let _lock = session.lock_async(0, Mode::Write).await?;
+    ///     *number += 1;
+    ///     Ok(())
+    /// }
+    /// let mut number = 0;
+    /// lockrun::block_on(count(&mut ann, &mut number))?;
+    /// assert_eq!(number, 1);
     /// # Ok::<(), lockrun::Error>(())
     /// ```
-    pub fn drop_locks(&mut self, set: u32, whose: u32) -> Result<u64, Error> {
-        match self.waiter.call(Asked { kind: exports::DROP, set, first: whose, second: 0 })? {
-            (exports::DROPPED, count) => Ok(count),
-            (code, _) => Err(Error::of(code)),
-        }
+    pub fn lock_async(&mut self, set: u32, mode: Mode) -> Locking<'_> {
+        Locking::new(self, set, mode)
     }
 
-    /// Gives up what another client of the same node waits for in the set: whether it waited there. Its call answers `Withdrawn`.
+    /// Gives up a lock whose guard was forgotten (`std::mem::forget`), in any order.
     ///
     /// ```
     /// # use lockrun::{Error, Mode};
-    /// # let (_nodes, mut sessions) = lockrun::open("nodes 1\nset a\nclient ann at 0\nclient ben at 0\nclient cam at 0\n", 1 << 20)?;
-    /// # let (mut cam, mut ben, mut ann) = (sessions.remove(2), sessions.remove(1), sessions.remove(0));
-    /// # let patience = std::time::Duration::from_millis(10);
-    /// let _lock = ann.lock(0, Mode::Read)?;
-    /// assert_eq!(ben.ask(0, Mode::Write, patience).err(), Some(Error::StillWaits));
-    /// assert!(cam.withdraw(0, ben.client())?);
-    /// assert_eq!(ben.wait(patience).err(), Some(Error::Withdrawn));
-    /// # Ok::<(), lockrun::Error>(())
-    /// ```
-    pub fn withdraw(&mut self, set: u32, whose: u32) -> Result<bool, Error> {
-        match self.waiter.call(Asked { kind: exports::WITHDRAW, set, first: whose, second: 0 })?.0 {
-            exports::TRUE => Ok(true),
-            exports::FALSE => Ok(false),
-            code => Err(Error::of(code)),
-        }
-    }
-
-    /// Gives up what it waits for, and then drops all locks that it was granted and whose guards were forgotten, family by family:
-    /// how many they were.
-    ///
-    /// ```
-    /// # use lockrun::Mode;
-    /// # let (mut nodes, mut sessions) = lockrun::open("nodes 1\nset a\nset b\nclient ann at 0\nclient ben at 0\n", 1 << 20)?;
-    /// # let (mut ben, mut ann) = (sessions.remove(1), sessions.remove(0));
+    /// # let (_nodes, mut sessions) = lockrun::open("nodes 1\nset a\nset b\nclient ann at 0\nclient ben at 0\n", 1 << 20)?;
+    /// # let mut ann = sessions.remove(0);
     /// std::mem::forget(ann.lock(0, Mode::Read)?);
     /// std::mem::forget(ann.lock(1, Mode::Write)?);
-    /// assert_eq!(ann.abort()?, 2);
+    /// ann.unlock(0, Mode::Read)?;
+    /// assert_eq!(ann.unlock(0, Mode::Read), Err(Error::NotHeld));
     /// # Ok::<(), lockrun::Error>(())
     /// ```
-    pub fn abort(&mut self) -> Result<u64, Error> {
-        self.waiter.end_ask()?;
-        let mut all = 0;
-        while let Some(set) = self.waiter.last_held() {
-            all += self.drop_locks(set, self.client)?;
+    pub fn unlock(&mut self, set: u32, mode: Mode) -> Result<(), Error> {
+        match self.waiter.call(unlock_of(set, mode))?.0 {
+            exports::UNLOCKED => Ok(()),
+            code => Err(Error::of(code)),
         }
-        Ok(all)
     }
 
     fn locked(&mut self, set: u32, mode: Mode, patience: Option<Duration>) -> Result<Guard<'_>, Error> {
@@ -254,17 +188,15 @@ impl Session {
             code => Err(Error::of(code)),
         }
     }
-
-    fn asked_lock(&self) -> Result<(u32, Mode), Error> {
-        let asked = self.waiter.asked().filter(|asked| asked.kind == exports::LOCK).ok_or(Error::NothingAsked)?;
-        let mode = MODES.into_iter().find(|&mode| mode as u32 == asked.first).ok_or(Error::NothingAsked)?;
-        Ok((asked.set, mode))
-    }
 }
 
-const MODES: [Mode; 6] =
+pub(crate) const MODES: [Mode; 6] =
     [Mode::IntentionRead, Mode::Read, Mode::Upgrade, Mode::IntentionWrite, Mode::ReadIntentionWrite, Mode::Write];
 
-fn lock_of(set: u32, mode: Mode) -> Asked {
+pub(crate) fn lock_of(set: u32, mode: Mode) -> Asked {
     Asked { kind: exports::LOCK, set, first: mode as u32, second: 0 }
+}
+
+pub(crate) fn unlock_of(set: u32, mode: Mode) -> Asked {
+    Asked { kind: exports::UNLOCK, set, first: mode as u32, second: 0 }
 }

@@ -1,20 +1,20 @@
 //! What a session asks, and how it waits for the reply or gives up.
 use crate::error::{check, Error};
 use crate::exports::{self, Handle};
-use crate::nodes::Stations;
-use std::collections::BTreeMap;
+use crate::held::Held;
+use crate::stations::Stations;
 use std::sync::Arc;
 use std::thread::{sleep, yield_now};
 use std::time::{Duration, Instant};
 
-/// After so many looks a caller turns other nodes too, yields, and naps.
-const OWN: u32 = 2;
-const SPINS: u32 = 20;
-const YIELDS: u32 = 200;
-pub(crate) const LONGEST_NAP: Duration = Duration::from_millis(1);
+/// How often a thread looks before it sleeps until it is told.
+const LOOKS: u32 = 3;
+
+/// So long each call lets other threads finish the turns that they are at, if its time is over before.
+const GRACE: Duration = Duration::from_millis(2);
 
 /// How long it pauses before it asks again for what was withheld.
-const FIRST_PAUSE: Duration = Duration::from_millis(1);
+pub(crate) const FIRST_PAUSE: Duration = Duration::from_millis(1);
 const LONGEST_PAUSE: Duration = Duration::from_millis(64);
 
 /// A command, by the numbers of the library.
@@ -27,14 +27,14 @@ pub(crate) struct Asked {
 }
 
 /// A reply, and how many locks were dropped.
-type Reply = (u32, u64);
+pub(crate) type Reply = (u32, u64);
 
-/// A session's handle, and what is to come of it. Want of memory in a turn loses nothing, so the turn is made again.
+/// A session's handle, and what is to come of it.
 pub(crate) struct Waiter {
     pub raw: Handle,
     pub stations: Arc<Stations>,
-    client: u32,
-    home: usize,
+    pub client: u32,
+    pub home: usize,
     // Whether the script is of version 3, which alone knows how to give up.
     gives_up: bool,
     // The command whose reply is still to come, and whether that to a withdraw of it is to come too.
@@ -42,13 +42,12 @@ pub(crate) struct Waiter {
     withdraws: bool,
     // The reply to the command, where only that to the withdraw is still to come.
     answer: Option<Reply>,
-    // The sets in which the client has locks, and how many.
-    held: BTreeMap<u32, u64>,
+    held: Held,
 }
 
 impl Waiter {
     pub fn new(raw: Handle, stations: Arc<Stations>, client: u32, home: usize, gives_up: bool) -> Waiter {
-        let held = BTreeMap::new();
+        let held = Held::default();
         Waiter { raw, stations, client, home, gives_up, asked: None, withdraws: false, answer: None, held }
     }
 
@@ -59,50 +58,84 @@ impl Waiter {
 
     /// The last set in which the client has locks.
     pub fn last_held(&self) -> Option<u32> {
-        self.held.keys().next_back().copied()
+        self.held.last()
     }
 
-    pub fn submit(&mut self, asked: Asked) -> Result<(), Error> {
+    /// Submits a command: the reply, if it is there at once.
+    pub fn begin(&mut self, asked: Asked) -> Result<Option<Reply>, Error> {
         if self.asked.is_some() {
             return Err(Error::StillWaits);
         }
-        self.put(asked)?;
+        let came = self.put(asked)?;
         self.asked = Some(asked);
-        Ok(())
+        Ok(came.and_then(|reply| self.note(reply)))
     }
 
-    fn put(&mut self, asked: Asked) -> Result<(), Error> {
-        // SAFETY: the handle stands for something, and `&mut` gives it to one call at a time.
-        check(unsafe { exports::lockrun_submit(&mut self.raw, asked.kind, asked.set, asked.first, asked.second) })
+    // Where its station is free it makes the turns itself; else who has the station does, since its mark is set.
+    fn put(&mut self, asked: Asked) -> Result<Option<Reply>, Error> {
+        match self.stations.submit_and_turn(self.client, self.home, &mut self.raw, asked) {
+            Some((exports::NOTHING | exports::LOG_FULL | exports::NO_MEMORY, _)) => Ok(None),
+            Some((code, count)) if code >= exports::GRANTED => Ok(Some((code, count))),
+            Some((code, _)) => Err(Error::of(code)),
+            None => {
+                let Asked { kind, set, first, second } = asked;
+                // SAFETY: the handle stands for something, and `&mut` gives it to one call at a time.
+                check(unsafe { exports::lockrun_submit(&mut self.raw, kind, set, first, second) })?;
+                self.stations.mark(self.home);
+                Ok(None)
+            }
+        }
     }
 
     /// A call that waits for no other client.
     pub fn call(&mut self, asked: Asked) -> Result<Reply, Error> {
-        self.submit(asked)?;
-        self.reply(None)
+        match self.begin(asked)? {
+            Some(reply) => Ok(reply),
+            None => self.reply_until(None),
+        }
     }
 
     /// Asks for a lock or a change, and gives up once the time is over. What was given up before in the same set may still stand
-    /// at another node; then it asks again, after pauses that grow.
+    /// at another node; then it asks again, at once after turns of the nodes, and then after pauses that grow.
     pub fn within(&mut self, asked: Asked, patience: Option<Duration>) -> Result<u32, Error> {
-        if patience.is_some() && self.asked.is_none() && !self.gives_up {
-            return Err(Error::BadArgument);
+        if patience.is_some() {
+            self.may_give_up()?;
         }
-        let end = end_of(patience);
-        let mut pause = FIRST_PAUSE;
+        let (mut end, mut pause) = (None, Duration::ZERO);
         loop {
-            self.submit(asked)?;
-            let code = match self.reply_until(end) {
-                Ok((code, _)) => code,
-                Err(why) => self.give_up_since(why)?,
+            let code = match self.begin(asked)? {
+                Some((code, _)) => code,
+                None => {
+                    end = end.or_else(|| end_of(patience));
+                    match self.reply_until(end) {
+                        Ok((code, _)) => code,
+                        Err(why) => self.give_up_since(why)?,
+                    }
+                }
             };
+            end = end.or_else(|| if code == exports::WITHHELD { end_of(patience) } else { None });
             match code {
-                exports::WITHHELD if is_over(end) => return Err(Error::Withdrawn),
-                exports::WITHHELD => self.pause(pause, end)?,
+                exports::WITHHELD if pause > Duration::ZERO && is_over(end) => return Err(Error::Withdrawn),
+                exports::WITHHELD => self.pause_withheld(left_of(end).map_or(pause, |left| pause.min(left))),
                 code => return Ok(code),
             }
-            pause = LONGEST_PAUSE.min(2 * pause);
+            pause = LONGEST_PAUSE.min(FIRST_PAUSE.max(2 * pause));
         }
+    }
+
+    /// Whether it may ask for what it may have to give up.
+    pub fn may_give_up(&self) -> Result<(), Error> {
+        if self.asked.is_none() && !self.gives_up {
+            return Err(Error::BadArgument);
+        }
+        Ok(())
+    }
+
+    // What was given up is gone once other nodes had their turns.
+    fn pause_withheld(&self, pause: Duration) {
+        self.stations.help_all();
+        sleep(pause);
+        self.stations.help_all();
     }
 
     fn give_up_since(&mut self, why: Error) -> Result<u32, Error> {
@@ -117,20 +150,13 @@ impl Waiter {
     pub fn give_up(&mut self) -> Result<Reply, Error> {
         let asked = self.asked.ok_or(Error::NothingAsked)?;
         if !self.withdraws {
-            self.put(Asked { kind: exports::WITHDRAW, set: asked.set, first: self.client, second: 0 })?;
+            let came = self.put(Asked { kind: exports::WITHDRAW, set: asked.set, first: self.client, second: 0 })?;
             self.withdraws = true;
-        }
-        let mut tries = 0;
-        loop {
-            let turned = self.stations.turn(self.home);
-            if let Some(reply) = self.take_reply() {
+            if let Some(reply) = came.and_then(|reply| self.note(reply)) {
                 return Ok(reply);
             }
-            if turned == Err(Error::LogFull) {
-                return Err(Error::LogFull);
-            }
-            back_off(&mut tries, None);
         }
+        self.reply_until(None)
     }
 
     /// Gives up what is asked for, if anything is; and a lock that was granted first is unlocked.
@@ -144,120 +170,107 @@ impl Waiter {
     }
 
     /// Waits for the reply, for so long.
-    pub fn reply(&mut self, patience: Option<Duration>) -> Result<Reply, Error> {
-        self.reply_until(end_of(patience))
+    pub fn reply(&mut self, patience: Duration) -> Result<Reply, Error> {
+        self.reply_until(end_of(Some(patience)))
     }
 
     fn reply_until(&mut self, end: Option<Instant>) -> Result<Reply, Error> {
-        let mut tries = 0;
+        if let Some(reply) = self.take_reply() {
+            return Ok(reply);
+        }
+        self.stations.begin_wait();
+        let reply = self.sleep_until(end);
+        self.stations.seat(self.client).end();
+        self.stations.end_wait();
+        reply
+    }
+
+    fn sleep_until(&mut self, end: Option<Instant>) -> Result<Reply, Error> {
+        let (mut looks, least) = (0, end.map(|_| Instant::now() + GRACE));
         loop {
-            let turned = self.help(tries);
-            if let Some(reply) = self.take_reply() {
+            if looks >= LOOKS {
+                self.stations.seat(self.client).begin_sleep();
+            }
+            let rests = self.stations.help_all();
+            if let Some(reply) = self.look()? {
                 return Ok(reply);
             }
-            if turned == Err(Error::LogFull) {
-                return Err(Error::LogFull);
-            }
-            if tries >= OWN && is_over(end) {
+            if !is_over(end) {
+                self.pause(looks, end);
+            } else if rests || is_over(least) {
                 return Err(Error::StillWaits);
+            } else {
+                yield_now();
             }
-            back_off(&mut tries, end);
+            looks = LOOKS.min(looks + 1);
+        }
+    }
+
+    fn pause(&self, looks: u32, end: Option<Instant>) {
+        let seat = self.stations.seat(self.client);
+        if looks < LOOKS {
+            seat.spin();
+        } else {
+            seat.sleep(end);
+        }
+    }
+
+    /// The reply, if it is there.
+    pub fn look(&mut self) -> Result<Option<Reply>, Error> {
+        match self.take_reply() {
+            None if self.stations.is_full() => Err(Error::LogFull),
+            reply => Ok(reply),
         }
     }
 
     // Takes the replies that are there: that to the command, once all have come.
     fn take_reply(&mut self) -> Option<Reply> {
-        while let Some((code, count)) = self.poll() {
-            if self.answer.is_none() {
-                self.answer = Some((code, count));
-                self.keep(code, count);
-            } else {
-                self.withdraws = false;
-            }
-            if !self.withdraws {
-                self.asked = None;
-                return self.answer.take();
+        while let Some(reply) = self.poll() {
+            if let Some(reply) = self.note(reply) {
+                return Some(reply);
             }
         }
         None
     }
 
+    // Notes a reply: that to the command, if it was the last one that is to come.
+    fn note(&mut self, reply: Reply) -> Option<Reply> {
+        if self.answer.is_none() {
+            self.answer = Some(reply);
+            self.keep(reply);
+        } else {
+            self.withdraws = false;
+        }
+        if self.withdraws {
+            return None;
+        }
+        self.asked = None;
+        self.answer.take()
+    }
+
+    fn keep(&mut self, (code, count): Reply) {
+        if let Some(asked) = self.asked {
+            self.held.keep(self.client, asked, code, count);
+        }
+    }
+
     fn poll(&mut self) -> Option<Reply> {
         let mut count = 0;
-        // SAFETY: as in `put`.
+        // SAFETY: the handle stands for something, and `&mut` gives it to one call at a time.
         let code = unsafe { exports::lockrun_poll(&mut self.raw, &mut count) };
         (code != exports::NOTHING).then_some((code, count))
     }
-
-    // Keeps what a reply says of the client's locks.
-    fn keep(&mut self, code: u32, count: u64) {
-        match (code, self.asked) {
-            (exports::GRANTED, Some(Asked { set, .. }))
-            | (exports::TRUE, Some(Asked { kind: exports::TRY, set, .. })) => {
-                *self.held.entry(set).or_default() += 1;
-            }
-            (exports::UNLOCKED, Some(Asked { set, .. })) => self.unkeep(set),
-            (exports::DROPPED, Some(Asked { set, first, .. })) if first == self.client => {
-                self.forget_family(set, count)
-            }
-            _ => {}
-        }
-    }
-
-    fn unkeep(&mut self, set: u32) {
-        match self.held.get_mut(&set) {
-            Some(locks) if *locks > 1 => *locks -= 1,
-            _ => drop(self.held.remove(&set)),
-        }
-    }
-
-    // All locks of the set's family are gone; if there are none but these, all are.
-    fn forget_family(&mut self, set: u32, count: u64) {
-        if count >= self.held.values().sum() {
-            self.held.clear();
-        } else {
-            self.held.remove(&set);
-        }
-    }
-
-    // Turns the nodes for so long.
-    fn pause(&self, pause: Duration, end: Option<Instant>) -> Result<(), Error> {
-        let over = end.into_iter().chain(Instant::now().checked_add(pause)).min();
-        let mut tries = 0;
-        while !is_over(over) {
-            if self.help(tries) == Err(Error::LogFull) {
-                return Err(Error::LogFull);
-            }
-            back_off(&mut tries, over);
-        }
-        Ok(())
-    }
-
-    fn help(&self, tries: u32) -> Result<(), Error> {
-        if tries < OWN {
-            self.stations.turn(self.home)?;
-        } else {
-            self.stations.turn_all()?;
-        }
-        Ok(())
-    }
 }
 
-fn end_of(patience: Option<Duration>) -> Option<Instant> {
+/// When this time is over, or never, if the clock doesn't count so far.
+pub(crate) fn end_of(patience: Option<Duration>) -> Option<Instant> {
     patience.and_then(|patience| Instant::now().checked_add(patience))
 }
 
-fn is_over(end: Option<Instant>) -> bool {
+pub(crate) fn is_over(end: Option<Instant>) -> bool {
     end.map_or(false, |end| Instant::now() >= end)
 }
 
-// No nap is longer than what is left of the time.
-fn back_off(tries: &mut u32, end: Option<Instant>) {
-    if *tries >= YIELDS {
-        let nap = LONGEST_NAP.min(Duration::from_micros(u64::from(*tries - YIELDS + 1)));
-        sleep(end.map_or(nap, |end| nap.min(end.saturating_duration_since(Instant::now()))));
-    } else if *tries >= SPINS {
-        yield_now();
-    }
-    *tries = tries.saturating_add(1);
+fn left_of(end: Option<Instant>) -> Option<Duration> {
+    end.map(|end| end.saturating_duration_since(Instant::now()))
 }

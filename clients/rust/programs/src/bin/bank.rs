@@ -2,7 +2,7 @@
 //!
 //! usage: bank CALLERS NODES TRANSFERS SCRIPT JOURNAL: it writes the script of what was asked, and the journal, into these
 //! files.
-use lockrun::{open, Error, Mode, Nodes, Served, Session};
+use lockrun::{Error, Mode, Nodes, Opening, Served, Session};
 use std::cell::UnsafeCell;
 use std::fs::write;
 use std::ops::Range;
@@ -12,7 +12,6 @@ use std::time::Duration;
 const ACCOUNTS: usize = 4;
 const FIRST: i64 = 1000;
 const AMOUNT: i64 = 5;
-const LIMIT: u64 = 1 << 40;
 
 /// How many transfers all callers make together before it is asked what they were served; and the commands of a transfer.
 const BETWEEN: usize = 100;
@@ -110,7 +109,7 @@ fn main() -> Result<(), Box<dyn std::error::Error>> {
     };
     let (callers, nodes, transfers): (usize, usize, usize) = (callers.parse()?, nodes.parse()?, transfers.parse()?);
     let money = Money(std::array::from_fn(|_| UnsafeCell::new(FIRST)));
-    let (mut nodes, mut sessions) = open(&script(callers, nodes), LIMIT)?;
+    let (mut nodes, mut sessions) = Opening::new(&script(callers, nodes)).keep_journal().open()?;
     compare(&mut nodes, &mut sessions, 0)?;
     let each = BETWEEN.div_ceil(callers);
     for first in (0..transfers).step_by(each) {

@@ -3,7 +3,7 @@
 //!
 //! usage: deadlines NODES SCRIPT JOURNAL: the ring and the threads on so many nodes. It writes the script of what the threads
 //! asked, and the journal, into these files.
-use lockrun::{open, Error, Guard, Journal, Mode, Nodes, Session};
+use lockrun::{Error, Guard, Journal, Mode, Nodes, Opening, Session};
 use std::error::Error as Fault;
 use std::panic::catch_unwind;
 use std::sync::atomic::{AtomicI32, Ordering::SeqCst};
@@ -26,6 +26,10 @@ const WRITER: i32 = 1000;
 /// Who holds each set by now, as the callers see it: 1 for a reader, and many for a writer.
 static HOLDERS: [AtomicI32; SETS] = [const { AtomicI32::new(0) }; SETS];
 
+fn open(script: &str) -> Result<(Nodes, Vec<Session>), Error> {
+    Opening::new(script).keep_journal().open()
+}
+
 fn ends(nodes: Nodes, sessions: Vec<Session>) -> Result<Journal, Error> {
     let journal = nodes.finish(sessions)?;
     assert_eq!((journal.held, journal.waiting), (0, 0));
@@ -40,7 +44,7 @@ fn two_locks(session: &mut Session) -> Result<(), Error> {
 }
 
 fn in_time() -> Result<(), Error> {
-    let (mut nodes, mut sessions) = open("nodes 1\nset a\nset b\nclient ann at 0\nclient ben at 0\n", 1 << 20)?;
+    let (mut nodes, mut sessions) = open("nodes 1\nset a\nset b\nclient ann at 0\nclient ben at 0\n")?;
     let [ann, ben] = sessions.as_mut_slice() else { unreachable!("two clients") };
     let mut held = ann.lock(0, Mode::Write)?;
     assert_eq!(ben.lock_within(0, Mode::Read, AT_ONCE).err(), Some(Error::Withdrawn));
@@ -62,7 +66,7 @@ fn in_time() -> Result<(), Error> {
 
 // Who goes on waiting gives up when it likes, or a neighbour gives it up. A panic ends a guard as any other end does.
 fn by_others() -> Result<(), Error> {
-    let (nodes, mut sessions) = open("nodes 1\nset a\nset b\nclient ann at 0\nclient ben at 0\n", 1 << 20)?;
+    let (nodes, mut sessions) = open("nodes 1\nset a\nset b\nclient ann at 0\nclient ben at 0\n")?;
     let [ann, ben] = sessions.as_mut_slice() else { unreachable!("two clients") };
     std::mem::forget(ann.lock(0, Mode::Write)?);
     std::mem::forget(ben.lock(1, Mode::Write)?);
@@ -89,8 +93,7 @@ fn by_others() -> Result<(), Error> {
 
 // In a script of version 2 nothing is given up, so that nothing is asked for in so much time.
 fn in_another_version() -> Result<(), Error> {
-    let (nodes, mut sessions) =
-        open("# old\n\nversion 2\nnodes 1\nset a\nclient ann at 0\nclient ben at 0\n", 1 << 20)?;
+    let (nodes, mut sessions) = open("# old\n\nversion 2\nnodes 1\nset a\nclient ann at 0\nclient ben at 0\n")?;
     let [ann, ben] = sessions.as_mut_slice() else { unreachable!("two clients") };
     let held = ann.lock(0, Mode::ReadIntentionWrite)?;
     assert_eq!(ben.lock_within(0, Mode::Read, AT_ONCE).err(), Some(Error::BadArgument));
@@ -118,7 +121,7 @@ fn run_all(sessions: &mut [Session], call: impl Fn(&mut Session) -> Result<(), E
 
 // Each locks a set, and then that of the next one. The first one loses its patience, and gives up what it has.
 fn ring(count: usize) -> Result<(), Error> {
-    let (nodes, mut sessions) = open(&script(count, RING), 1 << 20)?;
+    let (nodes, mut sessions) = open(&script(count, RING))?;
     let all_have_one = Barrier::new(RING);
     run_all(&mut sessions, |session| {
         let own = session.client();
@@ -207,7 +210,7 @@ fn call(session: &mut Session) -> Result<(), Error> {
 
 // All at once; and at the end each set is free for each caller.
 fn threads(count: usize) -> Result<Journal, Error> {
-    let (mut nodes, mut sessions) = open(&script(count, CALLERS), 1 << 20)?;
+    let (mut nodes, mut sessions) = open(&script(count, CALLERS))?;
     let all_are_here = Barrier::new(CALLERS);
     run_all(&mut sessions, |session| {
         all_are_here.wait();
