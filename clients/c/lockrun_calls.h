@@ -6,12 +6,17 @@
 #include "lockrun.h"
 #include <string.h>
 
+/* No client, in so many rows of 64. */
+static inline void lockrun_tell_none(lockrun_clients *told, size_t rows) {
+    for (size_t k = 0; k < rows; k++) told->bits[k] = 0;
+}
+
 /* A turn of a station. To which nodes it sent letters, and whom it told a reply, is added to `sent` and `told`, of which so
  * many rows are in use. */
 static inline uint32_t lockrun_turn_once(lockrun_station *station, uint64_t *sent, lockrun_clients *told, size_t rows) {
     uint64_t to = 0;
     lockrun_clients some;
-    memset(&some, 0, sizeof some);
+    lockrun_tell_none(&some, rows);
     uint32_t code = lockrun_turn_telling(station, &to, &some);
     *sent |= to;
     for (size_t k = 0; k < rows; k++) told->bits[k] |= some.bits[k];
@@ -23,6 +28,7 @@ static inline uint32_t lockrun_turn_once(lockrun_station *station, uint64_t *sen
 static inline uint32_t lockrun_do_once(lockrun_station *station, lockrun_session *session, uint32_t kind, uint32_t set,
                                        uint32_t first, uint32_t second, uint64_t *count, uint64_t *sent,
                                        lockrun_clients *told) {
+    *sent = 0;
     return lockrun_do(station, session, kind, set, first, second, count, sent, told);
 }
 

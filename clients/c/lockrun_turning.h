@@ -55,7 +55,7 @@ static inline uint32_t lockrun_turn_node(lockrun_nodes *nodes, size_t place, con
     while (lockrun_get(&node->work) && lockrun_take_node(node)) {
         lockrun_clients told;
         uint64_t sent = 0;
-        memset(&told, 0, sizeof told);
+        lockrun_tell_none(&told, nodes->rows);
         code = lockrun_turn_batch(nodes, place, &sent, &told);
         lockrun_let_go(node);
         *owed |= lockrun_pass_on(nodes, sent, &told, own);

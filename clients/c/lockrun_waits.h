@@ -115,7 +115,7 @@ static inline uint32_t lockrun_do_here(lockrun_caller *caller, uint32_t kind, ui
     lockrun_node *node = &nodes->node[caller->home];
     lockrun_clients told;
     uint64_t sent = 0, owed = 0;
-    memset(&told, 0, sizeof told);
+    lockrun_tell_none(&told, nodes->rows);
     uint32_t code = lockrun_do_once(&node->station, &caller->session, kind, set, first, second, &caller->dropped, &sent, &told);
     /* Letters of its last move go in the next turn. */
     uint32_t last = nodes->count > 1 ? lockrun_turn_once(&node->station, &sent, &told, nodes->rows) : code;
