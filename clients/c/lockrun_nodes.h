@@ -16,7 +16,6 @@
 #include "lockrun_races.h"
 #include "lockrun_text.h"
 #include "lockrun_turning.h"
-#include <sched.h>
 
 /* Added to the limit on moves: the nodes keep the journal of all that they do. */
 #define LOCKRUN_KEEP ((uint64_t)1 << 63)
@@ -144,17 +143,14 @@ static inline uint32_t lockrun_nodes_served(lockrun_nodes *nodes, size_t *submit
  * in calls. */
 static inline uint32_t lockrun_nodes_forget(lockrun_nodes *nodes) {
     uint32_t code = LOCKRUN_OK;
-    nodes->keeps = 0;
     LOCKRUN_UNSEEN_BEGIN;
+    nodes->keeps = 0;
     for (size_t k = 0; k < nodes->count; k++) {
         lockrun_node *node = &nodes->node[k];
-        while (!lockrun_take_node(node)) sched_yield();
+        lockrun_keep_node(nodes, k);
         uint32_t forgot = lockrun_forget(&node->station);
         node->moves = 0;
-        lockrun_let_go(node);
-        uint64_t owed = lockrun_get(&node->work) ? lockrun_bit(k) : 0;
-        lockrun_turn_owed(nodes, 0, &owed);
-        if (owed) lockrun_hand_on(nodes);
+        lockrun_return_node(nodes, k);
         if (forgot != LOCKRUN_OK) code = forgot;
     }
     LOCKRUN_UNSEEN_END;

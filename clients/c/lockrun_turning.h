@@ -2,10 +2,11 @@
 #ifndef LOCKRUN_TURNING_H
 #define LOCKRUN_TURNING_H
 #include "lockrun_notice.h"
+#include <sched.h>
 
 /* How many turns of a node a thread makes before it lets others have it; after how many moves a node forgets; and how many
  * batches a thread makes for others before it hands on what is left. */
-enum { LOCKRUN_BATCH = 32, LOCKRUN_FORGETS = 4096, LOCKRUN_BATCHES = 64 };
+enum { LOCKRUN_BATCH = 32, LOCKRUN_FORGETS = 4096, LOCKRUN_BATCHES = 16 };
 
 static inline int lockrun_is_fault(uint32_t code) { return code == LOCKRUN_LOG_FULL || code == LOCKRUN_NO_MEMORY; }
 
@@ -84,5 +85,17 @@ static inline uint32_t lockrun_help(lockrun_nodes *nodes) {
     const uint32_t code = lockrun_turn_owed(nodes, 0, &owed);
     if (owed) lockrun_hand_on(nodes);
     return code;
+}
+
+/* Waits for the station of a node; and lets go of it, and makes the turns that others left to this thread meanwhile. */
+static inline void lockrun_keep_node(lockrun_nodes *nodes, size_t place) {
+    while (!lockrun_take_node(&nodes->node[place])) sched_yield();
+}
+
+static inline void lockrun_return_node(lockrun_nodes *nodes, size_t place) {
+    lockrun_let_go(&nodes->node[place]);
+    uint64_t owed = lockrun_get(&nodes->node[place].work) ? lockrun_bit(place) : 0;
+    (void)lockrun_turn_owed(nodes, 0, &owed);
+    if (owed) lockrun_hand_on(nodes);
 }
 #endif
