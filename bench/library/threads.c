@@ -16,7 +16,7 @@
 
 enum { MOST_THREADS = 64, MOST_ROUNDS = 1000, ACCOUNTS = 4, MOST_SETS = MOST_THREADS + 1, BEFORE_LOOK = 16 };
 
-enum kind { OURS, DB, MUTEX };
+enum kind { BY_LIBRARY, BY_DB, BY_MUTEX };
 
 typedef struct { _Alignas(128) long made, delayed; lockrun_caller *caller; uint32_t locker; } worker;
 
@@ -68,15 +68,15 @@ static void put_db(DB_LOCK *lock) { (void)lock; }
 
 static void lock(worker *own, int set, int intention, DB_LOCK *taken) {
     const enum lockrun_mode mode = intention ? LOCKRUN_INTENTION_WRITE : LOCKRUN_WRITE;
-    if (kind == OURS) want(lockrun_lock(own->caller, (uint32_t)set, mode, LOCKRUN_FOREVER), LOCKRUN_GRANTED);
-    else if (kind == DB) get_db(own, set, intention, taken);
+    if (kind == BY_LIBRARY) want(lockrun_lock(own->caller, (uint32_t)set, mode, LOCKRUN_FOREVER), LOCKRUN_GRANTED);
+    else if (kind == BY_DB) get_db(own, set, intention, taken);
     else if (!intention) pthread_mutex_lock(&table[set].lock);
 }
 
 static void unlock(worker *own, int set, int intention, DB_LOCK *taken) {
     const enum lockrun_mode mode = intention ? LOCKRUN_INTENTION_WRITE : LOCKRUN_WRITE;
-    if (kind == OURS) want(lockrun_unlock(own->caller, (uint32_t)set, mode, LOCKRUN_FOREVER), LOCKRUN_UNLOCKED);
-    else if (kind == DB) put_db(taken);
+    if (kind == BY_LIBRARY) want(lockrun_unlock(own->caller, (uint32_t)set, mode, LOCKRUN_FOREVER), LOCKRUN_UNLOCKED);
+    else if (kind == BY_DB) put_db(taken);
     else if (!intention) pthread_mutex_unlock(&table[set].lock);
 }
 
@@ -174,7 +174,7 @@ static double median(double *rates, int found) {
 int main(int words, char **word) {
     static double good[MOST_ROUNDS], every[MOST_ROUNDS];
     if (words != 7) { fputs("usage: threads ours|db|mutex own|one|bank THREADS NODES MILLISECONDS ROUNDS\n", stderr); return 1; }
-    kind = !strcmp(word[1], "ours") ? OURS : !strcmp(word[1], "db") ? DB : MUTEX;
+    kind = !strcmp(word[1], "ours") ? BY_LIBRARY : !strcmp(word[1], "db") ? BY_DB : BY_MUTEX;
     is_bank = !strcmp(word[2], "bank");
     is_one = !strcmp(word[2], "one");
     count = atoi(word[3]);
@@ -184,12 +184,12 @@ int main(int words, char **word) {
         fputs("threads: 1 to 64 threads and nodes, 1 to 1000 rounds\n", stderr);
         return 1;
     }
-    if (kind == OURS) open_ours();
-    if (kind == DB) open_db();
+    if (kind == BY_LIBRARY) open_ours();
+    if (kind == BY_DB) open_db();
     for (int k = 0; k < MOST_SETS; k++) pthread_mutex_init(&table[k].lock, 0);
     for (int k = 0; k < count; k++) {
-        if (kind == OURS) workers[k].caller = &nodes.caller[k];
-        if (kind == DB) workers[k].locker = new_locker();
+        if (kind == BY_LIBRARY) workers[k].caller = &nodes.caller[k];
+        if (kind == BY_DB) workers[k].locker = new_locker();
     }
     int found = 0;
     for (int k = 0; k < rounds; k++) {
@@ -201,6 +201,6 @@ int main(int words, char **word) {
     long sum = 0;
     for (int k = 0; k < ACCOUNTS; k++) sum += money[k];
     want(sum, 0);
-    if (kind == OURS) lockrun_nodes_free(&nodes);
+    if (kind == BY_LIBRARY) lockrun_nodes_free(&nodes);
     return 0;
 }
