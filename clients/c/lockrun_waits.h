@@ -114,15 +114,13 @@ static inline uint32_t lockrun_do_here(lockrun_caller *caller, uint32_t kind, ui
     lockrun_nodes *nodes = caller->nodes;
     lockrun_node *node = &nodes->node[caller->home];
     lockrun_clients told;
-    uint64_t sent = 0, owed = 0;
+    uint64_t sent = 0;
     lockrun_tell_none(&told, nodes->rows);
-    uint32_t code = lockrun_do_once(&node->station, &caller->session, kind, set, first, second, &caller->dropped, &sent, &told);
-    /* Letters of its last move go in the next turn. */
-    uint32_t last = nodes->count > 1 ? lockrun_turn_once(&node->station, &sent, &told, nodes->rows) : code;
-    if (last == LOCKRUN_OK || code == LOCKRUN_NOTHING || lockrun_is_fault(code)) lockrun_put(&node->work, 1);
+    const uint32_t code = lockrun_do_once(&node->station, &caller->session, kind, set, first, second, &caller->dropped, &sent, &told);
+    if (code == LOCKRUN_NOTHING || lockrun_is_fault(code)) lockrun_put(&node->work, 1);
     lockrun_count_moves(nodes, node, 2);
     lockrun_let_go(node);
-    owed = lockrun_pass_on(nodes, sent, &told, caller);
+    uint64_t owed = lockrun_pass_on(nodes, sent, &told, caller);
     if (lockrun_get(&node->work)) owed |= lockrun_bit(caller->home);
     if (owed) {
         (void)lockrun_turn_owed(nodes, caller, &owed);
