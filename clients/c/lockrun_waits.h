@@ -96,6 +96,7 @@ static inline uint32_t lockrun_wait_until(lockrun_caller *caller, int64_t end) {
     if (!caller->waits && !caller->withdraws) return LOCKRUN_NOTHING;
     lockrun_nodes *nodes = caller->nodes;
     lockrun_watch_no_more(caller);
+    if (lockrun_take_reply(caller)) return caller->answer;
     uint64_t owed = lockrun_unturned(nodes);
     int came = 0;
     for (unsigned looks = 0;; looks++) {
