@@ -63,16 +63,6 @@ static inline int lockrun_may_leave(lockrun_caller *caller, int64_t end, unsigne
     return 0;
 }
 
-/* From now on its descriptor, if it has one, is readable when it is to look again. LOCKRUN_WAITS, or the reply. */
-static inline uint32_t lockrun_watch(lockrun_caller *caller) {
-    if (caller->sleeper.descriptor <= 0) return LOCKRUN_WAITS;
-    lockrun_put(&caller->sleeper.watched, 1);
-    lockrun_lie_down(caller);
-    if (lockrun_take_reply(caller)) return caller->answer;
-    if (lockrun_unturned(caller->nodes)) lockrun_hand_on(caller->nodes);
-    return LOCKRUN_WAITS;
-}
-
 /* Its descriptor isn't readable any more, and nobody makes it so. */
 static inline void lockrun_watch_no_more(lockrun_caller *caller) {
     if (!lockrun_get(&caller->sleeper.watched)) return;
@@ -83,6 +73,19 @@ static inline void lockrun_watch_no_more(lockrun_caller *caller) {
     ssize_t size = read(caller->sleeper.descriptor, &count, sizeof count);
     (void)size; /* where nothing is there it doesn't wait */
 #endif
+}
+
+/* From now on its descriptor, if it has one, is readable when it is to look again. LOCKRUN_WAITS, or the reply. */
+static inline uint32_t lockrun_watch(lockrun_caller *caller) {
+    if (caller->sleeper.descriptor <= 0) return LOCKRUN_WAITS;
+    lockrun_put(&caller->sleeper.watched, 1);
+    lockrun_lie_down(caller);
+    if (lockrun_take_reply(caller)) {
+        lockrun_watch_no_more(caller);
+        return caller->answer;
+    }
+    if (lockrun_unturned(caller->nodes)) lockrun_hand_on(caller->nodes);
+    return LOCKRUN_WAITS;
 }
 
 /* Hands on what it didn't come to, and leaves with this answer. */
