@@ -169,34 +169,45 @@ static void work(void) {
     }
 }
 
-/* Nodes in processes of their own: frames go from one to the other, or are damaged. */
+/* Opens two nodes that lie apart, with a new start. */
+static void open_remotes(void) {
+    static const uint8_t key[] = "random";
+    const uint8_t *text = (const uint8_t *)script;
+    start++;
+    for (uint32_t me = 0; me < REMOTES; me++) {
+        uint32_t code = lockrun_node_open(text, sizeof script - 1, me, key, sizeof key, start, 100000, 2, &remote[me]);
+        want(code == LOCKRUN_OK, "node_open", code);
+        code = lockrun_take_session(&remote[me], &guest[me]);
+        want(code == LOCKRUN_OK, "a session of a node", code);
+    }
+}
+
+static void end_remotes(void) {
+    for (uint32_t me = 0; me < REMOTES; me++) {
+        lockrun_handle lines = {0};
+        lockrun_free(&guest[me]);
+        const uint32_t code = lockrun_node_finish(&remote[me], &lines);
+        want(!remote[me].at && (lines.at != 0) == (code == LOCKRUN_OK), "node_finish", code);
+        if (lines.at) lockrun_free(&lines);
+    }
+}
+
+/* Frames go from one node to the other, as they are or damaged. */
 static void carry(void) {
     static uint8_t frame[1 << 12];
-    static const uint8_t key[] = "random";
-    const uint32_t me = (uint32_t)draw(2), to = number(3);
+    const uint32_t me = (uint32_t)draw(REMOTES), to = number(REMOTES + 1);
     size_t length = 0, used = 0;
-    if (!remote[me].at) {
-        start += me == 0;
-        uint32_t code = lockrun_node_open((const uint8_t *)script, sizeof script - 1, me, key, sizeof key, start, 100000, 2, &remote[me]);
-        want(code == LOCKRUN_OK, "node_open", code);
-        want(lockrun_take_session(&remote[me], &guest[me]) == LOCKRUN_OK, "a session of a node", 0);
-        return;
-    }
+    if (!remote[me].at) open_remotes();
     uint32_t code = lockrun_send(&remote[me], to, frame, draw(8) ? sizeof frame : draw(60), &length);
     want(code <= LOCKRUN_FULL, "send", code);
     if (code == LOCKRUN_OK && draw(8)) {
         for (uint64_t k = draw(16) ? 0 : draw(4); k > 0; k--) frame[draw(length)] ^= (uint8_t)draw(256);
-        if (remote[1 - me].at) code = lockrun_receive(&remote[1 - me], me, frame, draw(8) ? length : draw(length), &used);
+        code = lockrun_receive(&remote[1 - me], me, frame, draw(8) ? length : draw(length), &used);
         want(code <= LOCKRUN_MISFIT && used <= length, "receive", code);
     }
     code = lockrun_pending(&remote[me], to);
     want(code <= LOCKRUN_BAD_ARGUMENT, "pending", code);
-    if (draw(200)) return;
-    lockrun_handle lines = {0};
-    lockrun_free(&guest[me]);
-    code = lockrun_node_finish(&remote[me], &lines);
-    want(!remote[me].at && (lines.at != 0) == (code == LOCKRUN_OK), "node_finish", code);
-    if (lines.at) lockrun_free(&lines);
+    if (!draw(200)) end_remotes();
 }
 
 int main(int count, char **words) {
