@@ -16,7 +16,7 @@ static lockrun_handle all[HANDLES], remote[REMOTES], guest[REMOTES];
 static lockrun_handle *const service = all, *const station = all + 1, *const session = all + 1 + NODES,
                              *const journal = all + HANDLES - 1;
 static uint64_t seed = 1, start = 1;
-static unsigned long refused, made;
+static unsigned long refused, made, replies, services;
 
 static const char script[] = "version 3\nnodes 2\nset a\nset b with a\nset c\nclient c0 at 0\nclient c1 at 1\nclient c2 at 0\n"
                              "client c3 at 1\n";
@@ -56,6 +56,7 @@ static lockrun_handle *one_of(lockrun_handle *these, uint64_t count) {
 static void saw(const lockrun_handle *before, int fits, uint32_t code) {
     want(code <= 48, "a code", code);
     if (code == LOCKRUN_WRONG_HANDLE) refused++;
+    if (code >= LOCKRUN_GRANTED && code <= LOCKRUN_WITHHELD) replies++;
     if (!before->at) want(code == LOCKRUN_WRONG_HANDLE, "nothing isn't refused", code);
     else if (!fits) want(code == LOCKRUN_WRONG_HANDLE, "another handle isn't refused", code);
 }
@@ -98,6 +99,7 @@ static void open_one(void) {
     if (!opened.at) return;
     int is_free = !is_other && first_empty(all, HANDLES - 1) == 0;
     for (int k = 1; k < HANDLES - 1; k++) is_free &= !all[k].at;
+    services += is_free != 0;
     if (is_free) *service = opened;
     else lockrun_free(&opened);
 }
@@ -228,6 +230,6 @@ int main(int count, char **words) {
         lockrun_free(&guest[k]);
         lockrun_free(&remote[k]);
     }
-    printf("random: %lu calls, %lu wrong handles refused\n", made, refused);
-    return 0;
+    printf("random: %lu calls, %lu wrong handles refused, %lu replies, %lu services\n", made, refused, replies, services);
+    return calls >= 10000 && (!refused || !replies || !services);
 }
