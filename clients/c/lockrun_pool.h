@@ -73,6 +73,7 @@ static inline lockrun_caller *lockrun_take_caller(lockrun_pool *pool, int64_t pa
     lockrun_caller *caller = lockrun_pool_pop(pool);
     if (!caller && patience != 0) caller = lockrun_pool_wait(pool, lockrun_end_of(patience));
     LOCKRUN_UNSEEN_END;
+    if (caller) lockrun_comes(caller);
     return caller;
 }
 
@@ -83,6 +84,7 @@ static inline uint32_t lockrun_give_caller(lockrun_pool *pool, lockrun_caller *c
         const uint32_t code = lockrun_abort(caller);
         if (code != LOCKRUN_DROPPED) return code;
     }
+    lockrun_goes(caller);
     LOCKRUN_UNSEEN_BEGIN;
     lockrun_watch_no_more(caller);
     lockrun_pool_push(pool, caller);

@@ -51,6 +51,10 @@ static inline void lockrun_releases(lockrun_nodes *nodes, uint32_t set) { __tsan
 
 /* The caller was granted a lock in the set. */
 static inline void lockrun_acquires(lockrun_nodes *nodes, uint32_t set) { __tsan_acquire(lockrun_race_of(nodes, set)); }
+
+/* A caller goes from one thread to another. */
+static inline void lockrun_goes(lockrun_caller *caller) { __tsan_release(caller); }
+static inline void lockrun_comes(lockrun_caller *caller) { __tsan_acquire(caller); }
 #else
 #define LOCKRUN_UNSEEN_BEGIN ((void)0)
 #define LOCKRUN_UNSEEN_END ((void)0)
@@ -58,5 +62,7 @@ static inline uint32_t lockrun_races_begin(lockrun_nodes *nodes) { (void)nodes; 
 static inline void lockrun_races_end(lockrun_nodes *nodes) { (void)nodes; }
 static inline void lockrun_releases(lockrun_nodes *nodes, uint32_t set) { (void)nodes; (void)set; }
 static inline void lockrun_acquires(lockrun_nodes *nodes, uint32_t set) { (void)nodes; (void)set; }
+static inline void lockrun_goes(lockrun_caller *caller) { (void)caller; }
+static inline void lockrun_comes(lockrun_caller *caller) { (void)caller; }
 #endif
 #endif
