@@ -2,10 +2,10 @@
  *
  * tests/exports.py compares this file with the exports of crates/lt_live_c. What a C compiler can't see is a duty of the
  * caller, and nothing checks it:
- * - A handle that isn't in use is {0}. Each call wants handles that stand for something, but for the last argument of
- *   lockrun_open, lockrun_open_sets, lockrun_take_station, lockrun_take_session, lockrun_finish, lockrun_node_open and
- *   lockrun_node_finish. That one is written over where the call answers LOCKRUN_OK, so it is to be {0}: what it stood for
- *   would never be freed.
+ * - A handle that isn't in use is {0}: with one each call answers LOCKRUN_WRONG_HANDLE, or 0, and does nothing, lockrun_free
+ *   too. The last argument of lockrun_open, lockrun_open_sets, lockrun_open_keys, lockrun_take_station, lockrun_take_session,
+ *   lockrun_finish, lockrun_node_open and lockrun_node_finish is written over where the call answers LOCKRUN_OK, so it is to be {0}: what it
+ *   stood for would never be freed. Any other handle is {0} or one that a call gave.
  * - Two arguments of a call are never the same handle, and no two copies of a handle are in use. It is in one call at a
  *   time. It may go from thread to thread if the calls are ordered: by a mutex, pthread_create or pthread_join, or a
  *   sequentially consistent atomic. Two sessions, or a session and its station, may be in calls at the same time.
@@ -55,7 +55,7 @@ enum lockrun_code {
     LOCKRUN_OK,
     LOCKRUN_NOTHING,      /* no station or session is left; no move was made; no reply is known; no set has this name;
                              one is still out; no letter waits for the node */
-    LOCKRUN_WRONG_HANDLE, /* it stands for something else; nothing happened */
+    LOCKRUN_WRONG_HANDLE, /* it stands for something else, or for nothing; nothing happened */
     LOCKRUN_NO_MEMORY,
     LOCKRUN_BAD_ARGUMENT, /* a number out of range, or a command that names what the script doesn't have */
     LOCKRUN_BAD_SCRIPT,
@@ -63,7 +63,8 @@ enum lockrun_code {
     LOCKRUN_FULL,         /* the ring has no place now: try again later; the buffer has no room for a frame */
     LOCKRUN_LOG_FULL,     /* the node made as many moves as it may */
     LOCKRUN_FORGOTTEN,    /* a station has forgotten moves or commands */
-    LOCKRUN_TOO_MANY,     /* more than 4,096 commands or 8 sets: no text of a script has as many; more than 65,536 sets */
+    LOCKRUN_TOO_MANY,     /* more than 4,096 commands or 8 sets: no text of a script has as many; more than 65,536 sets; more
+                             than 1,048,576 bytes */
     LOCKRUN_BAD_SET,      /* a further set has no new name, or its parent is no set before it */
     /* Why a frame was not received. */
     LOCKRUN_OTHER_VERSION = 40, /* it is of another version of the format */
@@ -107,6 +108,25 @@ typedef struct {
  * has no journal. */
 uint32_t lockrun_open_sets(const uint8_t *text, size_t length, const lockrun_new_set *sets, size_t count, uint64_t limit,
                            uint32_t places, lockrun_service *service);
+
+/* The same with `families` families of `members` sets each for keys, behind those of the text: together at most 65,536, else
+ * LOCKRUN_TOO_MANY. Where the text has `first` sets, family f has the sets first + f * members to first + f * members +
+ * members - 1, and the first of these, its root, is the parent of the others. Their names are key.00000, key.00001 and so on:
+ * LOCKRUN_BAD_SET if the text has one of them. If all are more than 8 sets the service has no journal. */
+uint32_t lockrun_open_keys(const uint8_t *text, size_t length, uint32_t families, uint32_t members, uint64_t limit,
+                           uint32_t places, lockrun_service *service);
+
+/* The set of a key of any bytes, of those that lockrun_open_keys opens: the same in each process. Without a parent, where
+ * `parent_length` is 0 (`parent` isn't null even then), it is the root of the family hash(key) % families; else the member
+ * 1 + hash(key) % (members - 1) of the family hash(parent) % families, whose root is the parent's set. The hash is the first 8
+ * bytes of SHA-256, the greatest first. LOCKRUN_BAD_ARGUMENT if `families` or `members` is 0, if `members` is 1 and there is a
+ * parent, or if first + families * members is more than 65,536. */
+uint32_t lockrun_key(uint32_t first, uint32_t families, uint32_t members, const uint8_t *parent, size_t parent_length,
+                     const uint8_t *key, size_t length, uint32_t *set);
+
+/* LOCKRUN_OK if the text is a script. LOCKRUN_BAD_SCRIPT if it isn't: `line` is the line of its first fault, from 1, and
+ * `fault` the fault's number, 6 of S6. LOCKRUN_TOO_MANY if it has more than 1,048,576 bytes. */
+uint32_t lockrun_fault(const uint8_t *text, size_t length, uint64_t *line, uint32_t *fault);
 
 /* The station of the next node, and the session of the next client, in the order of the script. */
 uint32_t lockrun_take_station(lockrun_service *service, lockrun_station *station);
@@ -184,7 +204,7 @@ uint32_t lockrun_node_finish(lockrun_remote *node, lockrun_journal *journal);
 /* How many lines of the journal say what is held at the end, and how many say who waits. */
 uint32_t lockrun_end(lockrun_journal *journal, size_t *held, size_t *waiting);
 
-/* Frees what the handle stands for; it is {0} then. */
+/* Frees what the handle stands for, if it does; it is {0} then. */
 void lockrun_free(lockrun_handle *handle);
 
 #ifdef __cplusplus

@@ -81,6 +81,9 @@ SETS = POINTER(NewSet)
 EXPORTS = {
     'lockrun_open': (c_uint32, BYTES, c_size_t, c_uint64, c_uint32, AT),
     'lockrun_open_sets': (c_uint32, BYTES, c_size_t, SETS, c_size_t, c_uint64, c_uint32, AT),
+    'lockrun_open_keys': (c_uint32, BYTES, c_size_t, c_uint32, c_uint32, c_uint64, c_uint32, AT),
+    'lockrun_key': (c_uint32, c_uint32, c_uint32, c_uint32, BYTES, c_size_t, BYTES, c_size_t, NUMBER),
+    'lockrun_fault': (c_uint32, BYTES, c_size_t, COUNT, NUMBER),
     'lockrun_take_station': (c_uint32, AT, AT),
     'lockrun_take_session': (c_uint32, AT, AT),
     'lockrun_turn': (c_uint32, AT),

@@ -32,6 +32,26 @@ extern "C" {
         places: u32,
         service: *mut Handle,
     ) -> u32;
+    pub fn lockrun_open_keys(
+        text: *const u8,
+        length: usize,
+        families: u32,
+        members: u32,
+        limit: u64,
+        places: u32,
+        service: *mut Handle,
+    ) -> u32;
+    pub fn lockrun_key(
+        first: u32,
+        families: u32,
+        members: u32,
+        parent: *const u8,
+        parent_length: usize,
+        key: *const u8,
+        length: usize,
+        set: *mut u32,
+    ) -> u32;
+    pub fn lockrun_fault(text: *const u8, length: usize, line: *mut u64, fault: *mut u32) -> u32;
     pub fn lockrun_take_station(service: *mut Handle, station: *mut Handle) -> u32;
     pub fn lockrun_take_session(service: *mut Handle, session: *mut Handle) -> u32;
     pub fn lockrun_turn(station: *mut Handle) -> u32;

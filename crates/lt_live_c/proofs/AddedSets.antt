@@ -7,7 +7,7 @@ use Rattle.lt_live_c.specs.declared.new_sets.NewSet.{NewSet}
 use Rattle.lt_live_c.specs.NewSets.{SetWords, words_of_set, family_of_next, in_family, is_new_name, with_next_set, with_next_sets, AddsSet}
 
 -- the script with the set has one more
-one_more : (s t : ScriptData) (set : SetWords) → with_next_set s set ≡ Some t → length t.sets ≡ length s.sets + 1
+pub one_more : (s t : ScriptData) (set : SetWords) → with_next_set s set ≡ Some t → length t.sets ≡ length s.sets + 1
 one_more s t set = by_parts (is_new_name s set.name) (family_of_next s set.parent)
   where
     by_parts : (b : Bool) (family : Option ℕ) → (if b then option_map (in_family s set.name) family else None) ≡ Some t

@@ -1,10 +1,8 @@
 -- The handle and its parts own what a box at the same types owns.
 use mir.Syntax.{impl, tnil, dnil}
 use mathlib.Core.List.{[]}
-use mathlib.Core.Bool.{true≢false}
-use Rattle.std.specs.Prelude.{◌≡◌, Option, Some, None, IsSome}
-use mathlib.Core.Path.{refl, sym}
 use mir.Val.{Val}
+use denote.RattleType.{RattleType}
 use denote.RawPtr.{null_ptr, ptr_val}
 use denote.Signature.{Slot, plain}
 use Rattle.std_alloc.proofs.BoxSteps.Form.{Bx}
@@ -19,8 +17,11 @@ use Rattle.lt_live_c.specs.contracts.handle.Handle as Handle
 abbrev pub E : Bx
 E = record { row = Inner.the_row; laws = inner.the_row_laws; al = record { row = Heap.the_row; laws = heap.the_row_laws; g = ghosts; d = dict; drops = impl [] tnil dnil } }
 
+abbrev pub PartsRow : RattleType
+PartsRow = Parts.the_row Inner.the_row Heap.the_row ghosts
+
 abbrev pub FromParts : Slot 0
-FromParts = plain (λ _. Parts.the_row Inner.the_row Heap.the_row ghosts)
+FromParts = plain (λ _. PartsRow)
 
 abbrev pub FromHandle : Slot 0
 FromHandle = plain (λ _. Handle.the_row)
@@ -30,7 +31,3 @@ FromAlloc = plain (λ _. Heap.the_row)
 
 abbrev pub null_val : Val
 null_val = ptr_val null_ptr
-
-pub some_is : {X : Type 0} (o : Option X) → IsSome o → (x : X) × (o ≡ Some x)
-some_is None e = absurd (true≢false (sym e))
-some_is (Some x) e = (x, refl)

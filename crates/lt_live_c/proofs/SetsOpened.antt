@@ -51,12 +51,12 @@ two_added : with_next_sets with_command two_more ≡ Some three_with_command
 two_added = refl
 
 -- the script of the text is this one, and so the further sets are added to it
-added_to : (script : ScriptData) (sets : List SetWords) (o : Option ScriptData) → read_of client_text ≡ Ok script
+pub added_to : (script : ScriptData) (sets : List SetWords) (o : Option ScriptData) → read_of client_text ≡ Ok script
     → with_next_sets with_command sets ≡ o → with_next_sets script sets ≡ o
 added_to script sets o read added =
     ap (λ (x : ScriptData). with_next_sets x sets) (same_script script with_command (read_of client_text) read client_read) ∙ added
 
-some_or_none : (script : ScriptData) (o : Option ScriptData) → o ≡ Some script → o ≡ None → ⊥
+pub some_or_none : (script : ScriptData) (o : Option ScriptData) → o ≡ Some script → o ≡ None → ⊥
 some_or_none script o e f = cc
 
 opened_so : (s : Service) → IsOpenedWith client_text two_more 9 2 s

@@ -153,7 +153,7 @@ TellsSet (contents.Session s) name code was set = TellsNumber (set_number s.scri
 TellsSet other name code was set = (code ≡ WRONG_HANDLE) × (set ≡ was)
 
 abbrev pub HandleTellsSet : Option Content → List ℕ → ℕ → ℕ → ℕ → Type 0
-HandleTellsSet None name code was set = ⊤
+HandleTellsSet None name code was set = (code ≡ WRONG_HANDLE) × (set ≡ was)
 HandleTellsSet (Some content) name code was set = TellsSet content name code was set
 
 -- how many commands may still be submitted; 0 where it is no session

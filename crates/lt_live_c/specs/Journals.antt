@@ -1,5 +1,5 @@
 -- The journal of a service's run.
-use Rattle.std.specs.Prelude.{◌≡◌, ◌<◌, ℕ, ◌-◌, ◌++◌, ◌⊎◌, Bool, true, false, List, [], Option, Some, None, min, length, take, drop, count_by, ⊤, map}
+use Rattle.std.specs.Prelude.{◌≡◌, ◌<◌, ℕ, ◌-◌, ◌++◌, ◌⊎◌, Bool, true, false, List, [], Option, Some, None, min, length, take, drop, count_by, map}
 use Rattle.lt_modes.specs.Script.{ScriptData}
 use Rattle.lt_spec.specs.World.{Logged}
 use Rattle.lt_spec.specs.declared.limits.TheConstants.{MAX_SETS}
@@ -16,7 +16,7 @@ use Rattle.lt_live_c.specs.declared.journal.Journal.{Journal}
 use Rattle.lt_live_c.specs.declared.service.Service.{Service}
 use Rattle.lt_live_c.specs.declared.content.Content.{Content}
 use Rattle.lt_live_c.specs.declared.content.Content.TheVariants as contents
-use Rattle.lt_live_c.specs.Taking.{BothStand}
+use Rattle.lt_live_c.specs.Taking.{BothStand, WrongOr}
 
 -- the line says what is held at the end
 abbrev pub says_held : Line → Bool
@@ -76,8 +76,7 @@ pub record FinishRefused (code : ℕ) (a : Content) : Type 0 where
   pub only : (code ≡ WRONG_HANDLE) ⊎ ((code ≡ NO_MEMORY) ⊎ ((code ≡ FORGOTTEN) ⊎ (code ≡ TOO_MANY)))
 
 abbrev pub HandleNotFinished : ℕ → Option Content → Type 0
-HandleNotFinished code None = ⊤
-HandleNotFinished code (Some a) = FinishRefused code a
+HandleNotFinished code a = WrongOr code (FinishRefused code) a
 
 -- the text of the script with its commands; empty where it is no journal
 abbrev pub script_of_content : Content → List ℕ
@@ -109,5 +108,5 @@ TellsEnd (contents.Journal journal) code was held waited waiting = (code ≡ OK)
 TellsEnd other code was held waited waiting = (code ≡ WRONG_HANDLE) × (held ≡ was) × (waiting ≡ waited)
 
 abbrev pub HandleTellsEnd : Option Content → ℕ → ℕ → ℕ → ℕ → ℕ → Type 0
-HandleTellsEnd None code was held waited waiting = ⊤
+HandleTellsEnd None code was held waited waiting = (code ≡ WRONG_HANDLE) × (held ≡ was) × (waiting ≡ waited)
 HandleTellsEnd (Some content) code was held waited waiting = TellsEnd content code was held waited waiting

@@ -1,6 +1,7 @@
 pub mod Handles
 pub mod Calls
 pub mod NewSets
+pub mod KeySets
 pub mod Opening
 pub mod OwnNode
 pub mod Nodes
@@ -12,3 +13,5 @@ pub mod Serving
 pub mod Told
 pub mod ServicesTold
 pub mod SetsTold
+pub mod EmptyTold
+pub mod KeysTold

@@ -10,7 +10,7 @@ use Rattle.lt_live_c.specs.declared.content.Content.TheVariants as contents
 use Rattle.lt_live_c.specs.declared.journal.Journal.{Journal}
 use Rattle.lt_live_c.specs.OwnNode.{OwnNode}
 use Rattle.lt_live_c.specs.Nodes.{IsPeer, IsOpenedNode}
-use Rattle.lt_live_c.specs.Taking.{BothStand}
+use Rattle.lt_live_c.specs.Taking.{BothStand, AtHandle, WrongOr}
 
 abbrev pub HandleOpenedNode : List ℕ → ℕ → List ℕ → ℕ → ℕ → ℕ → Option Content → Type 0
 HandleOpenedNode text node key start limit places (Some (contents.Node n)) =
@@ -29,7 +29,7 @@ OnNode code peer R (contents.Node n) other = ⊥
 OnNode code peer R other b = (code ≡ WRONG_HANDLE) × (b ≡ other)
 
 abbrev pub AtNode : ℕ → ℕ → (OwnNode → OwnNode → Type 0) → Option Content → Option Content → Type 0
-AtNode code peer R a b = BothStand (OnNode code peer R) a b
+AtNode code peer R a b = AtHandle code (OnNode code peer R) a b
 
 -- the texts of the script with the commands of the node's clients, and of its moves with the line of a run that was
 -- cut there; no line says what is held or who waits
@@ -63,5 +63,4 @@ pub record NodeNotFinished (code : ℕ) (a : Content) : Type 0 where
   pub only : (code ≡ FORGOTTEN) ⊎ ((code ≡ WRONG_HANDLE) ⊎ (code ≡ NO_MEMORY))
 
 abbrev pub HandleNotFinishedNode : ℕ → Option Content → Type 0
-HandleNotFinishedNode code None = ⊤
-HandleNotFinishedNode code (Some a) = NodeNotFinished code a
+HandleNotFinishedNode code a = WrongOr code (NodeNotFinished code) a

@@ -1,12 +1,13 @@
 -- What is opened for C, or why nothing is.
-use Rattle.std.specs.Prelude.{◌≡◌, ◌<◌, ◌+◌, ◌&&◌, ◌⊎◌, ℕ, Bool, false, List, [], Option, Some, None, Ok, Err, length, nat_le, nat_lt}
+use Rattle.std.specs.Prelude.{◌≡◌, ◌≢◌, ◌<◌, ◌+◌, ◌&&◌, ◌⊎◌, ℕ, Bool, false, List, [], Option, Some, None, Ok, Err, length, nat_le, nat_lt}
 use Rattle.lt_modes.specs.Script.{ScriptData}
 use Rattle.lt_spec.specs.declared.moves.TheConstants.{MAX_MOVES_OF_SERVICE}
 use Rattle.lt_spec.specs.declared.limits.TheConstants.{MAX_COMMANDS, MAX_SETS_OF_SERVICE}
 use Rattle.lt_script.specs.declared.fault.ScriptFault.{ScriptFault}
+use Rattle.lt_script.specs.Fault.{number_of}
 use Rattle.lt_script.specs.Reading.{read_of}
 use Rattle.lt_live.specs.Stations.{IsOpen, most_share}
-use Rattle.lt_live_c.specs.declared.code.TheConstants.{NO_MEMORY, BAD_ARGUMENT, BAD_SCRIPT, TOO_MANY, BAD_SET}
+use Rattle.lt_live_c.specs.declared.code.TheConstants.{OK, NO_MEMORY, BAD_ARGUMENT, BAD_SCRIPT, TOO_MANY, BAD_SET}
 use Rattle.lt_live_c.specs.declared.service.Service.{Service}
 use Rattle.lt_live_c.specs.declared.content.Content.{Content}
 use Rattle.lt_live_c.specs.declared.content.Content.TheVariants as contents
@@ -70,3 +71,18 @@ pub record OpenSetsRefused (code : ℕ) (text : List ℕ) (sets : List SetWords)
       → (script : ScriptData) × (read_of text ≡ Ok script) × (with_next_sets script sets ≡ None)
   pub only : (code ≡ BAD_ARGUMENT)
       ⊎ ((code ≡ BAD_SCRIPT) ⊎ ((code ≡ TOO_MANY) ⊎ ((code ≡ BAD_SET) ⊎ (code ≡ NO_MEMORY))))
+
+-- the line and the number of the text's first fault
+pub record IsToldFault (text : List ℕ) (line fault : ℕ) : Type 0 where
+  pub found : ScriptFault
+  pub read : read_of text ≡ Err found
+  pub line_is : line ≡ found.line
+  pub number_is : fault ≡ number_of found.fault
+
+-- C is told the first fault of a text, or that it is a script
+pub record TellsFault (text : List ℕ) (code line_was line fault_was fault : ℕ) : Type 0 where
+  pub ok : code ≡ OK → (script : ScriptData) × (read_of text ≡ Ok script)
+  pub bad_script : code ≡ BAD_SCRIPT → IsToldFault text line fault
+  pub too_many : code ≡ TOO_MANY → MAX_BYTES < length text
+  pub untold : code ≢ BAD_SCRIPT → (line ≡ line_was) × (fault ≡ fault_was)
+  pub only : (code ≡ OK) ⊎ ((code ≡ BAD_SCRIPT) ⊎ ((code ≡ TOO_MANY) ⊎ (code ≡ NO_MEMORY)))

@@ -23,7 +23,7 @@ use Rattle.lt_live_c.specs.declared.content.Content.{Content}
 use Rattle.lt_live_c.specs.declared.content.Content.TheVariants as contents
 use Rattle.lt_live_c.specs.declared.journal.Journal.{Journal}
 use Rattle.lt_live_c.specs.declared.service.Service.{Service}
-use Rattle.lt_live_c.specs.Taking.{IsWholeHandle, IsOfOther, HandleTakesStation, HandleTakesSession, HandleHasNoStation, HandleHasNoSession, HandleGives, HandleKeeps, HandleGiveRefused}
+use Rattle.lt_live_c.specs.Taking.{IsWholeHandle, IsNoService, HandleTakesStation, HandleTakesSession, HandleHasNoStation, HandleHasNoSession, HandleGives, HandleKeeps, HandleGiveRefused}
 use Rattle.lt_live_c.specs.Opening.{HandleOpened, OpenRefused}
 use Rattle.lt_live_c.specs.Journals.{HandleFinishes, HandleNotFinished, TellsOf, HandleTellsEnd, CopiesFrom, text_of_content, script_at}
 use Rattle.lt_live_c.specs.Serving.{HandleTellsServed, HandleNotTold, IsWholeHandleIfAll}
@@ -213,7 +213,7 @@ pub record FinishesTold : Type 0 where
   pub too_many_of_others : (content : Content) → kind_of content ≢ 0 → HandleNotFinished 10 (Some content) → ⊥
   pub finish_codes : (code : ℕ) (content : Content) → HandleNotFinished code (Some content)
       → (code ≡ 2) ⊎ ((code ≡ 3) ⊎ ((code ≡ 9) ⊎ (code ≡ 10)))
-  pub wrong : (s : Service) → IsOfOther (Some (contents.Service s)) → ⊥
+  pub wrong : (s : Service) → IsNoService (Some (contents.Service s)) → ⊥
   pub end_code : (journal : Journal) → AfterEnd (contents.Journal journal) (λ code was held waited waiting. code ≡ 0)
   pub end_held : (journal : Journal)
       → AfterEnd (contents.Journal journal) (λ code was held waited waiting. held ≡ journal.held)

@@ -11,7 +11,7 @@ use Rattle.lt_live_c.specs.declared.content.Content.{Content}
 use Rattle.lt_live_c.specs.declared.content.Content.TheVariants as contents
 use Rattle.lt_live_c.specs.declared.service.Service.{Service}
 use Rattle.lt_live_c.specs.declared.serving.Totals.{Totals}
-use Rattle.lt_live_c.specs.Taking.{BothStand, stands_for_service}
+use Rattle.lt_live_c.specs.Taking.{BothStand, WrongOr, stands_for_service}
 
 -- so many stations and sessions are all of the script that this first station has; none are all if there is no station
 abbrev pub are_all : Option StationData → ℕ → ℕ → Bool
@@ -29,7 +29,7 @@ IsWholeIfAll (contents.Service s) = has_all s ≡ true → LiveScript s.stations
 IsWholeIfAll other = ⊤
 
 abbrev pub IsWholeHandleIfAll : Option Content → Type 0
-IsWholeHandleIfAll None = ⊥
+IsWholeHandleIfAll None = ⊤
 IsWholeHandleIfAll (Some content) = IsWholeIfAll content
 
 -- how many commands were submitted at these sessions, and how many replies were polled
@@ -72,8 +72,7 @@ abbrev pub ServedRefusedBy : ℕ → Service → Service → Type 0
 ServedRefusedBy code s t = NotTold code (contents.Service s) × (t ≡ s)
 
 abbrev pub HandleNotTold : ℕ → Option Content → Type 0
-HandleNotTold code None = ⊤
-HandleNotTold code (Some a) = NotTold code a
+HandleNotTold code a = WrongOr code (NotTold code) a
 
 -- one of n sessions: not more commands were submitted than its share of those of a service, nor more replies polled
 pub record IsCountable (n : ℕ) (s : Session) : Type 0 where

@@ -20,10 +20,10 @@ has_sessions (contents.Service s) = true
 has_sessions (contents.Node n) = true
 has_sessions other = false
 
--- the handle stands for something, which is no service
-abbrev pub IsOfOther : Option Content → Type 0
-IsOfOther None = ⊥
-IsOfOther (Some content) = stands_for_service content ≡ false
+-- the handle stands for nothing, or for something which is no service
+abbrev pub IsNoService : Option Content → Type 0
+IsNoService None = ⊤
+IsNoService (Some content) = stands_for_service content ≡ false
 
 -- a service has all the stations and all the sessions of one `open`, in order
 abbrev pub IsWholeService : Content → Type 0
@@ -33,6 +33,11 @@ IsWholeService other = ⊤
 abbrev pub IsWholeHandle : Option Content → Type 0
 IsWholeHandle None = ⊥
 IsWholeHandle (Some content) = IsWholeService content
+
+-- the same where the handle may stand for nothing
+abbrev pub IsWholeIfAny : Option Content → Type 0
+IsWholeIfAny None = ⊤
+IsWholeIfAny (Some content) = IsWholeService content
 
 -- a station stays one of the same node, where sessions keep their other ends, a session stays that of the same
 -- client, and anything else stays as it is
@@ -50,10 +55,26 @@ ContentGoesOn (contents.Node n) other = ⊥
 abbrev pub BothStand : (Content → Content → Type 0) → Option Content → Option Content → Type 0
 BothStand R (Some a) (Some b) = R a b
 BothStand R (Some a) None = ⊥
-BothStand R None o = ⊤
+BothStand R None o = ⊥
+
+-- the same, or both stand for nothing
+abbrev pub BothIfAny : (Content → Content → Type 0) → Option Content → Option Content → Type 0
+BothIfAny R (Some a) b = BothStand R (Some a) b
+BothIfAny R None b = b ≡ None
+
+-- what a call does with what a handle stands for: with one that stands for nothing it does nothing, and the code says
+-- so
+abbrev pub AtHandle : ℕ → (Content → Content → Type 0) → Option Content → Option Content → Type 0
+AtHandle code R (Some a) b = BothStand R (Some a) b
+AtHandle code R None b = (code ≡ WRONG_HANDLE) × (b ≡ None)
+
+-- why a call did nothing: the handle stands for nothing, or else for this reason
+abbrev pub WrongOr : ℕ → (Content → Type 0) → Option Content → Type 0
+WrongOr code Why None = code ≡ WRONG_HANDLE
+WrongOr code Why (Some a) = Why a
 
 abbrev pub HandleGoesOn : Option Content → Option Content → Type 0
-HandleGoesOn a b = BothStand ContentGoesOn a b
+HandleGoesOn a b = BothIfAny ContentGoesOn a b
 
 -- what a call on a station does, or on that of a node in a process of its own, of which nothing else changes: with
 -- anything else it does nothing, and the code says so
@@ -65,7 +86,7 @@ OnStation code R (contents.Node n) other = ⊥
 OnStation code R other b = (code ≡ WRONG_HANDLE) × (b ≡ other)
 
 abbrev pub AtStation : ℕ → (StationData → StationData → Type 0) → Option Content → Option Content → Type 0
-AtStation code R a b = BothStand (OnStation code R) a b
+AtStation code R a b = AtHandle code (OnStation code R) a b
 
 -- the same of a session
 abbrev pub OnSession : ℕ → (Session → Session → Type 0) → Content → Content → Type 0
@@ -74,7 +95,7 @@ OnSession code R (contents.Session s) other = ⊥
 OnSession code R other b = (code ≡ WRONG_HANDLE) × (b ≡ other)
 
 abbrev pub AtSession : ℕ → (Session → Session → Type 0) → Option Content → Option Content → Type 0
-AtSession code R a b = BothStand (OnSession code R) a b
+AtSession code R a b = AtHandle code (OnSession code R) a b
 
 -- Which station or session is taken from a service, or given to it.
 
@@ -133,12 +154,10 @@ abbrev pub SessionRefused : ℕ → Content → Content → Type 0
 SessionRefused code a b = NoSession code a × (b ≡ a)
 
 abbrev pub HandleHasNoStation : ℕ → Option Content → Type 0
-HandleHasNoStation code None = ⊤
-HandleHasNoStation code (Some a) = NoStation code a
+HandleHasNoStation code a = WrongOr code (NoStation code) a
 
 abbrev pub HandleHasNoSession : ℕ → Option Content → Type 0
-HandleHasNoSession code None = ⊤
-HandleHasNoSession code (Some a) = NoSession code a
+HandleHasNoSession code a = WrongOr code (NoSession code) a
 
 -- it is behind all other stations, or sessions, of the service
 abbrev pub GivesTo : Content → Service → Service → Type 0
@@ -152,7 +171,7 @@ GivesTheOther x a b = ⊥
 
 abbrev pub HandleGives : Option Content → Option Content → Option Content → Type 0
 HandleGives (Some x) a b = BothStand (GivesTheOther x) a b
-HandleGives None a b = ⊤
+HandleGives None a b = ⊥
 
 -- a station or a session
 abbrev pub is_end : Content → Bool
@@ -170,7 +189,7 @@ KeepsAll (contents.Service s) other = ⊥
 KeepsAll other b = b ≡ other
 
 abbrev pub HandleKeeps : Option Content → Option Content → Type 0
-HandleKeeps a b = BothStand KeepsAll a b
+HandleKeeps a b = BothIfAny KeepsAll a b
 
 -- it is no station and no session, or goes to what is no service
 abbrev pub IsNoGift : Content → Content → Type 0
@@ -188,5 +207,5 @@ abbrev pub GiveRefusedBy : ℕ → Content → Service → Service → Type 0
 GiveRefusedBy code x s t = NotGiven code x (contents.Service s) × SameService s t
 
 abbrev pub HandleGiveRefused : ℕ → Option Content → Option Content → Type 0
-HandleGiveRefused code (Some x) (Some a) = NotGiven code x a
-HandleGiveRefused code x a = ⊤
+HandleGiveRefused code (Some x) a = WrongOr code (NotGiven code x) a
+HandleGiveRefused code None a = code ≡ WRONG_HANDLE

@@ -1,5 +1,5 @@
 // Boxes of handles.
-ghost use Rattle.std.specs.Prelude.{◌≡◌, Some, None, IsSome};
+ghost use Rattle.std.specs.Prelude.{◌≡◌, Some, None, IfSome, IfNone};
 
 use crate::code::OK;
 use crate::content::Content;
@@ -8,10 +8,10 @@ use crate::journal::Journal;
 use std::alloc::{AllocError, Global};
 use std::mem::replace;
 
-/// What the handle stands for, which stands for nothing then.
-pub fn take(alloc: Global, handle: &mut Handle) -> Box<Content>
-    requires { IsSome handle.old.value }
-    ensures old { handle.old.value ≡ Some result.value }
+/// What the handle stands for, if it does, which stands for nothing then.
+pub fn take(alloc: Global, handle: &mut Handle) -> Option<Box<Content>>
+    ensures some { IfSome result (λ inside. handle.old.value ≡ Some inside.value) }
+    ensures none { IfNone result (handle.old.value ≡ None) }
     ensures new { handle.new.value ≡ None }
 {
     replace(handle, Handle::nothing(alloc)).into_box()

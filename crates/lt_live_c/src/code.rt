@@ -12,7 +12,7 @@ pub const OK: u32 = 0;
 /// Nothing is there to be taken, made or told.
 pub const NOTHING: u32 = 1;
 
-/// The handle stands for something else.
+/// The handle stands for something else, or for nothing.
 pub const WRONG_HANDLE: u32 = 2;
 
 pub const NO_MEMORY: u32 = 3;

@@ -1,5 +1,5 @@
 // What C holds.
-ghost use Rattle.std.specs.Prelude.{◌≡◌, Option, Some, None, IsSome};
+ghost use Rattle.std.specs.Prelude.{◌≡◌, Option, Some, None, IfSome, IfNone, MatchOption};
 ghost use Rattle.lt_live_c.specs.declared.content.Content.{Content as ContentData};
 ghost use Rattle.lt_live_c.specs.Handles.{handle_owns, handle_coded};
 
@@ -9,7 +9,7 @@ use std::alloc::Global;
 use std::marker::Model;
 use std::ptr::null_mut;
 
-/// A pointer to a box of its own, or to nothing.
+/// A pointer to a box of its own, or null where it stands for nothing.
 #[repr(C)]
 #[derive(Drop)]
 pub struct Handle {
@@ -29,11 +29,15 @@ impl Handle {
         Handle::of_parts(Parts::of(content))
     }
 
-    pub fn into_box(self) -> Box<Content>
-        requires { IsSome self.value }
-        ensures { self.value ≡ Some result.value }
+    /// The box, if it stands for something.
+    pub fn into_box(self) -> Option<Box<Content>>
+        ensures some { IfSome result (λ inside. self.value ≡ Some inside.value) }
+        ensures none { IfNone result (self.value ≡ None) }
     {
-        self.into_parts().into_box()
+        match self.into_parts() {
+            Some(parts) => Some(parts.into_box()),
+            None => None,
+        }
     }
 
     fn of_parts(parts: Parts<Content, Global>) -> Handle
@@ -46,14 +50,17 @@ impl Handle {
         }
     }
 
-    fn into_parts(self) -> Parts<Content, Global>
-        requires { IsSome self.value }
-        ensures { self.value ≡ Some result.value }
+    fn into_parts(self) -> Option<Parts<Content, Global>>
+        ensures { MatchOption result (self.value ≡ None) (λ parts. self.value ≡ Some parts.value) }
     {
         let Handle { at, alloc } = self;
-        Parts {
-            ptr: at as *mut Content,
-            alloc,
+        if at.is_null() {
+            None
+        } else {
+            Some(Parts {
+                ptr: at as *mut Content,
+                alloc,
+            })
         }
     }
 

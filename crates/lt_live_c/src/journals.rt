@@ -1,8 +1,9 @@
 // The calls on journals.
-ghost use Rattle.std.specs.Prelude.{◌≡◌, IsSome};
+ghost use Rattle.std.specs.Prelude.{◌≡◌};
 ghost use Rattle.lt_live_c.specs.Journals.{CopiesFrom, text_of_content, script_at, HandleTellsEnd};
 
 use crate::boxes::take;
+use crate::code::WRONG_HANDLE;
 use crate::handle::Handle;
 use crate::texts::{copy, script_in, tell_end, text_in};
 use std::alloc::Global;
@@ -15,11 +16,12 @@ pub extern "C" fn lockrun_copy(
     from: usize,
     out: &mut [u8],
 ) -> usize
-    requires { IsSome journal.old.value }
     ensures keeps { journal.new.value ≡ journal.old.value }
     ensures copies { CopiesFrom (text_of_content journal.old.value) from result out.old out.new }
 {
-    let inside = take(alloc, journal);
+    let Some(inside) = take(alloc, journal) else {
+        return copy(&[], from, out);
+    };
     let count = copy(text_in(&inside), from, out);
     *journal = Handle::of(inside);
     count
@@ -33,11 +35,12 @@ pub extern "C" fn lockrun_script(
     from: usize,
     out: &mut [u8],
 ) -> usize
-    requires { IsSome journal.old.value }
     ensures keeps { journal.new.value ≡ journal.old.value }
     ensures copies { CopiesFrom (script_at journal.old.value) from result out.old out.new }
 {
-    let inside = take(alloc, journal);
+    let Some(inside) = take(alloc, journal) else {
+        return copy(&[], from, out);
+    };
     let count = copy(script_in(&inside), from, out);
     *journal = Handle::of(inside);
     count
@@ -51,11 +54,12 @@ pub extern "C" fn lockrun_end(
     held: &mut usize,
     waiting: &mut usize,
 ) -> u32
-    requires { IsSome journal.old.value }
     ensures keeps { journal.new.value ≡ journal.old.value }
     ensures tells { HandleTellsEnd journal.old.value result held.old held.new waiting.old waiting.new }
 {
-    let inside = take(alloc, journal);
+    let Some(inside) = take(alloc, journal) else {
+        return WRONG_HANDLE;
+    };
     let code = tell_end(&inside, held, waiting);
     *journal = Handle::of(inside);
     code

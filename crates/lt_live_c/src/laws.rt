@@ -1,6 +1,8 @@
 // What the calls' contracts say, in literals.
 ghost use Rattle.lt_live_c.specs.Told.{CallCodesAre, ReplyNumbersAre, ModeNumbersAre, CommandNumbersAre, TurnsTold, ForgetsTold, SubmitsTold, PollsTold, KindsTold, AsksTold};
 ghost use Rattle.lt_live_c.specs.ServicesTold.{TakesTold, GivesTold, OpensTold, FinishesTold, CopiesTold, ServedTold};
+ghost use Rattle.lt_live_c.specs.KeysTold.{KeysTold, FaultsTold};
+ghost use Rattle.lt_live_c.specs.EmptyTold.{EmptyTold};
 ghost use Rattle.lt_live_c.specs.SetsTold.{NamesTold, OpensSetsTold};
 
 use lt_script::law_print;
@@ -27,6 +29,9 @@ pub fn law_c_told()
     ensures served { ServedTold }
     ensures names { NamesTold }
     ensures opens_sets { OpensSetsTold }
+    ensures empty { EmptyTold }
+    ensures keys { KeysTold }
+    ensures faults { FaultsTold }
 {
     law_print();
 }

@@ -27,8 +27,8 @@ pub fn add_sets(script: &mut Script, sets: &[NewSet<'_>]) -> Result<bool, AllocE
     Ok(true)
 }
 
-// Adds the set as the last one; false where it has no new name, or no set has its parent's.
-fn add_set(script: &mut Script, set: &NewSet<'_>) -> Result<bool, AllocError>
+/// Adds the set as the last one; false where it has no new name, or no set has its parent's.
+pub fn add_set(script: &mut Script, set: &NewSet<'_>) -> Result<bool, AllocError>
     requires { length script.old.sets < MAX_SETS_OF_SERVICE }
     ensures { IfOk result (λ added. AddsSet added (words_of_set set.now) script.old script.new) }
 {

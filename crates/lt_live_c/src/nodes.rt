@@ -48,12 +48,13 @@ pub extern "C" fn lockrun_send(
     buffer: &mut [u8],
     length: &mut usize,
 ) -> u32
-    requires { IsSome node.old.value }
-    ensures some { IsSome node.new.value }
+    ensures some { IsSome node.old.value → IsSome node.new.value }
     ensures sends { AtNode result to (SendsFrames result to length.old length.new buffer.old buffer.new)
         node.old.value node.new.value }
 {
-    let mut inside = take(alloc, node);
+    let Some(mut inside) = take(alloc, node) else {
+        return WRONG_HANDLE;
+    };
     let code = carrying::send(&mut inside, to, buffer, length);
     *node = Handle::of(inside);
     code
@@ -68,12 +69,13 @@ pub extern "C" fn lockrun_receive(
     bytes: &[u8],
     used: &mut usize,
 ) -> u32
-    requires { IsSome node.old.value }
-    ensures some { IsSome node.new.value }
+    ensures some { IsSome node.old.value → IsSome node.new.value }
     ensures receives { AtNode result from (Receives result from used.old used.new bytes.now) node.old.value
         node.new.value }
 {
-    let mut inside = take(alloc, node);
+    let Some(mut inside) = take(alloc, node) else {
+        return WRONG_HANDLE;
+    };
     let code = carrying::receive(&mut inside, alloc, from, bytes, used);
     *node = Handle::of(inside);
     code
@@ -82,11 +84,12 @@ pub extern "C" fn lockrun_receive(
 /// Tells whether a letter waits to be carried to a node.
 #[unsafe(no_mangle)]
 pub extern "C" fn lockrun_pending(alloc: Global, node: &mut Handle, to: u32) -> u32
-    requires { IsSome node.old.value }
-    ensures some { IsSome node.new.value }
+    ensures some { IsSome node.old.value → IsSome node.new.value }
     ensures tells { AtNode result to (TellsPending result to) node.old.value node.new.value }
 {
-    let mut inside = take(alloc, node);
+    let Some(mut inside) = take(alloc, node) else {
+        return WRONG_HANDLE;
+    };
     let code = carrying::pending(&mut inside, to);
     *node = Handle::of(inside);
     code
@@ -96,14 +99,15 @@ pub extern "C" fn lockrun_pending(alloc: Global, node: &mut Handle, to: u32) -> 
 /// commands, all is dropped.
 #[unsafe(no_mangle)]
 pub extern "C" fn lockrun_node_finish(alloc: Global, node: &mut Handle, journal: &mut Handle) -> u32
-    requires { IsSome node.old.value }
     ensures journal { result ≡ OK → HandleFinishesNode node.old.value journal.new.value }
     ensures gone { result ≢ WRONG_HANDLE → node.new.value ≡ None }
     ensures wrong { result ≡ WRONG_HANDLE → node.new.value ≡ node.old.value }
     ensures keeps { result ≢ OK → journal.new.value ≡ journal.old.value }
     ensures refused { result ≢ OK → HandleNotFinishedNode result node.old.value }
 {
-    let room = take(alloc, node);
+    let Some(room) = take(alloc, node) else {
+        return WRONG_HANDLE;
+    };
     if !room.is_node() {
         *node = Handle::of(room);
         return WRONG_HANDLE;

@@ -8,12 +8,14 @@ ghost use Rattle.lt_live.specs.Live.{LiveScript};
 ghost use Rattle.lt_live.specs.declared.finishing.FinishError.TheVariants as errors;
 ghost use Rattle.lt_live_c.specs.Journals.{IsJournalOfService, SomeForgot, HaveTooMany, TellsOf};
 ghost use Rattle.lt_live_c.specs.NewSets.{words_of_set, with_next_sets};
+ghost use Rattle.lt_live_c.specs.KeySets.{key_sets};
 ghost use Rattle.lt_live_c.specs.Opening.{IsOpenedFrom, OpenRefused, IsOpenedWith, OpenSetsRefused, IsOpenedOf, fits_for_c, TextRefused, SetsRefused};
 ghost use Rattle.lt_live_c.specs.Serving.{has_all};
 ghost use Rattle.lt_live_c.specs.Taking.{TakesFirstStation, TakesFirstSession};
 
 use crate::code::{BAD_ARGUMENT, BAD_SCRIPT, BAD_SET, NO_MEMORY, TOO_MANY};
 use crate::journal::Journal;
+use crate::key_sets::add_key_sets;
 use crate::limits::MAX_BYTES;
 use crate::new_sets::{NewSet, add_sets};
 use lt_live::{FinishError, Session, Station, finish, law_live_lasts, most_share, open};
@@ -70,6 +72,29 @@ impl Service {
         }
         let script = script_of(alloc, text)?;
         let whole = with_sets(script, sets)?;
+        Service::start(alloc, &whole, limit, places)
+    }
+
+    /// The same of the script with so many families of sets for keys.
+    #[tactic(auto, using(crate::proofs::Unopened::unread, crate::proofs::Unopened::without_sets, crate::proofs::Unopened::no_sets))]
+    pub fn open_keys(
+        alloc: Global,
+        text: &[u8],
+        families: u32,
+        members: u32,
+        limit: u64,
+        places: u32,
+    ) -> Result<Service, u32>
+        ensures opened { IfOk result (λ s. IsOpenedWith text.now (key_sets families members) limit places s) }
+        ensures whole { IfOk result (λ s. LiveScript s.stations.items s.sessions.items) }
+        ensures refused { IfErr result (λ code.
+            OpenSetsRefused code text.now (key_sets families members) limit places) }
+    {
+        if !fits(text, limit, places) {
+            return Err(BAD_ARGUMENT);
+        }
+        let script = script_of(alloc, text)?;
+        let whole = with_key_sets(script, families, members)?;
         Service::start(alloc, &whole, limit, places)
     }
 
@@ -176,6 +201,26 @@ fn with_sets(mut script: Script, sets: &[NewSet<'_>]) -> Result<Script, u32>
         return Err(NO_MEMORY);
     };
     match add_sets(&mut script, sets) {
+        Ok(true) => Ok(script),
+        Ok(false) => Err(BAD_SET),
+        Err(_) => Err(NO_MEMORY),
+    }
+}
+
+// The script with so many families of sets for keys behind its own.
+fn with_key_sets(mut script: Script, families: u32, members: u32) -> Result<Script, u32>
+    ensures sets { IfOk result (λ made. with_next_sets script (key_sets families members) ≡ Some made) }
+    ensures refused { IfErr result (λ code. SetsRefused code (key_sets families members) script) }
+{
+    let room = MAX_SETS_OF_SERVICE - script.sets();
+    let count = u64::from(members) * u64::from(families);
+    if count > u64::from(room) {
+        return Err(TOO_MANY);
+    }
+    let Ok(()) = script.reserve_sets(count as u32) else {
+        return Err(NO_MEMORY);
+    };
+    match add_key_sets(&mut script, members, count as u32) {
         Ok(true) => Ok(script),
         Ok(false) => Err(BAD_SET),
         Err(_) => Err(NO_MEMORY),

@@ -1,8 +1,9 @@
 // The calls on services.
 ghost use Rattle.std.specs.Prelude.{◌≡◌, ◌≢◌, true, Some, None, IsSome, map};
-ghost use Rattle.lt_live_c.specs.Taking.{IsWholeService, stands_for_service as is_service, IsWholeHandle, IsOfOther, HandleTakesStation, HandleTakesSession, HandleHasNoStation, HandleHasNoSession, HandleGives, HandleKeeps, HandleGiveRefused};
+ghost use Rattle.lt_live_c.specs.Taking.{IsWholeService, stands_for_service as is_service, IsWholeHandle, IsWholeIfAny, IsNoService, HandleTakesStation, HandleTakesSession, HandleHasNoStation, HandleHasNoSession, HandleGives, HandleKeeps, KeepsAll, HandleGiveRefused};
 ghost use Rattle.lt_live_c.specs.Serving.{IsWholeHandleIfAll, HandleTellsServed, HandleNotTold};
 ghost use Rattle.lt_live_c.specs.NewSets.{words_of_set};
+ghost use Rattle.lt_live_c.specs.KeySets.{key_sets};
 ghost use Rattle.lt_live_c.specs.Opening.{HandleOpened, OpenRefused, HandleOpenedWith, OpenSetsRefused};
 ghost use Rattle.lt_live_c.specs.Journals.{HandleFinishes, HandleNotFinished, FinishRefused};
 
@@ -66,6 +67,32 @@ pub extern "C" fn lockrun_open_sets(
     }
 }
 
+/// Opens the script with families of sets for keys: `service` stands for its stations and sessions.
+#[unsafe(no_mangle)]
+pub extern "C" fn lockrun_open_keys(
+    alloc: Global,
+    text: &[u8],
+    families: u32,
+    members: u32,
+    limit: u64,
+    places: u32,
+    service: &mut Handle,
+) -> u32
+    ensures opened { result ≡ OK → HandleOpenedWith text.now (key_sets families members) limit places
+        service.new.value }
+    ensures whole { result ≡ OK → IsWholeHandle service.new.value }
+    ensures keeps { result ≢ OK → service.new.value ≡ service.old.value }
+    ensures refused { result ≢ OK → OpenSetsRefused result text.now (key_sets families members) limit places }
+{
+    let Ok(room) = room(alloc) else {
+        return NO_MEMORY;
+    };
+    match Service::open_keys(alloc, text, families, members, limit, places) {
+        Ok(opened) => put(room, Content::Service(opened), service),
+        Err(code) => code,
+    }
+}
+
 /// Takes the next station of the service.
 #[unsafe(no_mangle)]
 pub extern "C" fn lockrun_take_station(
@@ -73,16 +100,18 @@ pub extern "C" fn lockrun_take_station(
     service: &mut Handle,
     station: &mut Handle,
 ) -> u32
-    requires { IsSome service.old.value }
     ensures takes { result ≡ OK → HandleTakesStation station.new.value service.old.value service.new.value }
     ensures keeps { result ≢ OK → (service.new.value ≡ service.old.value) × (station.new.value ≡ station.old.value) }
     ensures refused { result ≢ OK → HandleHasNoStation result service.old.value }
-    ensures some { IsSome service.new.value }
+    ensures some { IsSome service.old.value → IsSome service.new.value }
 {
+    let Some(mut inside) = take(alloc, service) else {
+        return WRONG_HANDLE;
+    };
     let Ok(room) = room(alloc) else {
+        *service = Handle::of(inside);
         return NO_MEMORY;
     };
-    let mut inside = take(alloc, service);
     let next = next_station(&mut inside);
     *service = Handle::of(inside);
     match next {
@@ -98,16 +127,18 @@ pub extern "C" fn lockrun_take_session(
     service: &mut Handle,
     session: &mut Handle,
 ) -> u32
-    requires { IsSome service.old.value }
     ensures takes { result ≡ OK → HandleTakesSession session.new.value service.old.value service.new.value }
     ensures keeps { result ≢ OK → (service.new.value ≡ service.old.value) × (session.new.value ≡ session.old.value) }
     ensures refused { result ≢ OK → HandleHasNoSession result service.old.value }
-    ensures some { IsSome service.new.value }
+    ensures some { IsSome service.old.value → IsSome service.new.value }
 {
+    let Some(mut inside) = take(alloc, service) else {
+        return WRONG_HANDLE;
+    };
     let Ok(room) = room(alloc) else {
+        *service = Handle::of(inside);
         return NO_MEMORY;
     };
-    let mut inside = take(alloc, service);
     let next = next_session(&mut inside);
     *service = Handle::of(inside);
     match next {
@@ -119,21 +150,34 @@ pub extern "C" fn lockrun_take_session(
 /// Gives a station or a session back to the service: behind all others that it has.
 #[unsafe(no_mangle)]
 pub extern "C" fn lockrun_give(alloc: Global, service: &mut Handle, given: &mut Handle) -> u32
-    requires service { IsSome service.old.value }
-    requires given { IsSome given.old.value }
     ensures gives { result ≡ OK → HandleGives given.old.value service.old.value service.new.value }
     ensures gone { result ≡ OK → given.new.value ≡ None }
     ensures keeps { result ≢ OK → (given.new.value ≡ given.old.value)
         × HandleKeeps service.old.value service.new.value }
     ensures refused { result ≢ OK → HandleGiveRefused result given.old.value service.old.value }
-    ensures some { IsSome service.new.value }
+    ensures some { IsSome service.old.value → IsSome service.new.value }
 {
-    let mut room = take(alloc, given);
-    let content = replace(&mut *room, Content::Journal(Journal::empty(alloc)));
-    let mut inside = take(alloc, service);
-    let gave = give_back(&mut inside, content);
+    let Some(mut inside) = take(alloc, service) else {
+        return WRONG_HANDLE;
+    };
+    let code = give_from(alloc, &mut inside, given);
     *service = Handle::of(inside);
-    match gave {
+    code
+}
+
+// What the handle stands for goes to the content, if that is a service.
+#[tactic(auto, using(crate::proofs::Kept::keeps_itself))]
+fn give_from(alloc: Global, content: &mut Content, given: &mut Handle) -> u32
+    ensures gives { result ≡ OK → HandleGives given.old.value (Some content.old) (Some content.new) }
+    ensures gone { result ≡ OK → given.new.value ≡ None }
+    ensures keeps { result ≢ OK → (given.new.value ≡ given.old.value) × KeepsAll content.old content.new }
+    ensures refused { result ≢ OK → HandleGiveRefused result given.old.value (Some content.old) }
+{
+    let Some(mut room) = take(alloc, given) else {
+        return WRONG_HANDLE;
+    };
+    let back = replace(&mut *room, Content::Journal(Journal::empty(alloc)));
+    match give_back(content, back) {
         Ok(()) => OK,
         Err((code, back)) => {
             put(room, back, given);
@@ -151,15 +195,16 @@ pub extern "C" fn lockrun_served(
     submitted: &mut usize,
     polled: &mut usize,
 ) -> u32
-    requires some { IsSome service.old.value }
     requires whole { IsWholeHandleIfAll service.old.value }
-    ensures some { IsSome service.new.value }
+    ensures some { IsSome service.old.value → IsSome service.new.value }
     ensures tells { result ≡ OK → HandleTellsServed submitted.new polled.new service.old.value service.new.value }
     ensures keeps { result ≢ OK → service.new.value ≡ service.old.value }
     ensures untold { result ≢ OK → (submitted.new ≡ submitted.old) × (polled.new ≡ polled.old) }
     ensures refused { result ≢ OK → HandleNotTold result service.old.value }
 {
-    let mut inside = take(alloc, service);
+    let Some(mut inside) = take(alloc, service) else {
+        return WRONG_HANDLE;
+    };
     let told = tell_served(&mut inside);
     *service = Handle::of(inside);
     match told {
@@ -177,15 +222,16 @@ pub extern "C" fn lockrun_served(
 /// text of a script may have, all is dropped.
 #[unsafe(no_mangle)]
 pub extern "C" fn lockrun_finish(alloc: Global, service: &mut Handle, journal: &mut Handle) -> u32
-    requires some { IsSome service.old.value }
-    requires whole { IsWholeHandle service.old.value }
+    requires whole { IsWholeIfAny service.old.value }
     ensures journal { result ≡ OK → HandleFinishes service.old.value journal.new.value }
     ensures gone { result ≢ WRONG_HANDLE → service.new.value ≡ None }
-    ensures wrong { result ≡ WRONG_HANDLE → IsOfOther service.old.value × (service.new.value ≡ service.old.value) }
+    ensures wrong { result ≡ WRONG_HANDLE → IsNoService service.old.value × (service.new.value ≡ service.old.value) }
     ensures keeps { result ≢ OK → journal.new.value ≡ journal.old.value }
     ensures refused { result ≢ OK → HandleNotFinished result service.old.value }
 {
-    let room = take(alloc, service);
+    let Some(room) = take(alloc, service) else {
+        return WRONG_HANDLE;
+    };
     if !stands_for_service(&room) {
         *service = Handle::of(room);
         return WRONG_HANDLE;
@@ -209,10 +255,9 @@ fn finish_in(alloc: Global, mut room: Box<Content>, journal: &mut Handle) -> u32
     }
 }
 
-/// Frees what the handle stands for.
+/// Frees what the handle stands for, if it does.
 #[unsafe(no_mangle)]
 pub extern "C" fn lockrun_free(alloc: Global, handle: &mut Handle)
-    requires { IsSome handle.old.value }
     ensures { handle.new.value ≡ None }
 {
     drop(take(alloc, handle));

@@ -6,19 +6,20 @@ ghost use Rattle.lt_live_c.specs.Calls.{TurnsStation, Submits, Polls, left_at, c
 
 use crate::boxes::take;
 use crate::calls;
-use crate::code::command_numbered;
+use crate::code::{WRONG_HANDLE, command_numbered};
 use crate::handle::Handle;
 use std::alloc::Global;
 
 /// Lets a station make a turn.
 #[unsafe(no_mangle)]
 pub extern "C" fn lockrun_turn(alloc: Global, station: &mut Handle) -> u32
-    requires { IsSome station.old.value }
-    ensures some { IsSome station.new.value }
+    ensures some { IsSome station.old.value → IsSome station.new.value }
     ensures goes_on { HandleGoesOn station.old.value station.new.value }
     ensures turns { AtStation result (TurnsStation result) station.old.value station.new.value }
 {
-    let mut inside = take(alloc, station);
+    let Some(mut inside) = take(alloc, station) else {
+        return WRONG_HANDLE;
+    };
     let code = calls::turn(&mut inside);
     *station = Handle::of(inside);
     code
@@ -28,12 +29,13 @@ pub extern "C" fn lockrun_turn(alloc: Global, station: &mut Handle) -> u32
 /// Without memory what was forgotten until then stays so.
 #[unsafe(no_mangle)]
 pub extern "C" fn lockrun_forget(alloc: Global, station: &mut Handle) -> u32
-    requires { IsSome station.old.value }
-    ensures some { IsSome station.new.value }
+    ensures some { IsSome station.old.value → IsSome station.new.value }
     ensures goes_on { HandleGoesOn station.old.value station.new.value }
     ensures forgets { AtStation result (ForgetsStation result) station.old.value station.new.value }
 {
-    let mut inside = take(alloc, station);
+    let Some(mut inside) = take(alloc, station) else {
+        return WRONG_HANDLE;
+    };
     let code = calls::forget(&mut inside, alloc);
     *station = Handle::of(inside);
     code
@@ -49,14 +51,15 @@ pub extern "C" fn lockrun_submit(
     first: u32,
     second: u32,
 ) -> u32
-    requires { IsSome session.old.value }
-    ensures some { IsSome session.new.value }
+    ensures some { IsSome session.old.value → IsSome session.new.value }
     ensures goes_on { HandleGoesOn session.old.value session.new.value }
     ensures submits { AtSession result (Submits result (the_command kind set first second)) session.old.value
         session.new.value }
 {
     let command = command_numbered(kind, set, first, second);
-    let mut inside = take(alloc, session);
+    let Some(mut inside) = take(alloc, session) else {
+        return WRONG_HANDLE;
+    };
     let code = calls::submit(&mut inside, command);
     *session = Handle::of(inside);
     code
@@ -65,12 +68,13 @@ pub extern "C" fn lockrun_submit(
 /// Polls for the next reply.
 #[unsafe(no_mangle)]
 pub extern "C" fn lockrun_poll(alloc: Global, session: &mut Handle, count: &mut u64) -> u32
-    requires { IsSome session.old.value }
-    ensures some { IsSome session.new.value }
+    ensures some { IsSome session.old.value → IsSome session.new.value }
     ensures goes_on { HandleGoesOn session.old.value session.new.value }
     ensures polls { AtSession result (Polls result count.old count.new) session.old.value session.new.value }
 {
-    let mut inside = take(alloc, session);
+    let Some(mut inside) = take(alloc, session) else {
+        return WRONG_HANDLE;
+    };
     let code = calls::poll(&mut inside, count);
     *session = Handle::of(inside);
     code
@@ -84,11 +88,12 @@ pub extern "C" fn lockrun_set(
     name: &[u8],
     set: &mut u32,
 ) -> u32
-    requires { IsSome session.old.value }
     ensures keeps { session.new.value ≡ session.old.value }
     ensures tells { HandleTellsSet session.old.value name.now result set.old set.new }
 {
-    let inside = take(alloc, session);
+    let Some(inside) = take(alloc, session) else {
+        return WRONG_HANDLE;
+    };
     let code = calls::tell_set(&inside, name, set);
     *session = Handle::of(inside);
     code
@@ -97,11 +102,12 @@ pub extern "C" fn lockrun_set(
 /// How many commands may still be submitted.
 #[unsafe(no_mangle)]
 pub extern "C" fn lockrun_left(alloc: Global, session: &mut Handle) -> u64
-    requires { IsSome session.old.value }
     ensures keeps { session.new.value ≡ session.old.value }
     ensures left { result ≡ left_at session.old.value }
 {
-    let inside = take(alloc, session);
+    let Some(inside) = take(alloc, session) else {
+        return 0;
+    };
     let left = calls::left(&inside);
     *session = Handle::of(inside);
     left
@@ -110,11 +116,12 @@ pub extern "C" fn lockrun_left(alloc: Global, session: &mut Handle) -> u64
 /// The number of the session's client.
 #[unsafe(no_mangle)]
 pub extern "C" fn lockrun_client(alloc: Global, session: &mut Handle) -> u32
-    requires { IsSome session.old.value }
     ensures keeps { session.new.value ≡ session.old.value }
     ensures client { result ≡ client_in session.old.value }
 {
-    let inside = take(alloc, session);
+    let Some(inside) = take(alloc, session) else {
+        return 0;
+    };
     let client = calls::client(&inside);
     *session = Handle::of(inside);
     client
@@ -123,11 +130,12 @@ pub extern "C" fn lockrun_client(alloc: Global, session: &mut Handle) -> u32
 /// The node of the session's client.
 #[unsafe(no_mangle)]
 pub extern "C" fn lockrun_home(alloc: Global, session: &mut Handle) -> u32
-    requires { IsSome session.old.value }
     ensures keeps { session.new.value ≡ session.old.value }
     ensures home { result ≡ home_in session.old.value }
 {
-    let inside = take(alloc, session);
+    let Some(inside) = take(alloc, session) else {
+        return 0;
+    };
     let home = calls::home(&inside);
     *session = Handle::of(inside);
     home

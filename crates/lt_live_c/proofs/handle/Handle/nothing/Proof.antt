@@ -28,7 +28,7 @@ use Rattle.std_alloc.proofs.BoxSteps.Form.{P, box_ty}
 use Rattle.std_alloc.proofs.ResultValues.{and_tt}
 use Rattle.core.proofs.alloc.Calls.{α, handle_tells}
 use denote.RattleType.{Valss}
-use denote.RawPtr.{null_ptr}
+use denote.RawPtr.{Ptr, null_ptr}
 use denote.Struct.Struct.{within}
 use denote.Struct.Owning.{shape, fields, to}
 use Rattle.lt_live_c.specs.contracts.handle.Handle as Handle
@@ -59,7 +59,7 @@ module _ {M : Type 1} {𝓤 : Ura M} (𝓛 : Logic 𝓤) (at_mem : Memory → SP
       by ! (subst (λ (us : List Val). ent 𝓤 (types.Kit.⋆ 𝓛 Γ) (WpFn 𝓤 H 𝓣.C 𝓣.Λ code.function (us ++ []) Post)) (sym ws)
       (qed 𝓛 Γ ∵ enter ! 𝓣.C 𝓣.Λ code.function (hv ∷ []) _ $ alloc_all ! (λ ls. pass_all ! refl (fa, tt) $
       sets ! (agg ! (and_then ! (lit ! tt) (and_then ! (get ! refl) (no_more !)))) refl typed $ returns ! (look_at ! 0 refl) $ free_all ! refl $
-      nothing ! $ nothing ! $ move ! (2 ∷ 0 ∷ []) $ fjoin ! $ feq_i ! (List Val) (null_val ∷ []) (null_val ∷ []) refl $ fjoin ! $ feq_i ! (List Val) (w ∷ []) (w ∷ []) refl $ fjoin ! $
+      feq_i ! Ptr null_ptr null_ptr refl $ nothing ! $ move ! (2 ∷ 0 ∷ []) $ fjoin ! $ feq_i ! (List Val) (null_val ∷ []) (null_val ∷ []) refl $ fjoin ! $ feq_i ! (List Val) (w ∷ []) (w ∷ []) refl $ fjoin ! $
       fpack ! (Valss (fields Handle.the_type)) (within (shape Handle.the_type) (to Handle.the_type made) (w ∷ [])) (null_val ∷ [], (hv ∷ [], tt)) $ fjoin ! $
       use1 𝓛 (‵ (To.own_val made (w ∷ []))) (id⊢ 𝓤 _) $
       suffices ! _ (ends_at 𝓛 F.ended stayed (F.clauses 𝓛 at_mem run) z w made (tt, tt) (tt, tt)) $ says ! refl $
