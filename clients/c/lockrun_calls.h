@@ -48,16 +48,4 @@ static inline uint32_t lockrun_set_of_key(uint32_t first, uint32_t families, uin
 static inline uint32_t lockrun_fault_of(const uint8_t *text, size_t length, uint64_t *line, uint32_t *fault) {
     return lockrun_fault(text, length, line, fault);
 }
-
-/* The first set numbered `from` or more in which the client holds locks at its station, and how many of each mode: LOCKRUN_OK, or
- * LOCKRUN_NOTHING. */
-static inline uint32_t lockrun_held_by(lockrun_station *station, uint32_t client, uint32_t from, uint32_t *set,
-                                       uint64_t counts[6]) {
-    return lockrun_held(station, client, from, set, counts);
-}
-
-/* What the client waits for at its station: LOCKRUN_OK, or LOCKRUN_NOTHING. */
-static inline uint32_t lockrun_asked_by(lockrun_station *station, uint32_t client, uint32_t *set, uint32_t *mode) {
-    return lockrun_asked(station, client, set, mode);
-}
 #endif

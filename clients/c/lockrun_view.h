@@ -5,6 +5,17 @@
 #define LOCKRUN_VIEW_H
 #include "lockrun_easy.h"
 
+/* The first set numbered `from` or more in which the client holds locks at its station, and how many of each mode: LOCKRUN_OK, or
+ * LOCKRUN_NOTHING. */
+static inline uint32_t lockrun_held_by(lockrun_station *station, uint32_t client, uint32_t from, uint32_t *set,
+                                       uint64_t counts[6]) {
+    return lockrun_held(station, client, from, set, counts);
+}
+
+/* What the client waits for at its station: LOCKRUN_OK, or LOCKRUN_NOTHING. */
+static inline uint32_t lockrun_asked_by(lockrun_station *station, uint32_t client, uint32_t *set, uint32_t *mode) {
+    return lockrun_asked(station, client, set, mode);
+}
 /* What a client holds in a set, by the modes in their order; or, where it waits, the mode that it waits for there. */
 typedef struct {
     uint32_t node, client, set;
