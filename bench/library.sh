@@ -1,11 +1,11 @@
 #!/bin/sh
-# Prints how many pairs of a lock and an unlock a second callers on threads make by the library of crates/lt_live_c, with
-# clients/c/lockrun_easy.h, and beside it by a table of pthread_rwlock_t and, if libdb5.3-dev is there, by lock_get and
-# lock_put of Berkeley DB: the best of several rounds, the mean, and the mean with opening and finishing. Then how many
-# instructions a pair takes, as callgrind counts them, of one caller on one node: all, and by the library's calls.
+# Prints what bench/threads.sh does: how many pairs of a lock and an unlock a second callers on threads make by the library of
+# crates/lt_live_c, with clients/c/lockrun_easy.h, and by others, all in long rounds. Then how many instructions a pair takes, as
+# callgrind counts them, of one caller on one node: all, and by the library's calls; and of a pthread_rwlock_t and, if
+# libdb5.3-dev is there, of Berkeley DB.
 # usage: bench/library.sh [ROUNDS [functions]]: with the word `functions` also those functions that take the most.
 top=$(CDPATH='' cd -- "$(dirname -- "$0")/.." && pwd) || exit 1
-rounds=${1:-40}
+rounds=${1:-9}
 library=$top/crates/lt_live_c/out/liblt_live_c.a
 [ -f "$library" ] || { echo "bench: run rt lib in crates/lt_live_c first" >&2; exit 1; }
 room=$(mktemp -d) || exit 1
@@ -20,25 +20,7 @@ else
   cc -std=c11 -O2 -pthread -o "$room/others" "$top/bench/library/others.c" || exit 1
 fi
 
-# The greatest of the numbers in the last column of five runs.
-best() {
-  for _ in 1 2 3 4 5; do "$room/others" "$@"; done | sort -k2 -n | tail -1 | cut -d' ' -f2
-}
-
-for sets in own one; do
-  for mode in write read; do
-    for callers in 1 2 4; do
-      for nodes in 1 4; do
-        "$room/pairs" $callers $nodes $sets $mode "$rounds" | while read -r _ most mean whole; do
-          echo "callers $callers, nodes $nodes, $sets set, $mode: best $most, mean $mean, with open and finish $whole"
-        done
-      done
-      for kind in $kinds; do
-        echo "callers $callers, $kind, $sets set, $mode: best $(best "$kind" $callers $sets $mode 200000)"
-      done
-    done
-  done
-done
+"$top/bench/threads.sh" 500 "$rounds"
 
 command -v valgrind >/dev/null || { echo 'bench: no instructions, since valgrind is not there'; exit 0; }
 

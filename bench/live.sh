@@ -1,6 +1,6 @@
 #!/bin/sh
-# Runs lock and unlock pairs through one service of crates/lt_live_c on 1, 4 and 16 nodes, whose nodes forget after each
-# thousand, and prints what a pair of the first tenth and of the last took of the processor, and how much the memory that is
+# Runs lock and unlock pairs through one service of crates/lt_live_c on 1, 4 and 16 nodes, whose nodes forget as they
+# go, and prints what a pair of the first tenth and of the last took of the processor, and how much the memory that is
 # resident after them differs. Beside it, in the same run, what a pair takes if a new service is opened after each 2,000
 # pairs, as it had to be while a service ended after 4,096 commands. A hundred times it is asked what was served, which is
 # compared with what callers were told. The status is 1 if the memory differs by 64 KiB or more.

@@ -10,7 +10,7 @@
 #include <stdio.h>
 #include <string.h>
 
-enum { SETS = 8, PARTS = 10, ASKED = 100, KEPT = 1000, MOST_NODES = 64 };
+enum { SETS = 8, PARTS = 10, ASKED = 100, MOST_NODES = 64 };
 
 static lockrun_nodes nodes;
 static size_t told;
@@ -21,12 +21,12 @@ static void want(uint32_t code, uint32_t wanted) {
     exit(1);
 }
 
-static void open_nodes(int on) {
+static void open_nodes(int on, uint64_t keep) {
     char text[4096];
     int length = sprintf(text, "version 2\nnodes %d\n", on);
     for (int k = 0; k < SETS; k++) length += sprintf(text + length, "set s%d\n", k);
     for (int k = 0; k < on; k++) length += sprintf(text + length, "client c%d at %d\n", k, k);
-    want(lockrun_nodes_open(&nodes, text, (size_t)length, (uint64_t)1 << 55), LOCKRUN_OK);
+    want(lockrun_nodes_open(&nodes, text, (size_t)length, (uint64_t)1 << 55 | keep), LOCKRUN_OK);
     told = 0;
 }
 
@@ -58,12 +58,11 @@ int main(int count, char **words) {
     long pairs = atol(words[2]), once = count > 3 ? atol(words[3]) : 0, part = pairs / PARTS, between = pairs / ASKED;
     if (on < 1 || on > MOST_NODES || between < 1) { fputs("live: 1 to 64 nodes, 100 pairs or more\n", stderr); return 1; }
     read_program();
-    open_nodes(on);
+    open_nodes(on, once ? LOCKRUN_KEEP : 0);
     double begun = nanoseconds();
     for (long number = 1; number <= pairs; number++) {
         make_pair(number);
-        if (once && number % once == 0) { close_nodes(); open_nodes(on); }
-        if (!once && number % KEPT == 0) want(lockrun_nodes_forget(&nodes), LOCKRUN_OK);
+        if (once && number % once == 0) { close_nodes(); open_nodes(on, LOCKRUN_KEEP); }
         if (number % between == 0) compare();
         if (number % part) continue;
         double ended = nanoseconds();

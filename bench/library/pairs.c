@@ -73,7 +73,7 @@ int main(int count, char **words) {
     long pairs = 0;
     for (int round = 0; round < rounds; round++) {
         lockrun_journal journal = {0};
-        want(lockrun_nodes_open(&nodes, text, (size_t)length, 1 << 20), LOCKRUN_OK);
+        want(lockrun_nodes_open(&nodes, text, (size_t)length, 1 << 20 | LOCKRUN_KEEP), LOCKRUN_OK);
         long in_round = (long)callers * pairs_of_caller;
         double taken = time_of_pairs(callers);
         want(lockrun_nodes_finish(&nodes, &journal), LOCKRUN_OK);

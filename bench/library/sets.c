@@ -9,7 +9,7 @@
 #include <stdio.h>
 #include <string.h>
 
-enum { KEPT = 1000, MOST_NODES = 64, MOST_SETS = 65536, MOST_NAME = 16 };
+enum { MOST_NODES = 64, MOST_SETS = 65536, MOST_NAME = 16 };
 
 static lockrun_nodes nodes;
 static char names[MOST_SETS][MOST_NAME];
@@ -64,7 +64,6 @@ int main(int count, char **words) {
     long first = resident();
     for (long number = 1; number <= rounds; number++) {
         make_round(number, all, touched);
-        if (number % KEPT == 0) want(lockrun_nodes_forget(&nodes), LOCKRUN_OK);
     }
     printf("%.2f %ld %ld\n", (opened - begun) / 1e6, first - before, resident() - first);
     lockrun_nodes_free(&nodes);

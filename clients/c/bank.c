@@ -1,7 +1,7 @@
 /* A bank: callers on threads move money from account to account under locks, and one adds up all accounts.
  *
  * usage: bank CALLERS NODES TRANSFERS [SCRIPT JOURNAL]: so many transfers of each caller. It writes the script of what was
- * asked, and the journal, into these files. If they aren't named its nodes forget meanwhile, and it may go on for as many
+ * asked, and the journal, into these files. If they aren't named its nodes keep none, and it may go on for as many
  * transfers as it likes. The status is 0 if the sum is right and nothing is held at the end. */
 #define _POSIX_C_SOURCE 200809L
 #include "lockrun_easy.h"
@@ -12,7 +12,7 @@
 enum { ACCOUNTS = 4, FIRST = 1000, AMOUNT = 5, MOST_CALLERS = 16, SECONDS = 60 };
 
 /* How many transfers all callers make together, at least, before it is asked what they were served; it is asked some hundred
- * times if they make more. So many transfers a caller makes before it lets the nodes forget. */
+ * times if they make more. */
 enum { BETWEEN = 100, ROUNDS = 100 };
 
 /* The set that stands for the whole bank. An account's set has the number after the account's. */
@@ -21,9 +21,6 @@ enum { BANK = 0 };
 /* Plain words: nothing but the locks keeps callers apart. */
 static long money[ACCOUNTS];
 static lockrun_nodes nodes;
-
-/* Whether the nodes forget. */
-static int forgets;
 
 /* Which transfers each caller makes in this round, and how many replies it was told so far. */
 static struct { int first, last; size_t told; } work[MOST_CALLERS];
@@ -71,7 +68,6 @@ static void *call(void *argument) {
     for (int k = work[number].first; k < work[number].last; k++) {
         int from = (number + k) % ACCOUNTS;
         transfer(caller, from, (from + 1 + k % (ACCOUNTS - 1)) % ACCOUNTS);
-        if (forgets && k % BETWEEN == 0) want("forget", lockrun_nodes_forget(&nodes), LOCKRUN_OK);
     }
     return 0;
 }
@@ -146,13 +142,13 @@ int main(int count, char **words) {
     if (count != 4 && count != 6) { fputs("usage: bank CALLERS NODES TRANSFERS [SCRIPT JOURNAL]\n", stderr); return 1; }
     int callers = atoi(words[1]), nodes_wanted = atoi(words[2]), transfers = atoi(words[3]);
     if (callers < 1 || callers > MOST_CALLERS) { fputs("bank: 1 to 16 callers\n", stderr); return 1; }
-    forgets = count == 4;
+    int forgets = count == 4;
     char text[4096];
     int length = sprintf(text, "nodes %d\nset bank\n", nodes_wanted);
     for (int k = 0; k < ACCOUNTS; k++) length += sprintf(text + length, "set account%d with bank\n", k);
     for (int k = 0; k < callers; k++) length += sprintf(text + length, "client caller%d at %d\n", k, k % nodes_wanted);
     for (int k = 0; k < ACCOUNTS; k++) money[k] = FIRST;
-    want("open", lockrun_nodes_open(&nodes, text, length, (uint64_t)1 << 55), LOCKRUN_OK);
+    want("open", lockrun_nodes_open(&nodes, text, length, (uint64_t)1 << 55 | (forgets ? 0 : LOCKRUN_KEEP)), LOCKRUN_OK);
     compare(callers);
     int each = (BETWEEN + callers - 1) / callers;
     if (each < transfers / ROUNDS) each = transfers / ROUNDS;

@@ -361,7 +361,7 @@ static void eight_sets(void) {
                        "client c at 0\n";
     uint8_t bytes[128];
     lockrun_nodes nodes;
-    IS(lockrun_nodes_open_sets(&nodes, script, sizeof script - 1, sets, 7, 1 << 20), LOCKRUN_OK);
+    IS(lockrun_nodes_open_sets(&nodes, script, sizeof script - 1, sets, 7, 1 << 20 | LOCKRUN_KEEP), LOCKRUN_OK);
     IS(lockrun_find(&nodes.caller[0], "h", &number), LOCKRUN_OK);
     IS(number, 7);
     IS(lockrun_nodes_finish(&nodes, &journal), LOCKRUN_OK);
@@ -440,7 +440,7 @@ static void withdrawing(void) {
 static void patience(void) {
     static const char script[] = "nodes 2\nset a\nclient c at 0\nclient d at 1\n";
     lockrun_nodes nodes;
-    IS(lockrun_nodes_open(&nodes, script, sizeof script - 1, 1 << 20), LOCKRUN_OK);
+    IS(lockrun_nodes_open(&nodes, script, sizeof script - 1, 1 << 20 | LOCKRUN_KEEP), LOCKRUN_OK);
     lockrun_caller *first = &nodes.caller[0], *second = &nodes.caller[1];
     IS(lockrun_nodes_served(&nodes, &submitted, &polled), LOCKRUN_OK);
     IS(submitted + polled, 0);
@@ -469,7 +469,7 @@ static void patience(void) {
 static void forgetful(void) {
     static const char script[] = "nodes 2\nset a\nclient c at 0\nclient d at 1\n";
     lockrun_nodes nodes;
-    IS(lockrun_nodes_open(&nodes, script, sizeof script - 1, 1 << 20), LOCKRUN_OK);
+    IS(lockrun_nodes_open(&nodes, script, sizeof script - 1, 1 << 20 | LOCKRUN_KEEP), LOCKRUN_OK);
     lockrun_caller *first = &nodes.caller[0], *second = &nodes.caller[1];
     IS(lockrun_lock(first, 0, LOCKRUN_READ, LOCKRUN_FOREVER), LOCKRUN_GRANTED);
     IS(lockrun_ask(second, 0, LOCKRUN_WRITE, 0), LOCKRUN_WAITS);

@@ -21,7 +21,9 @@ static void is(const char *call, int line, uint64_t got, uint64_t wanted) {
     bad = 1;
 }
 
-static void open_nodes(const char *text) { IS(lockrun_nodes_open(&nodes, text, strlen(text), 1 << 20), LOCKRUN_OK); }
+static void open_nodes(const char *text) {
+    IS(lockrun_nodes_open(&nodes, text, strlen(text), 1 << 20 | LOCKRUN_KEEP), LOCKRUN_OK);
+}
 
 /* All that was submitted has its reply, and nothing is held or waits at the end. */
 static void finish(lockrun_journal *journal) {
@@ -154,7 +156,7 @@ static void *call_in_ring(void *argument) {
     uint32_t own = lockrun_client(&caller->session), next = (own + 1) % RING;
     IS(lockrun_lock(caller, own, LOCKRUN_WRITE, LONG), LOCKRUN_GRANTED);
     first_locks++;
-    while (first_locks < RING) lockrun_help(caller, LOCKRUN_OWN);
+    while (first_locks < RING) lockrun_help(&nodes);
     uint32_t code = lockrun_lock(caller, next, LOCKRUN_WRITE, own ? INT64_MAX : SHORT);
     IS(code, own ? LOCKRUN_GRANTED : LOCKRUN_WITHDRAWN);
     IS(lockrun_abort(caller), LOCKRUN_DROPPED);

@@ -7,7 +7,8 @@
  */
 #ifndef LOCKRUN_APART_H
 #define LOCKRUN_APART_H
-#include "lockrun_nodes.h"
+#include "lockrun.h"
+#include "lockrun_text.h"
 #include <stdlib.h>
 #include <string.h>
 #include <time.h>

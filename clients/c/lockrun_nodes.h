@@ -3,6 +3,9 @@
  *
  * Nodes are opened with version 3 of scripts, which alone knows how to give up a wait: its line is put before a text that has
  * no line of a version.
+ *
+ * Nodes forget their moves as they go, so that a service takes the same memory however long it runs, and has no journal. With
+ * LOCKRUN_KEEP added to the limit they keep them, and lockrun_nodes_finish gives the journal.
  */
 #ifndef LOCKRUN_NODES_H
 #define LOCKRUN_NODES_H
@@ -10,70 +13,30 @@
 #if defined(__STRICT_ANSI__) && !defined(__cplusplus) && !defined(_POSIX_C_SOURCE) && !defined(_DEFAULT_SOURCE)
 #error "lockrun_nodes.h uses clocks and threads of POSIX: compile with -std=gnu11, or with -D_POSIX_C_SOURCE=200809L"
 #endif
-#include <sched.h>
-#include <stdlib.h>
-#include <string.h>
-#include <time.h>
-#ifdef __cplusplus
-#include <atomic>
-typedef std::atomic_flag lockrun_flag;
-#else
-#include <stdatomic.h>
-typedef atomic_flag lockrun_flag;
-#endif
+#include "lockrun_races.h"
+#include "lockrun_text.h"
+#include "lockrun_turning.h"
 
-/* Nodes, and callers, are so many bytes apart that what different threads write lies in different lines of the caches. */
-enum { LOCKRUN_APART = 128 };
-
-typedef struct {
-    lockrun_station station;
-    lockrun_flag busy;
-    char apart[LOCKRUN_APART - sizeof(lockrun_station) - sizeof(lockrun_flag)];
-} lockrun_node;
-
-typedef struct {
-    size_t count;
-    lockrun_node *node;
-    lockrun_service service;
-    size_t callers;
-    struct lockrun_caller *caller;
-    int gives_up; /* whether the script is of version 3 */
-} lockrun_nodes;
-
-/* A set in which a caller has locks, and how many. */
-typedef struct { uint32_t set, count; } lockrun_held;
-
-typedef struct lockrun_caller {
-    lockrun_session session;
-    lockrun_nodes *nodes;
-    uint64_t dropped; /* how many locks the last LOCKRUN_DROPPED was of */
-    lockrun_held *held;
-    size_t holds, room;
-    uint32_t home, kind, set, first, answer; /* the command that was asked last, and its reply */
-    char waits, withdraws; /* whether the reply to it is still to come, and that to a withdraw of it */
-    char apart[LOCKRUN_APART - 3 * sizeof(void *) - 2 * sizeof(size_t) - sizeof(uint64_t) - 5 * sizeof(uint32_t) - 2];
-} lockrun_caller;
-
-/* One turn of a node, unless another thread is turning it. */
-static inline uint32_t lockrun_turn_node(lockrun_nodes *nodes, size_t place) {
-    lockrun_node *node = &nodes->node[place];
-    if (atomic_flag_test_and_set(&node->busy)) return LOCKRUN_NOTHING;
-    uint32_t code = lockrun_turn(&node->station);
-    atomic_flag_clear(&node->busy);
-    return code;
-}
+/* Added to the limit on moves: the nodes keep the journal of all that they do. */
+#define LOCKRUN_KEEP ((uint64_t)1 << 63)
 
 /* Frees all that isn't in use by another thread. */
 static inline void lockrun_nodes_free(lockrun_nodes *nodes) {
     for (size_t k = 0; k < nodes->count; k++) if (nodes->node[k].station.at) lockrun_free(&nodes->node[k].station);
     for (size_t k = 0; k < nodes->callers; k++) {
-        if (nodes->caller[k].session.at) lockrun_free(&nodes->caller[k].session);
-        free(nodes->caller[k].held);
+        lockrun_caller *caller = &nodes->caller[k];
+        if (caller->session.at) lockrun_free(&caller->session);
+        lockrun_signal_end(&caller->sleeper.told);
+#ifdef __linux__
+        if (caller->sleeper.descriptor > 0) close(caller->sleeper.descriptor);
+#endif
+        free(caller->held);
     }
     if (nodes->service.at) lockrun_free(&nodes->service);
+    lockrun_races_end(nodes);
     free(nodes->node);
     free(nodes->caller);
-    memset(nodes, 0, sizeof *nodes);
+    memset((void *)nodes, 0, sizeof *nodes);
 }
 
 /* Takes the next station, or the next session, into a list that grows by it. */
@@ -81,12 +44,13 @@ static inline uint32_t lockrun_add_node(lockrun_nodes *nodes) {
     lockrun_station station = {0};
     uint32_t code = lockrun_take_station(&nodes->service, &station);
     if (code != LOCKRUN_OK) return code;
-    lockrun_node *grown = (lockrun_node *)realloc((void *)nodes->node, (nodes->count + 1) * sizeof *grown);
+    lockrun_node *grown = (lockrun_node *)lockrun_more(nodes->node, nodes->count, sizeof *grown);
     if (!grown) { lockrun_free(&station); return LOCKRUN_NO_MEMORY; }
     nodes->node = grown;
+    nodes->all |= lockrun_bit(nodes->count);
     grown += nodes->count++;
     grown->station = station;
-    atomic_flag_clear(&grown->busy);
+    lockrun_put(&grown->work, 1);
     return LOCKRUN_OK;
 }
 
@@ -94,13 +58,14 @@ static inline uint32_t lockrun_add_caller(lockrun_nodes *nodes) {
     lockrun_session session = {0};
     uint32_t code = lockrun_take_session(&nodes->service, &session);
     if (code != LOCKRUN_OK) return code;
-    lockrun_caller *grown = (lockrun_caller *)realloc(nodes->caller, (nodes->callers + 1) * sizeof *grown);
+    lockrun_caller *grown = (lockrun_caller *)lockrun_more(nodes->caller, nodes->callers, sizeof *grown);
     if (!grown) { lockrun_free(&session); return LOCKRUN_NO_MEMORY; }
     nodes->caller = grown;
     lockrun_caller *caller = &grown[nodes->callers++];
-    memset((void *)caller, 0, sizeof *caller);
+    nodes->rows = (nodes->callers + 63) / 64;
     caller->session = session;
     caller->nodes = nodes;
+    caller->number = lockrun_client(&session);
     caller->home = lockrun_home(&session);
     return LOCKRUN_OK;
 }
@@ -110,45 +75,23 @@ static inline uint32_t lockrun_nodes_begin(lockrun_nodes *nodes, uint32_t code) 
     while (code == LOCKRUN_OK) code = lockrun_add_node(nodes);
     if (code == LOCKRUN_NOTHING) code = LOCKRUN_OK;
     while (code == LOCKRUN_OK) code = lockrun_add_caller(nodes);
-    if (code == LOCKRUN_NOTHING) return LOCKRUN_OK;
-    lockrun_nodes_free(nodes);
+    if (code == LOCKRUN_NOTHING) code = lockrun_races_begin(nodes);
+    for (size_t k = 0; k < nodes->callers; k++) lockrun_signal_begin(&nodes->caller[k].sleeper.told);
+    if (code != LOCKRUN_OK) lockrun_nodes_free(nodes);
     return code;
 }
 
-/* The number of a script's version, by its first line that isn't skipped. */
-static inline int lockrun_version(const char *text, size_t length) {
-    static const char word[] = "version";
-    const size_t size = sizeof word - 1;
-    size_t at = 0;
-    for (int comment = 0; at < length && (comment || strchr("# \t\r\n", text[at])); at++)
-        comment = text[at] != '\n' && (comment || text[at] == '#');
-    if (length - at < size || memcmp(text + at, word, size) != 0) return 1;
-    for (at += size; at < length && strchr(" \t", text[at]); at++) {}
-    return at < length && text[at] == '3' ? 3 : 2;
-}
-
-/* The text with the line `version 3` before it, if it has no line of a version, and its size: to be freed. Null without memory. */
-static inline uint8_t *lockrun_with_version(const char *text, size_t length, size_t *size) {
-    static const char line[] = "version 3\n";
-    const size_t more = lockrun_version(text, length) == 1 ? sizeof line - 1 : 0;
-    uint8_t *whole = (uint8_t *)malloc(more + length + 1);
-    if (!whole) return 0;
-    memcpy(whole, line, more);
-    memcpy(whole + more, text, length);
-    *size = more + length;
-    return whole;
-}
-
 /* Opens all nodes of a script with further sets, and a caller for each client. `nodes` stays where it is until it is finished
- * or freed. */
+ * or freed. Each node makes at most `limit` moves. */
 static inline uint32_t lockrun_nodes_open_sets(lockrun_nodes *nodes, const char *text, size_t length,
                                                const lockrun_new_set *sets, size_t count, uint64_t limit) {
     size_t size = 0;
     uint8_t *whole = lockrun_with_version(text, length, &size);
-    memset(nodes, 0, sizeof *nodes);
+    memset((void *)nodes, 0, sizeof *nodes);
     if (!whole) return LOCKRUN_NO_MEMORY;
     nodes->gives_up = lockrun_version(text, length) != 2;
-    uint32_t code = lockrun_open_sets(whole, size, sets, count, limit, 4, &nodes->service);
+    nodes->keeps = (limit & LOCKRUN_KEEP) != 0;
+    uint32_t code = lockrun_open_sets(whole, size, sets, count, limit & ~LOCKRUN_KEEP, 4, &nodes->service);
     free(whole);
     return lockrun_nodes_begin(nodes, code);
 }
@@ -163,7 +106,7 @@ static inline uint32_t lockrun_nodes_open(lockrun_nodes *nodes, const char *text
 static inline void lockrun_nodes_rest(lockrun_nodes *nodes) {
     for (int quiet = 0; quiet < 2; quiet++)
         for (size_t k = 0; k < nodes->count; k++)
-            if (lockrun_turn_node(nodes, k) == LOCKRUN_OK) quiet = -1;
+            if (lockrun_turn(&nodes->node[k].station) == LOCKRUN_OK) quiet = -1;
 }
 
 /* Gives all stations and sessions back, in order. */
@@ -196,24 +139,33 @@ static inline uint32_t lockrun_nodes_served(lockrun_nodes *nodes, size_t *submit
     return code == LOCKRUN_OK ? taken : code;
 }
 
-/* Lets each node forget its moves and commands; then they have no journal. Other threads may be in calls. */
+/* Lets each node forget its moves and commands now, also one that keeps them; then they have no journal. Other threads may be
+ * in calls. */
 static inline uint32_t lockrun_nodes_forget(lockrun_nodes *nodes) {
     uint32_t code = LOCKRUN_OK;
+    LOCKRUN_UNSEEN_BEGIN;
+    nodes->keeps = 0;
     for (size_t k = 0; k < nodes->count; k++) {
         lockrun_node *node = &nodes->node[k];
-        while (atomic_flag_test_and_set(&node->busy)) sched_yield();
+        lockrun_keep_node(nodes, k);
         uint32_t forgot = lockrun_forget(&node->station);
-        atomic_flag_clear(&node->busy);
+        node->moves = 0;
+        lockrun_return_node(nodes, k);
         if (forgot != LOCKRUN_OK) code = forgot;
     }
+    LOCKRUN_UNSEEN_END;
     return code;
 }
 
-/* Ends the nodes, while no other thread is in a call: the journal of their run. */
+/* Ends the nodes, while no other thread is in a call: the journal of their run. Nodes that were opened without LOCKRUN_KEEP have
+ * none: LOCKRUN_FORGOTTEN. */
 static inline uint32_t lockrun_nodes_finish(lockrun_nodes *nodes, lockrun_journal *journal) {
-    lockrun_nodes_rest(nodes);
-    uint32_t code = lockrun_nodes_give(nodes);
-    if (code == LOCKRUN_OK) code = lockrun_finish(&nodes->service, journal);
+    uint32_t code = LOCKRUN_FORGOTTEN;
+    if (nodes->keeps) {
+        lockrun_nodes_rest(nodes);
+        code = lockrun_nodes_give(nodes);
+        if (code == LOCKRUN_OK) code = lockrun_finish(&nodes->service, journal);
+    }
     lockrun_nodes_free(nodes);
     return code;
 }
