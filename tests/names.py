@@ -37,7 +37,8 @@ OTHERS = '''
     pg_locks readers chain
     lock_within and_within change_within timeout= sets= StillWaits -std=c11
     lock_async and_try and_async change_try change_async go_on_try go_on_within go_on_async client_within client_async block_on open_pool
-    key_under keep_journal BadScript Forgotten
+    key_under keep_journal BadScript Forgotten async client.lock_async(..) ann.lock_async(..) guard.change_async(..) nodes.session(name)
+    families= members= keep=True sorted({one, nodes.client() nodes.locks() nodes['any nodes['folder']['page'] nodes['folder']
     logic=proved functions=N axioms= axioms=N target=.. cpu=.. sum=dac8208d650f15bf native=nat,char,string logic-built=trusted
     libraries-built=trusted statements=trusted incremental=trusted batches=trusted cache=trusted main=Threads threads= may-wait= may-abort=
     partial= rattle_alloc rattle_realloc rattle_dealloc Appends
@@ -258,7 +259,7 @@ def unknown_clauses(page):
 
 def unknown_code(page):
     """The faults of a page that shows code: lines that stand in no source, and in no first program."""
-    paths = [*SOURCES, *CLIENTS, *(TOP / 'examples').glob('first.*')]
+    paths = [*SOURCES, *CLIENTS, *(TOP / 'examples').glob('first*')]
     lines = {line.strip() for path in paths for line in path.read_text().splitlines()}
     text = page.read_text()
     fenced = '```rust' in text
