@@ -87,7 +87,7 @@ pub joins_more : (n : ℕ) (old others mid new : List ℕ) → JoinsFirst n old 
 joins_more n old others mid new h inside is =
     let word = bit_or (slice_index_or mid n 0) (slice_index_or others n 0) in
     subst (λ (words : List ℕ). JoinsFirst (n + 1) old others words) (sym is) (record {
-      count = length_kept mid n word ∙ h.count;
+      count = length-set mid n word ∙ h.count;
       done = λ i below. elim (cases_eq i n) [
         | inl same ↦ subst (λ (j : ℕ). slice_index_or (slice_set mid n word) j 0 ≡ bit_or (slice_index_or old j 0) (slice_index_or others j 0)) (sym same)
             (get_or-set_same mid n word 0 inside ∙ ap (λ (w : ℕ). bit_or w (slice_index_or others n 0)) (h.rest n (omega arith)))
@@ -95,9 +95,6 @@ joins_more n old others mid new h inside is =
       ];
       rest = λ i past. get_or-set_other mid n i word 0 (λ e. omega (arith, past, e)) ∙ h.rest i (omega (arith, past));
     })
-  where
-    length_kept : (xs : List ℕ) (k x : ℕ) → length (slice_set xs k x) ≡ length xs
-    length_kept xs k x = length-set xs k x
 
 pub joins_all : (n : ℕ) (old others new : List ℕ) → 16 ≤ n → length old ≡ 16 → length others ≡ 16 → JoinsFirst n old others new
     → (k : ℕ) → word_has new k ≡ (word_has old k || word_has others k)
