@@ -15,3 +15,6 @@ pub mod ServicesTold
 pub mod SetsTold
 pub mod EmptyTold
 pub mod KeysTold
+pub mod Telling
+pub mod Doing
+pub mod TellingTold

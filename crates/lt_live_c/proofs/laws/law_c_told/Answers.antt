@@ -5,6 +5,7 @@ use Rattle.lt_live_c.proofs.TakingOpened.{takes_told, gives_told}
 use Rattle.lt_live_c.proofs.ServicesOpened.{opens_told, finishes_told, copies_told}
 use Rattle.lt_live_c.proofs.ServingOpened.{served_told}
 use Rattle.lt_live_c.proofs.SetsOpened.{names_told, opens_sets_told}
+use Rattle.lt_live_c.proofs.TellingOpened.{telling_told}
 use Rattle.lt_live_c.proofs.KeysOpened.{keys_told, faults_told}
 use Rattle.lt_live_c.proofs.EmptyOpened.{empty_told}
 use Rattle.lt_live_c.proofs.laws.law_c_told.Goals as goal
@@ -31,5 +32,6 @@ returns c = record {
   opens_sets = opens_sets_told;
   empty = empty_told;
   keys = keys_told;
+  telling = telling_told;
   faults = faults_told;
 }
