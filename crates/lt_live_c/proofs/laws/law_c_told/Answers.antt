@@ -5,6 +5,7 @@ use Rattle.lt_live_c.proofs.TakingOpened.{takes_told, gives_told}
 use Rattle.lt_live_c.proofs.ServicesOpened.{opens_told, finishes_told, copies_told}
 use Rattle.lt_live_c.proofs.ServingOpened.{served_told}
 use Rattle.lt_live_c.proofs.SetsOpened.{names_told, opens_sets_told}
+use Rattle.lt_live_c.proofs.DoingOpened.{doing_told}
 use Rattle.lt_live_c.proofs.TellingOpened.{telling_told}
 use Rattle.lt_live_c.proofs.KeysOpened.{keys_told, faults_told}
 use Rattle.lt_live_c.proofs.EmptyOpened.{empty_told}
@@ -33,5 +34,6 @@ returns c = record {
   empty = empty_told;
   keys = keys_told;
   telling = telling_told;
+  doing = doing_told;
   faults = faults_told;
 }
