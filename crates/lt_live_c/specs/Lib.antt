@@ -20,3 +20,4 @@ pub mod KeysTold
 pub mod Telling
 pub mod Doing
 pub mod TellingTold
+pub mod DoingTold

@@ -1,5 +1,5 @@
-//! What a program that locks names: scripts and their sets, commands and modes, callers and their replies, streams, and the
-//! check of a journal.
+//! What a program that locks names: scripts and their sets, commands and modes, callers and their replies, streams, and
+//! the check of a journal.
 //!
 //! Each of these has its contract in the crate that it comes from.
 #![tactic(auto)]
