@@ -17,3 +17,5 @@ pub mod NodesTold
 pub mod LettersTold
 pub mod EmptyTold
 pub mod KeysTold
+pub mod Viewing
+pub mod ViewTold

@@ -28,6 +28,10 @@ mod serving;
 mod sessions;
 mod taking;
 mod texts;
+mod view_laws;
+mod viewing;
+mod views;
 mod wire_code;
 
 pub use laws::law_c_told;
+pub use view_laws::law_view_told;
