@@ -179,6 +179,15 @@ uint64_t lockrun_left(lockrun_session *session);
 uint32_t lockrun_client(lockrun_session *session);
 uint32_t lockrun_home(lockrun_session *session);
 
+/* What clients of the station's node hold and wait for, as that node has it now; a node in a process of its own stands for its
+ * station. The first set numbered `from` or more in which the client holds a lock, or LOCKRUN_NOTHING; how many locks of the mode
+ * it holds in a set; the set in which it waits, and the mode that it waits for, or LOCKRUN_NOTHING; and LOCKRUN_OK if an ask of
+ * the client stands behind one of the other client in the queue of the set's desk, and that lies at this node. */
+uint32_t lockrun_held(lockrun_station *station, uint32_t client, uint32_t from, uint32_t *set);
+uint64_t lockrun_locks(lockrun_station *station, uint32_t client, uint32_t set, uint32_t mode);
+uint32_t lockrun_asked(lockrun_station *station, uint32_t client, uint32_t *set, uint32_t *mode);
+uint32_t lockrun_behind(lockrun_station *station, uint32_t set, uint32_t client, uint32_t other);
+
 /* Gives a station or a session back to its service: behind all others that it has. `given` is {0} then. */
 uint32_t lockrun_give(lockrun_service *service, lockrun_handle *given);
 

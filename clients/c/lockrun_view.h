@@ -9,13 +9,16 @@
  * LOCKRUN_NOTHING. */
 static inline uint32_t lockrun_held_by(lockrun_station *station, uint32_t client, uint32_t from, uint32_t *set,
                                        uint64_t counts[6]) {
-    return lockrun_held(station, client, from, set, counts);
+    const uint32_t code = lockrun_held(station, client, from, set);
+    for (uint32_t mode = 0; code == LOCKRUN_OK && mode < 6; mode++) counts[mode] = lockrun_locks(station, client, *set, mode);
+    return code;
 }
 
 /* What the client waits for at its station: LOCKRUN_OK, or LOCKRUN_NOTHING. */
 static inline uint32_t lockrun_asked_by(lockrun_station *station, uint32_t client, uint32_t *set, uint32_t *mode) {
     return lockrun_asked(station, client, set, mode);
 }
+
 /* What a client holds in a set, by the modes in their order; or, where it waits, the mode that it waits for there. */
 typedef struct {
     uint32_t node, client, set;

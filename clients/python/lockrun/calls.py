@@ -94,9 +94,9 @@ def set_of_key(library: Library, first: int, families: int, members: int, parent
 
 def held(library: Library, station: Handle, client: int) -> Iterator[Tuple[int, List[int]]]:
     """The sets in which a client of the station holds locks, and how many of each mode."""
-    number, counts, start = c_uint32(), (c_uint64 * 6)(), 0
-    while library.lockrun_held(live(station), client, start, number, counts) == OK:
-        yield number.value, list(counts)
+    number, start = c_uint32(), 0
+    while library.lockrun_held(live(station), client, start, number) == OK:
+        yield number.value, [library.lockrun_locks(live(station), client, number.value, mode) for mode in range(6)]
         start = number.value + 1
 
 

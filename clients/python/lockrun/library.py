@@ -68,9 +68,10 @@ EXPORTS = {
 FURTHER = {
     'lockrun_turn_telling': (c_uint32, AT, COUNT, CLIENTS),
     'lockrun_do': (c_uint32, AT, AT, c_uint32, c_uint32, c_uint32, c_uint32, COUNT, COUNT, CLIENTS),
-    'lockrun_rests': (c_uint32, AT),
-    'lockrun_held': (c_uint32, AT, c_uint32, c_uint32, NUMBER, COUNT),
+    'lockrun_held': (c_uint32, AT, c_uint32, c_uint32, NUMBER),
+    'lockrun_locks': (c_size_t, AT, c_uint32, c_uint32, c_uint32),
     'lockrun_asked': (c_uint32, AT, c_uint32, NUMBER, NUMBER),
+    'lockrun_behind': (c_uint32, AT, c_uint32, c_uint32, c_uint32),
 }
 
 
@@ -95,7 +96,7 @@ def load(path: str) -> Library:
         call = getattr(library, name)
         call.restype, call.argtypes = result, arguments
     library.tells = hasattr(library, 'lockrun_turn_telling') and hasattr(library, 'lockrun_do')
-    library.views = hasattr(library, 'lockrun_held') and hasattr(library, 'lockrun_asked')
+    library.views = hasattr(library, 'lockrun_held')
     return library
 
 

@@ -67,3 +67,21 @@ pub(crate) fn key(first: u32, families: u32, members: u32, parent: &[u8], key: &
     check(unsafe { exports::lockrun_key(first, families, members, above, above_length, bytes, length, &mut set) })?;
     Ok(set)
 }
+
+/// The first set from this one on in which a client of the station's node holds locks, and how many of each mode.
+pub(crate) fn held(station: &mut Handle, client: u32, from: u32) -> Option<(u32, [u64; 6])> {
+    let mut set = 0;
+    // SAFETY: the handle stands for something, and `&mut` gives it to one call at a time.
+    let code = unsafe { exports::lockrun_held(station, client, from, &mut set) };
+    // SAFETY: as above.
+    let counts = [0, 1, 2, 3, 4, 5].map(|mode| unsafe { exports::lockrun_locks(station, client, set, mode) });
+    (code == exports::OK).then_some((set, counts))
+}
+
+/// The set and the mode that a client of the station's node waits for.
+pub(crate) fn asked(station: &mut Handle, client: u32) -> Option<(u32, u32)> {
+    let (mut set, mut mode) = (0, 0);
+    // SAFETY: as above.
+    let code = unsafe { exports::lockrun_asked(station, client, &mut set, &mut mode) };
+    (code == exports::OK).then_some((set, mode))
+}

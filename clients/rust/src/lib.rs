@@ -26,6 +26,7 @@ mod session;
 mod station;
 mod stations;
 mod tcp;
+mod view;
 mod waiting;
 
 pub use apart::{Apart, Carrier, Place};
@@ -39,3 +40,4 @@ pub use opening::{open, open_sets, NewSet, Opening};
 pub use pool::{Client, Coming};
 pub use session::{Mode, Session};
 pub use tcp::Tcp;
+pub use view::{Holds, Locks, Waits};

@@ -213,6 +213,15 @@ impl Stations {
         code
     }
 
+    /// Looks at each node's station, in order.
+    pub fn look(&self, mut look: impl FnMut(usize, &mut Handle)) {
+        for (node, station) in self.stations.iter().enumerate() {
+            look(node, &mut claim(station).handle);
+        }
+        // As above.
+        self.help_all();
+    }
+
     /// All stations, in order, while no other thread turns one.
     pub fn claim_all(&self) -> Vec<Claim<'_>> {
         self.stations.iter().map(claim).collect()

@@ -21,3 +21,5 @@ pub mod Telling
 pub mod Doing
 pub mod TellingTold
 pub mod DoingTold
+pub mod Viewing
+pub mod ViewTold

@@ -30,6 +30,10 @@ mod sessions;
 mod taking;
 mod telling;
 mod texts;
+mod view_laws;
+mod viewing;
+mod views;
 mod wire_code;
 
 pub use laws::law_c_told;
+pub use view_laws::law_view_told;

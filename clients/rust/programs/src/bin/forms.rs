@@ -1,7 +1,8 @@
 //! All forms of locks: at once, within a time, for ever, and for tasks, on one node and on four; what a future that is dropped
 //! leaves behind; a pool of clients; keys; and errors with their reasons.
 use lockrun::{
-    block_on, open, open_sets, BadSet, Client, Error, Fault, Guard, Mode, NewSet, Nodes, Opening, Session, WhySet,
+    block_on, open, open_sets, BadSet, Client, Error, Fault, Guard, Holds, Locks, Mode, NewSet, Nodes, Opening,
+    Session, Waits, WhySet,
 };
 use std::future::Future;
 use std::pin::Pin;
@@ -228,6 +229,23 @@ fn reasons() -> Result<(), Error> {
     Ok(())
 }
 
+// Who holds what, and who waits, of two nodes.
+fn view() -> Result<(), Error> {
+    let (nodes, mut ann, mut ben) = two(2);
+    let mut held = ann.lock(1, Mode::Read)?;
+    std::mem::forget(held.and(1, Mode::Read)?);
+    assert_eq!(ben.ask(1, Mode::Write, SHORT).err(), Some(Error::StillWaits));
+    let locks = nodes.locks();
+    assert_eq!(locks.held, [Holds { client: 0, set: 1, mode: Mode::Read, count: 2 }]);
+    assert_eq!(locks.waiting, [Waits { client: 1, set: 1, mode: Mode::Write }]);
+    drop(held);
+    assert_eq!(nodes.locks().held, [Holds { client: 0, set: 1, mode: Mode::Read, count: 1 }]);
+    assert_eq!(ann.abort()?, 1);
+    drop(ben.wait(LONG)?);
+    assert_eq!(nodes.locks(), Locks::default());
+    Ok(())
+}
+
 fn main() -> Result<(), Error> {
     goes_to_threads::<(Guard, Session, Client, Nodes)>();
     is_shared::<Nodes>();
@@ -240,6 +258,7 @@ fn main() -> Result<(), Error> {
     pool()?;
     keys()?;
     reasons()?;
+    view()?;
     println!("forms: it is as it should be");
     Ok(())
 }
