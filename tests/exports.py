@@ -1,7 +1,7 @@
 #!/usr/bin/env python3
 """Sees that the declarations of clients/ are those of the exports of crates/lt_live_c: the names of the calls, their
-arguments in order and what they return, in C, Rust and Python; the fields of a further set; and the numbers of codes, kinds,
-modes and replies."""
+arguments in order and what they return, in C, Rust and Python; the fields of a further set; the bits of clients; and the
+numbers of codes, kinds, modes and replies."""
 import ctypes
 import re
 import sys
@@ -20,15 +20,17 @@ import lockrun  # noqa: E402
 CROSSES = {
     'Global': [], '&[u8]': ['*u8', 'size'], '&mut [u8]': ['*u8', 'size'], '&mut Handle': ['*handle'],
     '&mut u32': ['*u32'], '&mut u64': ['*u64'], '&mut usize': ['*size'], 'u32': ['u32'], 'u64': ['u64'], 'usize': ['size'],
+    '&mut ClientBits': ['*clients'],
     "&[NewSet<'_>]": ['*set', 'size'], "&'a [u8]": ['*u8', 'size']}
 IN_C = {'uint32_t': 'u32', 'uint64_t': 'u64', 'size_t': 'size', 'lockrun_handle *': '*handle', 'lockrun_service *': '*handle',
         'lockrun_station *': '*handle', 'lockrun_session *': '*handle', 'lockrun_journal *': '*handle',
-        'lockrun_remote *': '*handle',
+        'lockrun_remote *': '*handle', 'lockrun_clients *': '*clients',
         'const lockrun_new_set *': '*set', 'const uint8_t *': '*u8', 'uint8_t *': '*u8', 'uint32_t *': '*u32',
         'uint64_t *': '*u64', 'size_t *': '*size', 'void': None}
 IN_RUST = {'u32': 'u32', 'u64': 'u64', 'usize': 'size', '*mut Handle': '*handle', '*const NewSet': '*set', '*const u8': '*u8',
-           '*mut u8': '*u8', '*mut u32': '*u32', '*mut u64': '*u64', '*mut usize': '*size', '': None}
+           '*mut Clients': '*clients', '*mut u8': '*u8', '*mut u32': '*u32', '*mut u64': '*u64', '*mut usize': '*size', '': None}
 IN_PYTHON = {ctypes.c_uint32: 'u32', ctypes.c_size_t: 'size', lockrun.AT: '*handle', lockrun.SETS: '*set',
+             lockrun.CLIENTS: '*clients',
              lockrun.BYTES: '*u8', lockrun.NUMBER: '*u32', lockrun.SIZE: '*size', None: None}
 # What a command's kind is called outside, by the function that makes it.
 KINDS = {'lock': 'LOCK', 'try_lock': 'TRY', 'unlock': 'UNLOCK', 'change': 'CHANGE', 'drop_locks': 'DROP',
@@ -117,6 +119,17 @@ def fields_differ():
             yield f'a field of a further set of {language} has another name'
 
 
+def bits_differ():
+    """The faults of the bits of clients: so many words in all languages."""
+    words = int(re.search(r'pub struct ClientBits \{\s+pub bits: \[u64; (\d+)\],', CRATE)[1])
+    if f'uint64_t bits[{words}];' not in HEADER:
+        yield 'the bits of clients of C are others'
+    if f'pub bits: [u64; {words}],' not in RUST:
+        yield 'the bits of clients of Rust are others'
+    if lockrun.Clients._fields_ != [('bits', ctypes.c_uint64 * words)]:
+        yield 'the bits of clients of Python are others'
+
+
 def numbers_of_crate():
     """Codes, kinds, modes and replies by their names, each group in its order."""
     codes = {name: int(number) for name, number in re.findall(r'^pub const (\w+): u32 = (\d+);', CRATE, re.M)}
@@ -163,7 +176,7 @@ def numbers_differ():
 def main():
     """The status is 0 if nothing differs."""
     faults = [fault for language, found in (('C', of_header()), ('Rust', of_rust()), ('Python', of_python()))
-              for fault in calls_differ(language, found)] + list(fields_differ()) + list(numbers_differ())
+              for fault in calls_differ(language, found)] + list(fields_differ()) + list(bits_differ()) + list(numbers_differ())
     for fault in faults:
         print(f'tests/exports.py: {fault}')
     numbers = sum(map(len, numbers_of_crate().values()))

@@ -136,6 +136,16 @@ uint32_t lockrun_take_session(lockrun_service *service, lockrun_session *session
  * LOCKRUN_NOTHING if there was none. */
 uint32_t lockrun_turn(lockrun_station *station);
 
+/* Some clients, a bit for each: client c has bit c % 64 of bits[c / 64]. */
+typedef struct {
+    uint64_t bits[16];
+} lockrun_clients;
+
+/* The same, and tells whom the turn reached. In `sent` bit k says whether it put letters for node k into their ring, from
+ * which that node takes them, or from which they are carried; in `told` the bit of a client says whether it put replies into
+ * the client's ring. After LOCKRUN_WRONG_HANDLE both are as they were. */
+uint32_t lockrun_turn_telling(lockrun_station *station, uint64_t *sent, lockrun_clients *told);
+
 /* Forgets the moves and commands that the station has, but for commands that are still to be made: their memory serves
  * further ones. Replies that are still to be polled stay. After LOCKRUN_NO_MEMORY it may have forgotten moves. The service
  * goes on either way, and has no journal then. */
@@ -150,6 +160,14 @@ uint32_t lockrun_submit(lockrun_session *session, uint32_t kind, uint32_t set, u
 
 /* The next reply, or LOCKRUN_NOTHING. Of LOCKRUN_DROPPED `count` tells how many locks were dropped. */
 uint32_t lockrun_poll(lockrun_session *session, uint64_t *count);
+
+/* Submits a command as lockrun_submit does, lets the station make turns as long as each makes a move and no reply to the
+ * session is known, at most 64, and polls. The answer is that of lockrun_submit where nothing was submitted; else the
+ * session's next reply, with its count; or LOCKRUN_NOTHING, LOCKRUN_LOG_FULL or LOCKRUN_NO_MEMORY, as the last turn ended: then
+ * the command was submitted, and its reply is still to come. `sent` and `told` are those of lockrun_turn_telling, of all these
+ * turns. The station is that of the session's node: another one doesn't know the session, and its reply stays to come. */
+uint32_t lockrun_do(lockrun_station *station, lockrun_session *session, uint32_t kind, uint32_t set, uint32_t first,
+                    uint32_t second, uint64_t *count, uint64_t *sent, lockrun_clients *told);
 
 /* The number of the set with this name, or LOCKRUN_NOTHING. Sets are numbered from 0 in the order of the script. */
 uint32_t lockrun_set(lockrun_session *session, const uint8_t *name, size_t length, uint32_t *set);

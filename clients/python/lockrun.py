@@ -77,7 +77,13 @@ class NewSet(ctypes.Structure):
     _fields_ = [('name', BYTES), ('length', c_size_t), ('parent', BYTES), ('parent_length', c_size_t)]
 
 
+class Clients(ctypes.Structure):
+    """A bit for each client."""
+    _fields_ = [('bits', c_uint64 * 16)]
+
+
 SETS = POINTER(NewSet)
+CLIENTS = POINTER(Clients)
 EXPORTS = {
     'lockrun_open': (c_uint32, BYTES, c_size_t, c_uint64, c_uint32, AT),
     'lockrun_open_sets': (c_uint32, BYTES, c_size_t, SETS, c_size_t, c_uint64, c_uint32, AT),
@@ -87,9 +93,11 @@ EXPORTS = {
     'lockrun_take_station': (c_uint32, AT, AT),
     'lockrun_take_session': (c_uint32, AT, AT),
     'lockrun_turn': (c_uint32, AT),
+    'lockrun_turn_telling': (c_uint32, AT, COUNT, CLIENTS),
     'lockrun_forget': (c_uint32, AT),
     'lockrun_submit': (c_uint32, AT, c_uint32, c_uint32, c_uint32, c_uint32),
     'lockrun_poll': (c_uint32, AT, COUNT),
+    'lockrun_do': (c_uint32, AT, AT, c_uint32, c_uint32, c_uint32, c_uint32, COUNT, COUNT, CLIENTS),
     'lockrun_set': (c_uint32, AT, BYTES, c_size_t, NUMBER),
     'lockrun_left': (c_uint64, AT),
     'lockrun_client': (c_uint32, AT),

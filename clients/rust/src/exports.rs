@@ -21,6 +21,13 @@ pub struct NewSet {
     pub parent_length: usize,
 }
 
+/// A bit for each client.
+#[repr(C)]
+#[derive(Clone, Copy, Default)]
+pub struct Clients {
+    pub bits: [u64; 16],
+}
+
 extern "C" {
     pub fn lockrun_open(text: *const u8, length: usize, limit: u64, places: u32, service: *mut Handle) -> u32;
     pub fn lockrun_open_sets(
@@ -55,9 +62,21 @@ extern "C" {
     pub fn lockrun_take_station(service: *mut Handle, station: *mut Handle) -> u32;
     pub fn lockrun_take_session(service: *mut Handle, session: *mut Handle) -> u32;
     pub fn lockrun_turn(station: *mut Handle) -> u32;
+    pub fn lockrun_turn_telling(station: *mut Handle, sent: *mut u64, told: *mut Clients) -> u32;
     pub fn lockrun_forget(station: *mut Handle) -> u32;
     pub fn lockrun_submit(session: *mut Handle, kind: u32, set: u32, first: u32, second: u32) -> u32;
     pub fn lockrun_poll(session: *mut Handle, count: *mut u64) -> u32;
+    pub fn lockrun_do(
+        station: *mut Handle,
+        session: *mut Handle,
+        kind: u32,
+        set: u32,
+        first: u32,
+        second: u32,
+        count: *mut u64,
+        sent: *mut u64,
+        told: *mut Clients,
+    ) -> u32;
     pub fn lockrun_set(session: *mut Handle, name: *const u8, length: usize, set: *mut u32) -> u32;
     pub fn lockrun_left(session: *mut Handle) -> u64;
     pub fn lockrun_client(session: *mut Handle) -> u32;

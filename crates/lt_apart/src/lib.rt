@@ -10,6 +10,7 @@ mod laws;
 mod opening;
 mod remote;
 mod telling;
+mod turning;
 
 pub use fault::{Refused, WireFault};
 pub use journal::NodeJournal;

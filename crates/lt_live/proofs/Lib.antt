@@ -19,3 +19,5 @@ pub mod Moves
 pub mod OwnCommands
 pub mod WholeRuns
 pub mod OpensHere
+pub mod Marking
+pub mod UntilTold

@@ -232,7 +232,7 @@ move_ends false turned a b log two later h some tells =
     (subst (λ (p : Parts). MoveEnds NoMemory a p later) (sym same) (seen_self a, inr (some_told a log two later tells (some refl))))
 
 -- memory didn't run out
-fits_then : (fits : Bool) (turned : Turned) (a b : Parts) → Moving fits turned a b → turned ≢ NoMemory → fits ≡ true
+pub fits_then : (fits : Bool) (turned : Turned) (a b : Parts) → Moving fits turned a b → turned ≢ NoMemory → fits ≡ true
 fits_then true turned a b h some = refl
 fits_then false turned a b h some = absurd (some (h.memory refl).0)
 

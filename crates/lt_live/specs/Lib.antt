@@ -7,3 +7,5 @@ pub mod Moves
 pub mod OneNode
 pub mod Live
 pub mod Served
+pub mod Told
+pub mod Obeying

@@ -55,10 +55,10 @@ impl Seat {
         }
     }
 
-    // Whether nothing is to be told but the log's last move, and this line isn't to the client.
+    /// Whether nothing is to be told but the log's last move, and this line isn't to the client.
     #[tactic(auto, using(crate::proofs::Passing::to_others))]
     #[inline(always)]
-    fn passes(&self, log: &LongLog, line: &Event) -> bool
+    pub(crate) fn passes(&self, log: &LongLog, line: &Event) -> bool
         requires cursor { IsCursorOf log.now self.now }
         ensures waits { result ≡ true → outbox_replies self.now ≡ [] }
         ensures moves { result ≡ true → self.now.moves + 1 ≡ length log.now.entries }
@@ -99,8 +99,8 @@ impl Seat {
         true
     }
 
-    // Gives the ring the reply of the next line, where it is the client's; false where the ring has no place for it.
-    fn tell_next(&mut self, line: Event) -> bool
+    /// Gives the ring the reply of the next line, where it is the client's; false where the ring has no place for it.
+    pub(crate) fn tell_next(&mut self, line: Event) -> bool
         requires { self.old.lines + 1 < 2 ^ 64 }
         ensures { ToldNext result line self.old self.new }
     {

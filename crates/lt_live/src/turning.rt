@@ -47,8 +47,8 @@ fn make_move<G: Gate>(runner: &mut Runner, fits: bool, gate: &G) -> Turned
     }
 }
 
-// Each seat that has no command in hand takes one.
-fn take_all(seats: &mut Vec<Seat>)
+/// Each seat that has no command in hand takes one.
+pub(crate) fn take_all(seats: &mut Vec<Seat>)
     ensures { EachSeat TakesIn seats.old.items seats.new.items }
 {
     for place in 0..seats.len() {
@@ -63,8 +63,8 @@ fn take_at(seats: &mut Vec<Seat>, place: usize)
     seats[place].take_in();
 }
 
-// Appends the commands in hand that can be; false where memory ran out for one, which stays in hand.
-fn append_all(seats: &mut Vec<Seat>, runner: &mut Runner) -> bool
+/// Appends the commands in hand that can be; false where memory ran out for one, which stays in hand.
+pub(crate) fn append_all(seats: &mut Vec<Seat>, runner: &mut Runner) -> bool
     requires { IsStation runner.old seats.old.items }
     ensures kept { IsStation runner.new seats.new.items }
     ensures runner { OnlyAppends runner.old runner.new }
@@ -134,8 +134,8 @@ fn tell_all(seats: &mut Vec<Seat>, log: &LongLog)
     }
 }
 
-// The line of the log's last move, where it has just one, and there are several seats to tell.
-fn line_for(seats: usize, log: &LongLog) -> Option<&Event>
+/// The line of the log's last move, where it has just one, and there are several seats to tell.
+pub(crate) fn line_for(seats: usize, log: &LongLog) -> Option<&Event>
     ensures { IfSome result (λ line. IsLastLine log.now.entries line.now) }
 {
     if seats < 2 { None } else { only_line(log) }

@@ -18,7 +18,7 @@ use Rattle.lt_live_c.specs.Told.{OfStation, OfSession, kind_of, IsOfKind, IsOfSt
 both : (code : ℕ) (content b : Content) → (code ≡ 2) × (b ≡ content) → (code ≡ 2) × (Some b ≡ Some content)
 both code content b h = (h.0, ap (λ (c : Content). Some c) h.1)
 
-at_station : (Turns : ℕ → StationData → StationData → Type 0)
+pub at_station : (Turns : ℕ → StationData → StationData → Type 0)
     → IsOfStations (λ code old new. AtStation code (Turns code) old new)
 at_station Turns (contents.Service s) other neither code None h = absurd h
 at_station Turns (contents.Service s) other neither code (Some b) h = both code (contents.Service s) b h

@@ -106,31 +106,31 @@ after_turn code Told says a (Some (contents.Session s)) h = absurd h
 after_turn code Told says a (Some (contents.Journal journal)) h = absurd h
 after_turn code Told says a (Some (contents.Node node)) h = absurd h
 
-moved_so : (turned : Turned) → 0 ≡ number_of_turn turned → turned ≡ turns.Moved
+pub moved_so : (turned : Turned) → 0 ≡ number_of_turn turned → turned ≡ turns.Moved
 moved_so turns.Moved e = refl
 moved_so turns.Quiet e = absurd (omega (arith, e))
 moved_so turns.Full e = absurd (omega (arith, e))
 moved_so turns.NoMemory e = absurd (omega (arith, e))
 
-quiet_so : (turned : Turned) → 1 ≡ number_of_turn turned → turned ≡ turns.Quiet
+pub quiet_so : (turned : Turned) → 1 ≡ number_of_turn turned → turned ≡ turns.Quiet
 quiet_so turns.Moved e = absurd (omega (arith, e))
 quiet_so turns.Quiet e = refl
 quiet_so turns.Full e = absurd (omega (arith, e))
 quiet_so turns.NoMemory e = absurd (omega (arith, e))
 
-full_so : (turned : Turned) → 8 ≡ number_of_turn turned → turned ≡ turns.Full
+pub full_so : (turned : Turned) → 8 ≡ number_of_turn turned → turned ≡ turns.Full
 full_so turns.Moved e = absurd (omega (arith, e))
 full_so turns.Quiet e = absurd (omega (arith, e))
 full_so turns.Full e = refl
 full_so turns.NoMemory e = absurd (omega (arith, e))
 
-no_memory_so : (turned : Turned) → 3 ≡ number_of_turn turned → turned ≡ turns.NoMemory
+pub no_memory_so : (turned : Turned) → 3 ≡ number_of_turn turned → turned ≡ turns.NoMemory
 no_memory_so turns.Moved e = absurd (omega (arith, e))
 no_memory_so turns.Quiet e = absurd (omega (arith, e))
 no_memory_so turns.Full e = absurd (omega (arith, e))
 no_memory_so turns.NoMemory e = refl
 
-turn_code : (turned : Turned) (code : ℕ) → code ≡ number_of_turn turned
+pub turn_code : (turned : Turned) (code : ℕ) → code ≡ number_of_turn turned
     → (code ≡ 0) ⊎ ((code ≡ 1) ⊎ ((code ≡ 8) ⊎ (code ≡ 3)))
 turn_code turns.Moved code e = inl e
 turn_code turns.Quiet code e = inr (inl e)
@@ -138,7 +138,7 @@ turn_code turns.Full code e = inr (inr (inl e))
 turn_code turns.NoMemory code e = inr (inr (inr e))
 
 -- a turn that ended so
-turned_so : (a b : StationData) (turned other : Turned) → turned ≡ other
+pub turned_so : (a b : StationData) (turned other : Turned) → turned ≡ other
     → StationTurns turned a.runner a.seats b.runner b.seats
     → StationTurns other a.runner a.seats b.runner b.seats
 turned_so a b turned other e h =

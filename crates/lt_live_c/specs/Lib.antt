@@ -17,3 +17,6 @@ pub mod NodesTold
 pub mod LettersTold
 pub mod EmptyTold
 pub mod KeysTold
+pub mod Telling
+pub mod Doing
+pub mod TellingTold

@@ -2,6 +2,7 @@
 ghost use Rattle.lt_live_c.specs.Told.{CallCodesAre, ReplyNumbersAre, ModeNumbersAre, CommandNumbersAre, TurnsTold, ForgetsTold, SubmitsTold, PollsTold, KindsTold, AsksTold};
 ghost use Rattle.lt_live_c.specs.ServicesTold.{TakesTold, GivesTold, OpensTold, FinishesTold, CopiesTold, ServedTold};
 ghost use Rattle.lt_live_c.specs.KeysTold.{KeysTold, FaultsTold};
+ghost use Rattle.lt_live_c.specs.TellingTold.{TellingTold};
 ghost use Rattle.lt_live_c.specs.EmptyTold.{EmptyTold};
 ghost use Rattle.lt_live_c.specs.SetsTold.{NamesTold, OpensSetsTold};
 ghost use Rattle.lt_live_c.specs.NodesTold.{NodeOpensTold, PendingTold, NodeFinishesTold};
@@ -38,6 +39,7 @@ pub fn law_c_told()
     ensures node_finishes { NodeFinishesTold }
     ensures empty { EmptyTold }
     ensures keys { KeysTold }
+    ensures telling { TellingTold }
     ensures faults { FaultsTold }
 {
     law_print();

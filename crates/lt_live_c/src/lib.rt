@@ -9,6 +9,7 @@ mod calls;
 mod carrying;
 mod code;
 mod content;
+mod doing;
 mod faults;
 mod handle;
 mod journal;
@@ -27,6 +28,7 @@ mod services;
 mod serving;
 mod sessions;
 mod taking;
+mod telling;
 mod texts;
 mod wire_code;
 

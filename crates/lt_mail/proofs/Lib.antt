@@ -7,3 +7,4 @@ pub mod BothLemmas
 pub mod OpeningLemmas
 pub mod AloneLemmas
 pub mod StarLemmas
+pub mod TellingLemmas

@@ -3,3 +3,4 @@ pub mod Passing
 pub mod Opening
 pub mod Star
 pub mod Known
+pub mod Telling

@@ -11,6 +11,7 @@ mod opening;
 mod passing;
 mod room;
 mod star;
+mod telling;
 mod waiting;
 
 pub use both_ends::{beside, beside_at};

@@ -16,7 +16,7 @@ use Rattle.lt_mail.specs.Words.{sent_to, outs_count, ins_count, taken_from}
 use Rattle.lt_mail.proofs.LookLemmas.{ends_join, ends_same}
 use Rattle.lt_mail.specs.Opening.{IsFresh}
 use Rattle.lt_runner.specs.declared.parts.Parts.{Parts}
-use Rattle.lt_runner.specs.Kept.{RunnerInvariant, with_appended, in_hand, IsFromPeer, HandStays, SameRunner, AsSeen}
+use Rattle.lt_runner.specs.Kept.{RunnerInvariant, with_appended, in_hand, IsFromPeer, HandStays, SameRunner, AsSeen, SendsOn}
 use Rattle.lt_runner.specs.declared.parts.Hand.{Hand}
 use Rattle.lt_runner.specs.declared.choice.Choice.TheVariants as choices
 use Rattle.lt_runner.specs.Choices.{act_choice, next_choice}
@@ -136,6 +136,10 @@ kept_moved a b cause h m = record {
 
     one_longer : (log : List Logged) (entry : Logged) → length (log ++ entry ∷ []) ≡ length log + 1
     one_longer log entry = length_push log entry
+
+-- the letters that were sent before stay sent
+pub moves_send : (a b : Parts) (cause : Cause) → Moves a b cause → SendsOn a b
+moves_send a b cause m node = (letters_for node (made_of a.node.script a.node.me (state_of a.node) cause).posts, sym (m.sent node))
 
 pub same_join : (a b c : Parts) → SameRunner a b → SameRunner b c → SameRunner a c
 same_join a b c h k = record {

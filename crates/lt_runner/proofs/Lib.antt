@@ -6,3 +6,4 @@ pub mod TurnLemmas
 pub mod Forgotten
 pub mod ReadyLemmas
 pub mod AtOnceLemmas
+pub mod TellingLemmas

@@ -122,9 +122,17 @@ IsFlushed p = (node : ℕ) → (waiting_to p.mail node ≡ []) ⊎ IsFullTo p.ma
 abbrev pub HasPassedOn : Parts → Parts → Type 0
 HasPassedOn a b = (node : ℕ) → IsPrefix (sent_to a.mail node) (given_to b.mail node) ⊎ IsFullTo b.mail node
 
+-- what was sent before is sent, and maybe more
+abbrev pub SendsOn : Parts → Parts → Type 0
+SendsOn a b = (node : ℕ) → IsPrefix (sent_to a.mail node) (sent_to b.mail node)
+
 -- no letter went to a ring
 abbrev pub KeepsRings : Parts → Parts → Type 0
 KeepsRings a b = (node : ℕ) → end_at b.mail node ≡ end_at a.mail node
+
+-- the rings were given no letters
+abbrev pub KeepsGiven : Parts → Parts → Type 0
+KeepsGiven a b = (node : ℕ) → given_to b.mail node ≡ given_to a.mail node
 
 -- one move was made
 abbrev pub MovedOne : Parts → Parts → Type 0

@@ -13,6 +13,7 @@ mod parts;
 mod readying;
 mod runner;
 mod same;
+mod telling;
 mod turning;
 
 pub use at_once::all_at_once;

@@ -5,7 +5,7 @@ ghost use Rattle.lt_node.specs.NodeData.{state_of, RoomToTake};
 ghost use Rattle.lt_mail.specs.Words.{outs_count};
 ghost use Rattle.lt_runner.specs.declared.choice.Choice.TheVariants as choices;
 ghost use Rattle.lt_runner.specs.Choices.{next_choice};
-ghost use Rattle.lt_runner.specs.Kept.{RunnerInvariant, SameRunner, MovedOne, KeepsRings};
+ghost use Rattle.lt_runner.specs.Kept.{RunnerInvariant, SameRunner, MovedOne, SendsOn, KeepsRings};
 ghost use Rattle.lt_runner.specs.Posting.{Finished, CanPost, Posted};
 ghost use Rattle.lt_runner.specs.Ready.{RunnerCanAct, RunnerCanTake, CanLog, FitsNow};
 ghost use Rattle.lt_merge.specs.Merging.{with_events};
@@ -26,6 +26,7 @@ impl Parts {
         ensures kept { RunnerInvariant self.new }
         ensures same { SameRunner self.old self.new }
         ensures moved { MovedOne self.old self.new }
+        ensures sent { SendsOn self.old self.new }
         ensures rings { KeepsRings self.old self.new }
     {
         self.idle = false;
@@ -46,6 +47,7 @@ impl Parts {
         ensures kept { RunnerInvariant self.new }
         ensures same { SameRunner self.old self.new }
         ensures moved { MovedOne self.old self.new }
+        ensures sent { SendsOn self.old self.new }
         ensures rings { KeepsRings self.old self.new }
     {
         if let Some(hand) = self.hand.take() {
@@ -64,6 +66,7 @@ impl Parts {
         ensures kept { RunnerInvariant self.new }
         ensures same { SameRunner self.old self.new }
         ensures moved { MovedOne self.old self.new }
+        ensures sent { SendsOn self.old self.new }
         ensures rings { KeepsRings self.old self.new }
     {
         self.idle = false;

@@ -25,8 +25,8 @@ impl Parts {
         self.mail.flush_all();
     }
 
-    // Takes a letter from a ring into the hand.
-    fn fill_hand(&mut self)
+    /// Takes a letter from a ring into the hand.
+    pub(crate) fn fill_hand(&mut self)
         requires kept { RunnerInvariant self.old }
         requires hand { self.old.hand ≡ None }
         ensures kept { RunnerInvariant self.new }

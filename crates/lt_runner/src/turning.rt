@@ -4,7 +4,7 @@ ghost use Rattle.lt_runner.specs.declared.choice.Choice.TheVariants as choices;
 ghost use Rattle.lt_runner.specs.declared.turning.Found.TheVariants as finds;
 ghost use Rattle.lt_runner.specs.declared.turning.Turned.TheVariants as endings;
 ghost use Rattle.lt_runner.specs.Choices.{next_choice};
-ghost use Rattle.lt_runner.specs.Kept.{RunnerInvariant, SameRunner, AsSeen, CouldMove, IsFlushed, HasPassedOn, KeepsRings, FindEnds, MovedOne, TurnEnds, Grew, WorkEnds};
+ghost use Rattle.lt_runner.specs.Kept.{RunnerInvariant, SameRunner, AsSeen, CouldMove, IsFlushed, HasPassedOn, SendsOn, KeepsRings, KeepsGiven, FindEnds, MovedOne, TurnEnds, Grew, WorkEnds};
 ghost use Rattle.lt_runner.specs.Ready.{HasMemoryFor};
 ghost use Rattle.lt_mail.specs.Words.{out_at};
 ghost use Rattle.lt_runner.specs.declared.turning.Worked.TheVariants as answers;
@@ -99,6 +99,7 @@ impl Parts {
         ensures kept { RunnerInvariant self.new }
         ensures same { SameRunner self.old self.new }
         ensures moved { MovedOne self.old self.new }
+        ensures sent { SendsOn self.old self.new }
         ensures rings { KeepsRings self.old self.new }
     {
         match choice {
@@ -131,8 +132,8 @@ impl Parts {
         }
     }
 
-    // Makes the move that was found, if there is memory for it, and says whether there was.
-    fn make_found<G: Gate>(&mut self, choice: Choice, gate: &G) -> bool
+    /// Makes the move that was found, if there is memory for it, and says whether there was.
+    pub(crate) fn make_found<G: Gate>(&mut self, choice: Choice, gate: &G) -> bool
         requires kept { RunnerInvariant self.old }
         requires chosen { next_choice self.old ≡ choice }
         requires could { CouldMove self.old }
@@ -140,6 +141,8 @@ impl Parts {
         ensures grew { Grew self.old self.new }
         ensures moved { IsTrue result → MovedOne self.old self.new }
         ensures none { IsFalse result → AsSeen self.old self.new × CouldMove self.new }
+        ensures sent { SendsOn self.old self.new }
+        ensures given { KeepsGiven self.old self.new }
         ensures passed { IsFlushed self.old → HasPassedOn self.old self.new }
         ensures flushed { IsFalse result → IsFlushed self.old → IsFlushed self.new }
         ensures full { HasMemoryFor choice self.old → IsTrue result }

@@ -8,6 +8,7 @@ use Rattle.lt_live_c.proofs.SetsOpened.{names_told, opens_sets_told}
 use Rattle.lt_live_c.proofs.NodesOpened.{node_opens_told, pending_told, node_finishes_told}
 use Rattle.lt_live_c.proofs.LettersOpened.{sends_told}
 use Rattle.lt_live_c.proofs.FramesOpened.{receives_told}
+use Rattle.lt_live_c.proofs.TellingOpened.{telling_told}
 use Rattle.lt_live_c.proofs.KeysOpened.{keys_told, faults_told}
 use Rattle.lt_live_c.proofs.EmptyOpened.{empty_told}
 use Rattle.lt_live_c.proofs.laws.law_c_told.Goals as goal
@@ -39,5 +40,6 @@ returns c = record {
   node_finishes = node_finishes_told;
   empty = empty_told;
   keys = keys_told;
+  telling = telling_told;
   faults = faults_told;
 }

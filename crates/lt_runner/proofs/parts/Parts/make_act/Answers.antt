@@ -2,7 +2,7 @@
 use Rattle.lt_spec.specs.Plays.{OfClient}
 use Rattle.lt_spec.specs.NodeMove.{node_act}
 use Rattle.lt_node.specs.NodeData.{state_of}
-use Rattle.lt_runner.proofs.KeptLemmas.{kept_moved}
+use Rattle.lt_runner.proofs.KeptLemmas.{kept_moved, moves_send}
 use Rattle.lt_runner.proofs.MoveLemmas.{acts_now, acted, posts_for_peers}
 use Rattle.lt_runner.proofs.parts.Parts.make_act.Goals as goal
 
@@ -27,4 +27,10 @@ pub returns-clause-kept : goal.returns-clause-kept
 returns-clause-kept c =
     kept_moved c.args.self.now _ (OfClient c.args.client) c.requires.kept
     (acted c.args.self.now _ c.act.new.self c.act.new.out c.args.client c.requires.kept c.requires.chosen c.act.ensures.does
+    (rw (← c.stamp_of_act-stamp.ensures) c.finish_move.ensures.finished) c.requires.place c.finish_move.ensures.idle)
+
+pub returns-clause-sent : goal.returns-clause-sent
+returns-clause-sent c =
+    moves_send c.args.self.now c.finish_move.new.self (OfClient c.args.client)
+    (acted c.args.self.now c.finish_move.new.self c.act.new.self c.act.new.out c.args.client c.requires.kept c.requires.chosen c.act.ensures.does
     (rw (← c.stamp_of_act-stamp.ensures) c.finish_move.ensures.finished) c.requires.place c.finish_move.ensures.idle)

@@ -1,6 +1,8 @@
 -- The move is made, or there is no memory for it.
 use Rattle.std.proofs.Common.{◌∙◌, sym, refl, true≢false}
 use Rattle.lt_runner.proofs.TurnLemmas.{later_moved, later_grew, seen_grew, grew_self, flushed_later, passed_on, rings_same}
+use Rattle.lt_mail.proofs.TellingLemmas.{outs_given}
+use Rattle.lt_runner.proofs.TellingLemmas.{seen_sends, sends_later, rings_given}
 use Rattle.lt_runner.proofs.ReadyLemmas.{no_error}
 use Rattle.lt_runner.proofs.parts.Parts.make_found.Goals as goal
 
@@ -67,3 +69,16 @@ returns-clause-passed g c = λ flushed.
 
 pub returns-clause-flushed : goal.returns-clause-flushed
 returns-clause-flushed g c = λ none. absurd (true≢false none)
+
+pub returns-then-is_err-clause-sent : goal.returns-then-is_err-clause-sent
+returns-then-is_err-clause-sent g c = seen_sends c.args.self.now c.reserve.new.self c.reserve.ensures.seen
+
+pub returns-then-is_err-clause-given : goal.returns-then-is_err-clause-given
+returns-then-is_err-clause-given g c = outs_given c.args.self.now.mail c.reserve.new.self.mail c.reserve.ensures.outs
+
+pub returns-clause-sent : goal.returns-clause-sent
+returns-clause-sent g c = sends_later c.args.self.now c.reserve.new.self c.make.new.self c.reserve.ensures.seen c.make.ensures.sent
+
+pub returns-clause-given : goal.returns-clause-given
+returns-clause-given g c =
+    rings_given c.args.self.now c.reserve.new.self c.make.new.self c.reserve.ensures.outs c.make.ensures.rings

@@ -39,3 +39,8 @@ pub returns-in_default-clause-moved : goal.returns-in_default-clause-moved
 returns-in_default-clause-moved c =
     let none : c.args.self.now.hand ≡ None = search rules in
     absurd (cc (none, (chose_take c.args.self.now c.requires.chosen).there))
+
+pub returns-in_default-clause-sent : goal.returns-in_default-clause-sent
+returns-in_default-clause-sent c =
+    let none : c.args.self.now.hand ≡ None = search rules in
+    absurd (cc (none, (chose_take c.args.self.now c.requires.chosen).there))

@@ -4,7 +4,7 @@ use Rattle.lt_desk.specs.LetterSeen.{letter_seen}
 use Rattle.lt_spec.specs.Plays.{OfLetter}
 use Rattle.lt_spec.specs.NodeMove.{node_take}
 use Rattle.lt_node.specs.NodeData.{state_of}
-use Rattle.lt_runner.proofs.KeptLemmas.{kept_moved}
+use Rattle.lt_runner.proofs.KeptLemmas.{kept_moved, moves_send}
 use Rattle.lt_runner.proofs.MoveLemmas.{take_reaches, took, posts_for_peers}
 use Rattle.lt_runner.proofs.parts.Parts.take_letter.Goals as goal
 
@@ -18,5 +18,12 @@ pub returns-clause-kept : goal.returns-clause-kept
 returns-clause-kept c =
     kept_moved (record c.args.self.now { hand = Some c.args.hand }) _ (OfLetter c.args.hand.from (letter_seen c.args.hand.letter)) c.requires.kept
     (took (record c.args.self.now { hand = Some c.args.hand }) _ c.take.new.self c.take.new.out c.args.hand c.args.self.now.hand c.requires.kept refl
+    c.requires.empty c.requires.fits c.take.ensures.does
+    (rw (← c.stamp_of_take-stamp.ensures) c.finish_move.ensures.finished) c.requires.place c.finish_move.ensures.idle)
+
+pub returns-clause-sent : goal.returns-clause-sent
+returns-clause-sent c =
+    moves_send (record c.args.self.now { hand = Some c.args.hand }) c.finish_move.new.self (OfLetter c.args.hand.from (letter_seen c.args.hand.letter))
+    (took (record c.args.self.now { hand = Some c.args.hand }) c.finish_move.new.self c.take.new.self c.take.new.out c.args.hand c.args.self.now.hand c.requires.kept refl
     c.requires.empty c.requires.fits c.take.ensures.does
     (rw (← c.stamp_of_take-stamp.ensures) c.finish_move.ensures.finished) c.requires.place c.finish_move.ensures.idle)
