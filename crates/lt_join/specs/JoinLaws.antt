@@ -31,7 +31,8 @@ PartsAreWritten = (script : ScriptData) (r : RemoteData) (journal : NodeJournal)
     → IsNodeOfScript script (me r) r.station.runner → IsJournalOfNode r journal
     → texts_of journal ≡ text_of_node script (me r) (fact_of r)
 
--- the nodes of the script are all, each in a process of its own, and have no more commands together than a text may have
+-- the nodes of the script are all, each in a process of its own, and all together have no more commands than a text may
+-- have
 pub record AreShortApart (first : ScriptData) (nodes : List NodeNow) : Type 0 where
   pub apart : AreAllApart first nodes
   pub short : IsShort (script_apart first nodes)

@@ -6,7 +6,8 @@ use Rattle.lt_live.specs.declared.reply.Reply.TheVariants as replies
 use Rattle.lt_live_c.specs.declared.content.Content.{Content}
 use Rattle.lt_live_c.specs.Doing.{number_of_obeyed, count_of_obeyed, DoTells, AtBoth}
 
--- by which number C is told how it ended, and what stands in the count where 9 stood there; handles that stand for nothing
+-- by which number C is told how it ended, and what stands in the count where 9 stood there; handles that stand for
+-- nothing
 pub record DoingTold : Type 0 where
   pub refused : number_of_obeyed ends.Refused ≡ 7
   pub granted : number_of_obeyed (ends.Told replies.Granted) ≡ 16

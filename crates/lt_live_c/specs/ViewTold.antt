@@ -13,8 +13,8 @@ use Rattle.lt_live_c.specs.Viewing.{node_behind, TellsHeld, locks_seen, number_o
 abbrev pub HasNoNode : Option Content → Type 0
 HasNoNode content = node_behind content ≡ None
 
--- this is so of each call with this code that asks for the first set from 3 on in which client 2 holds a lock, by the node, and
--- by the number before and after it
+-- this is so of each call with this code that asks for the first set from 3 on in which client 2 holds a lock, by the
+-- node, and by the number before and after it
 abbrev pub AfterHeld : ℕ → (NodeData → ℕ → ℕ → Type 0) → Type 0
 AfterHeld code Told = (node : NodeData) (was set : ℕ) → TellsHeld (Some node) 2 3 code was set → Told node was set
 
@@ -34,7 +34,8 @@ pub record LocksTold : Type 0 where
   pub read : (node : NodeData)
       → locks_seen (Some node) 2 7 (Some modes.Read) ≡ count_held node.script (state_of node) 2 7 modes.Read
   pub no_mode : (node : NodeData) → locks_seen (Some node) 2 7 None ≡ 0
-  pub wrong : (content : Option Content) → HasNoNode content → locks_seen (node_behind content) 2 7 (Some modes.Write) ≡ 0
+  pub wrong : (content : Option Content) → HasNoNode content
+      → locks_seen (node_behind content) 2 7 (Some modes.Write) ≡ 0
 
 -- this is so of each call with this code that asks for what client 2 waits for
 abbrev pub AfterAsked : ℕ → (NodeData → ℕ → ℕ → ℕ → ℕ → Type 0) → Type 0
