@@ -1,7 +1,8 @@
 // What a station, or a node in a process of its own, tells of what clients hold and wait for.
 ghost use Rattle.std.specs.Prelude.{◌≡◌, Some};
 ghost use Rattle.lt_live_c.specs.Calls.{mode_numbered};
-ghost use Rattle.lt_live_c.specs.Viewing.{node_seen, number_of_mode, TellsHeld, locks_seen, locks_of_mode, TellsAsked, tells_behind};
+ghost use Rattle.lt_live_c.specs.Viewing.{node_seen, number_of_mode, locks_seen, locks_of_mode, tells_behind};
+ghost use Rattle.lt_live_c.specs.Viewing.{TellsHeld, TellsAsked};
 
 use crate::code::{NOTHING, OK, WRONG_HANDLE, mode_numbered};
 use crate::content::Content;
