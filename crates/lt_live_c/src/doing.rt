@@ -158,7 +158,8 @@ fn do_on(
 
 // The command, if the session may submit it, or the code of why not.
 fn may_do(session: &Session, command: Option<Command>) -> Result<Command, u32>
-    ensures given { IfOk result (λ given. (command ≡ Some given) × (MaySubmit session.now given × (0 < session.now.left))) }
+    ensures given { IfOk result (λ given. (command ≡ Some given)
+        × (MaySubmit session.now given × (0 < session.now.left))) }
     ensures refused { IfErr result (λ code. MayNotDo code command session.now) }
 {
     let Some(command) = command else {
