@@ -81,6 +81,8 @@ class Nodes:
 
     def session(self, client: str) -> Session:
         """The session of the client with this name, which `client` doesn't lend then."""
+        if client not in self.clients:
+            raise KeyError(f'{client!r} is no client of the script')
         session = self.sessions[self.clients[client]]
         self.pool.withhold(session.handle)
         return session

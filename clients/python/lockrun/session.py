@@ -34,7 +34,7 @@ class Session(Waiter):
         if name not in self.nodes.sets:
             number = calls.number_of_set(self.nodes.library, self.handle, name)
             if number is None:
-                raise KeyError(name)
+                raise KeyError(f'{name!r} is no set of the script')
             self.nodes.sets[name] = number
         return self.nodes.sets[name]
 
