@@ -12,6 +12,9 @@
 #include <stdlib.h>
 #include <string.h>
 #include <time.h>
+#ifndef CLOCK_MONOTONIC
+#error "clocks of POSIX are used: compile with -std=gnu11, or with -D_POSIX_C_SOURCE=200809L"
+#endif
 
 /* Beside the codes of lockrun.h: the time is over; the transport is broken. And a time that is never over. */
 enum { LOCKRUN_STILL_WAITS = 32, LOCKRUN_NO_CARRIER, LOCKRUN_ALWAYS = -1 };

@@ -10,9 +10,6 @@
 #ifndef LOCKRUN_NODES_H
 #define LOCKRUN_NODES_H
 #include "lockrun.h"
-#if defined(__STRICT_ANSI__) && !defined(__cplusplus) && !defined(_POSIX_C_SOURCE) && !defined(_DEFAULT_SOURCE)
-#error "lockrun_nodes.h uses clocks and threads of POSIX: compile with -std=gnu11, or with -D_POSIX_C_SOURCE=200809L"
-#endif
 #include "lockrun_races.h"
 #include "lockrun_text.h"
 #include "lockrun_turning.h"

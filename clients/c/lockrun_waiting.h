@@ -5,6 +5,9 @@
 #define LOCKRUN_WAITING_H
 #include <stdint.h>
 #include <time.h>
+#ifndef CLOCK_MONOTONIC
+#error "clocks and threads of POSIX are used: compile with -std=gnu11, or with -D_POSIX_C_SOURCE=200809L"
+#endif
 #if !defined(__linux__) && !defined(LOCKRUN_BY_CONDITION)
 #define LOCKRUN_BY_CONDITION
 #endif
