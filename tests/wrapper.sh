@@ -398,18 +398,6 @@ expect 'a build with no toolchain' "build: the toolchain's program rt isn't on t
 status 127" "$(PATH=$room/no-rt && said "$made/build" lockrun)"
 expect 'a build with no folder to be made' 'build: no folder can be made for what is kept while it runs
 status 125' "$(PATH=$with_build && TMPDIR=$room/none && export TMPDIR && said "$made/build" lockrun)"
-# A toolchain whose gate takes names is asked for the program alone; if it leaves none, the crates below are proved here.
-mkdir "$room/with-gate" && printf '%s\n' '#!/bin/sh
-case $1 in
-  --help) echo "  rt ci [NAME..]  the merge gate" ;;
-  ci) echo "logic=proved functions=2"; mkdir -p crates/$2/out && [ ! -e none ] && echo "$2" >crates/$2/out/$2 && chmod +x crates/$2/out/$2 ;;
-  all) echo "all $2" ;;
-esac' >"$room/with-gate/rt" && chmod +x "$room/with-gate/rt" && rm "$made/crates/lockrun/out/lockrun"
-expect 'the build by the gate' 'logic=proved functions=2
-build: lockrun: 1 of 2 crates proved' "$(PATH=$room/with-gate:$PATH && said "$made/build" lockrun | sed -n 3,4p)"
-expect 'the build, where the gate leaves no program' 'all check' \
-  "$(rm "$made/crates/lockrun/out/lockrun" && : >"$made/none" && PATH=$room/with-gate:$PATH && said "$made/build" lockrun | grep '^all')"
-rm "$made/none" && printf '#!/bin/sh\necho built\n' >"$made/crates/lockrun/out/lockrun" && chmod +x "$made/crates/lockrun/out/lockrun"
 # A checkout that can't be written is tried as another user, if we are the one who may write everywhere.
 as_nobody=
 if [ -w / ]; then as_nobody='setpriv --reuid 65534 --regid 65534 --clear-groups'; fi

@@ -11,11 +11,11 @@ use Rattle.lt_live_c.specs.ViewTold.{HasNoNode, AfterHeld, HeldTold, LocksTold, 
 
 found_code : (o : Option ℕ) (was set : ℕ) → TellsNumber o 0 was set → o ≡ Some set
 found_code (Some found) was set tells = ap Some (sym tells.1)
-found_code None was set tells = let no : 0 ≡ 1 = tells.0 in cc
+found_code None was set tells = let no : ◌≡◌ {A = ℕ} 0 1 = tells.0 in cc
 
 none_code : (o : Option ℕ) (was set : ℕ) → TellsNumber o 1 was set → (o ≡ None) × (set ≡ was)
 none_code None was set tells = (refl, tells.1)
-none_code (Some found) was set tells = let no : 1 ≡ 0 = tells.0 in cc
+none_code (Some found) was set tells = let no : ◌≡◌ {A = ℕ} 1 0 = tells.0 in cc
 
 number_codes : (o : Option ℕ) (code was set : ℕ) → TellsNumber o code was set → (code ≡ 0) ⊎ (code ≡ 1)
 number_codes None code was set tells = inr tells.0
@@ -55,12 +55,12 @@ waits_code node (Some found) is was_set was_mode set mode tells = record {
   wait = is ∙ ap (λ (s : ℕ). Some (s, found.1)) (sym tells.1);
   is_number = tells.2;
 }
-waits_code node None is was_set was_mode set mode tells = let no : 0 ≡ 1 = tells.0 in cc
+waits_code node None is was_set was_mode set mode tells = let no : ◌≡◌ {A = ℕ} 0 1 = tells.0 in cc
 
 rests_code : (o : Option (ℕ × Mode)) (was_set was_mode set mode : ℕ)
     → TellsAskedOf o 1 was_set was_mode set mode → (o ≡ None) × ((set ≡ was_set) × (mode ≡ was_mode))
 rests_code None was_set was_mode set mode tells = (refl, (tells.1, tells.2))
-rests_code (Some found) was_set was_mode set mode tells = let no : 1 ≡ 0 = tells.0 in cc
+rests_code (Some found) was_set was_mode set mode tells = let no : ◌≡◌ {A = ℕ} 1 0 = tells.0 in cc
 
 asked_codes : (o : Option (ℕ × Mode)) (code was_set was_mode set mode : ℕ)
     → TellsAskedOf o code was_set was_mode set mode → (code ≡ 0) ⊎ (code ≡ 1)
@@ -91,13 +91,13 @@ asked_told = record {
   writes = refl;
 }
 
-code_true : (b : Bool) → (if b then 0 else 1) ≡ 0 → IsTrue b
+code_true : (b : Bool) → ◌≡◌ {A = ℕ} (if b then 0 else 1) 0 → IsTrue b
 code_true true e = refl
-code_true false e = let no : 1 ≡ 0 = e in cc
+code_true false e = let no : ◌≡◌ {A = ℕ} 1 0 = e in cc
 
-code_false : (b : Bool) → (if b then 0 else 1) ≡ 1 → IsFalse b
+code_false : (b : Bool) → ◌≡◌ {A = ℕ} (if b then 0 else 1) 1 → IsFalse b
 code_false false e = refl
-code_false true e = let no : 0 ≡ 1 = e in cc
+code_false true e = let no : ◌≡◌ {A = ℕ} 0 1 = e in cc
 
 behind_wrong : (o : Option NodeData) → o ≡ None → tells_behind o 7 2 3 ≡ 2
 behind_wrong None e = refl

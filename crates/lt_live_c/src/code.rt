@@ -115,7 +115,7 @@ pub fn command_numbered(kind: u32, set: u32, first: u32, second: u32) -> Option<
     }
 }
 
-fn mode_numbered(number: u32) -> Option<Mode>
+pub fn mode_numbered(number: u32) -> Option<Mode>
     ensures { result ≡ mode_numbered number }
 {
     match number {
