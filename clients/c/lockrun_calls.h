@@ -32,6 +32,20 @@ static inline uint32_t lockrun_do_once(lockrun_station *station, lockrun_session
     return lockrun_do(station, session, kind, set, first, second, count, sent, told);
 }
 
+/* The same by calls that tell of nobody. */
+static inline uint32_t lockrun_do_untold(lockrun_station *station, lockrun_session *session, uint32_t kind, uint32_t set,
+                                         uint32_t first, uint32_t second, uint64_t *count) {
+    uint32_t code = lockrun_submit(session, kind, set, first, second);
+    if (code != LOCKRUN_OK) return code;
+    for (unsigned turns = 0; turns < 64; turns++) {
+        const uint32_t turned = lockrun_turn(station);
+        code = lockrun_poll(session, count);
+        if (code != LOCKRUN_NOTHING) return code;
+        if (turned != LOCKRUN_OK) return turned;
+    }
+    return LOCKRUN_NOTHING;
+}
+
 /* Opens a service with sets for keys behind those of the text. */
 static inline uint32_t lockrun_open_with_keys(const uint8_t *text, size_t length, uint32_t families, uint32_t members,
                                               uint64_t limit, uint32_t places, lockrun_service *service) {

@@ -17,6 +17,8 @@
  *    fall asleep.
  * 5. Who comes out of sleep, also because its time is over, takes its bit away and looks at all marks: so work that was handed to
  *    it isn't lost.
+ *    On one node nobody is told by who makes turns while nobody sleeps; it looks at the bits after them, and wakes all whose bit
+ *    is set then.
  * 6. A letter may find its ring full (64 letters of one node to another that weren't taken). Then it waits at its node, and
  *    goes in a turn after some were taken, for which nobody marks the node. So all nodes are marked after a long batch of
  *    turns, and by who has slept for a quarter of a second.
@@ -91,6 +93,21 @@ static inline void lockrun_notify_all(lockrun_nodes *nodes, const lockrun_client
             if (client < nodes->callers) lockrun_notify(nodes, client);
         }
     }
+}
+
+static inline int lockrun_is_anyone_asleep(lockrun_nodes *nodes) {
+    for (size_t k = 0; k < nodes->rows; k++)
+        if (atomic_load(&nodes->asleep[k])) return 1;
+    return 0;
+}
+
+/* Tells all who sleep by now, after turns that told of nobody, which were made while nobody slept. Both this and who lies down
+ * change the row, this one to what it is: who came before is woken, and who comes later sees what was put there before this. Who
+ * is awake finds its reply before it sleeps. */
+static inline void lockrun_notify_sleepers(lockrun_nodes *nodes) {
+    for (size_t k = 0; k < nodes->rows; k++)
+        for (uint64_t bits = atomic_fetch_or(&nodes->asleep[k], (uint64_t)0); bits; bits &= bits - 1)
+            lockrun_notify(nodes, 64 * k + lockrun_lowest(bits));
 }
 
 /* Wakes one caller of this row that sleeps, in a call or, if there is none of these, at its descriptor: whether there was one. */

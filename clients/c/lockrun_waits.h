@@ -113,8 +113,8 @@ static inline uint32_t lockrun_wait_until(lockrun_caller *caller, int64_t end) {
     }
 }
 
-/* The command is submitted, and its node free: makes the node's moves, and passes on what comes of it. */
-static inline uint32_t lockrun_do_here(lockrun_caller *caller, uint32_t kind, uint32_t set, uint32_t first, uint32_t second) {
+/* The node is this thread's: submits a command and makes the node's moves, and passes on what comes of it. */
+static inline uint32_t lockrun_do_telling(lockrun_caller *caller, uint32_t kind, uint32_t set, uint32_t first, uint32_t second) {
     lockrun_nodes *nodes = caller->nodes;
     lockrun_node *node = &nodes->node[caller->home];
     lockrun_clients told;
@@ -131,6 +131,29 @@ static inline uint32_t lockrun_do_here(lockrun_caller *caller, uint32_t kind, ui
         if (owed) lockrun_hand_on(nodes);
     }
     return code;
+}
+
+/* The same where there is one node and nobody sleeps: there is nobody to tell, and no other node. */
+static inline uint32_t lockrun_do_alone(lockrun_caller *caller, uint32_t kind, uint32_t set, uint32_t first, uint32_t second) {
+    lockrun_nodes *nodes = caller->nodes;
+    lockrun_node *node = &nodes->node[0];
+    const uint32_t code = lockrun_do_untold(&node->station, &caller->session, kind, set, first, second, &caller->dropped);
+    if (code == LOCKRUN_NOTHING || lockrun_is_fault(code)) lockrun_put(&node->work, 1);
+    lockrun_count_moves(nodes, node, 2);
+    lockrun_let_go(node);
+    lockrun_notify_sleepers(nodes);
+    if (lockrun_get(&node->work)) {
+        uint64_t owed = 1;
+        (void)lockrun_turn_owed(nodes, caller, &owed);
+        if (owed) lockrun_hand_on(nodes);
+    }
+    return code;
+}
+
+static inline uint32_t lockrun_do_here(lockrun_caller *caller, uint32_t kind, uint32_t set, uint32_t first, uint32_t second) {
+    return caller->nodes->count == 1 && !lockrun_is_anyone_asleep(caller->nodes)
+               ? lockrun_do_alone(caller, kind, set, first, second)
+               : lockrun_do_telling(caller, kind, set, first, second);
 }
 
 /* Submits a command: the reply, if it is there; LOCKRUN_WAITS if it is still to come; or why nothing was submitted. */
