@@ -7,6 +7,7 @@ import sys
 import threading
 import time
 
+from dataclasses import astuple
 from lockrun import (BAD_ARGUMENT, BAD_SCRIPT, BAD_SET, FORGOTTEN, LOG_FULL, NOTHING, TOO_MANY, WRONG_HANDLE, LockError,
                      Nodes, StillWaits, Withdrawn)
 from lockrun.work import FORGET_AFTER
@@ -262,8 +263,8 @@ def viewed():
     if not nodes.library.views:
         yield fault_of(nodes.locks), NotImplementedError
         return
-    yield nodes.locks().held, [('ann', 'a', 'write', 1), ('ann', 'b', 'read', 2)]
-    yield nodes.locks().asked, [('ben', 'a', 'read', 0)]
+    yield [astuple(lock) for lock in nodes.locks().held], [('ann', 'a', 'write', 1), ('ann', 'b', 'read', 2)]
+    yield [astuple(lock) for lock in nodes.locks().asked], [('ben', 'a', 'read', 0)]
 
 
 def main():

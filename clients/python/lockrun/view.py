@@ -1,6 +1,7 @@
 """Who holds what, and who waits for what, by now."""
 from __future__ import annotations
 
+from dataclasses import dataclass
 from typing import List, NamedTuple, Sequence, Tuple, Union
 
 from . import calls
@@ -8,7 +9,8 @@ from .codes import MODES
 from .library import Handle, Library
 
 
-class Lock(NamedTuple):
+@dataclass(frozen=True)
+class Lock:
     """Locks of a client: the set's name, or its number if it is one of keys, the mode, and how many there are. Of what
     is waited for `count` is 0."""
     client: str
