@@ -6,8 +6,8 @@ import hashlib
 import sys
 import threading
 import time
-
 from dataclasses import astuple
+
 from lockrun import (BAD_ARGUMENT, BAD_SCRIPT, BAD_SET, FORGOTTEN, LOG_FULL, NOTHING, TOO_MANY, WRONG_HANDLE, LockError,
                      Nodes, StillWaits, Withdrawn)
 from lockrun.work import FORGET_AFTER
