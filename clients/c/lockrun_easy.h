@@ -34,6 +34,7 @@ static inline uint32_t lockrun_call(lockrun_caller *caller, uint32_t kind, uint3
     if (caller->waits || caller->withdraws) return LOCKRUN_WAITS;
     lockrun_before(caller, kind, set);
     LOCKRUN_UNSEEN_BEGIN;
+    lockrun_number_ask(caller);
     uint32_t code = lockrun_start(caller, kind, set, first, second);
     if (code == LOCKRUN_WAITS) code = lockrun_wait_until(caller, lockrun_end_of(patience));
     LOCKRUN_UNSEEN_END;
@@ -73,13 +74,25 @@ static inline uint32_t lockrun_pause(lockrun_caller *caller, int64_t pause, int6
     return lockrun_leave(caller, owed, LOCKRUN_OK);
 }
 
+/* Whether a caller that is withheld in this set is chosen to give up; once it is time it looks for a ring by itself. */
+static inline int lockrun_is_given_up(lockrun_caller *caller, uint32_t set, int64_t *look) {
+    if (!caller->nodes->victims_after) return 0;
+    atomic_store(&caller->sleeper.withheld, (uint64_t)set + 1);
+    if (lockrun_is_over(*look)) {
+        lockrun_look_for_ring(caller->nodes);
+        *look = lockrun_next_look(caller->nodes);
+    }
+    return lockrun_was_victim(caller);
+}
+
 /* Asks again for what was withheld, since what the caller gave up before in the same set may still stand at another node, after
  * pauses that grow. */
 static inline uint32_t lockrun_ask_again(lockrun_caller *caller, uint32_t kind, uint32_t set, uint32_t first, uint32_t second,
                                          int64_t end) {
     uint32_t code = LOCKRUN_WITHHELD;
+    int64_t look = lockrun_next_look(caller->nodes);
     for (int64_t pause = 1; code == LOCKRUN_WITHHELD; pause = pause < LOCKRUN_LONGEST_PAUSE ? 2 * pause : pause) {
-        if (lockrun_is_over(end)) return LOCKRUN_WITHDRAWN;
+        if (lockrun_is_over(end) || lockrun_is_given_up(caller, set, &look)) return LOCKRUN_WITHDRAWN;
         code = lockrun_pause(caller, pause, end);
         if (code == LOCKRUN_OK) code = lockrun_start(caller, kind, set, first, second);
         if (code == LOCKRUN_WAITS) code = lockrun_wait_until(caller, end);
@@ -94,11 +107,13 @@ static inline uint32_t lockrun_call_within(lockrun_caller *caller, uint32_t kind
     if (patience >= 0 && !caller->nodes->gives_up) return LOCKRUN_BAD_ARGUMENT;
     lockrun_before(caller, kind, set);
     LOCKRUN_UNSEEN_BEGIN;
+    lockrun_number_ask(caller);
     uint32_t code = lockrun_start(caller, kind, set, first, second);
     if (code == LOCKRUN_WAITS || code == LOCKRUN_WITHHELD) {
         const int64_t end = lockrun_end_of(patience);
         if (code == LOCKRUN_WAITS) code = lockrun_wait_until(caller, end);
         if (code == LOCKRUN_WITHHELD) code = lockrun_ask_again(caller, kind, set, first, second, end);
+        if (caller->nodes->victims_after) atomic_store(&caller->sleeper.withheld, (uint64_t)0);
     }
     if (code == LOCKRUN_WAITS) code = lockrun_give_up_now(caller);
     LOCKRUN_UNSEEN_END;

@@ -22,6 +22,7 @@ static inline const char *lockrun_error(uint32_t code) {
     if (code < sizeof codes / sizeof *codes) return codes[code];
     if (code >= LOCKRUN_GRANTED && code - LOCKRUN_GRANTED < sizeof replies / sizeof *replies) return replies[code - LOCKRUN_GRANTED];
     if (code == 32) return "the reply is still to come";
+    if (code == 33) return "all sets for names are in use";
     if (code >= LOCKRUN_OTHER_VERSION && code - LOCKRUN_OTHER_VERSION < sizeof frames / sizeof *frames)
         return frames[code - LOCKRUN_OTHER_VERSION];
     return "no code";

@@ -10,6 +10,7 @@
 #ifndef LOCKRUN_NODES_H
 #define LOCKRUN_NODES_H
 #include "lockrun.h"
+#include "lockrun_names.h"
 #include "lockrun_races.h"
 #include "lockrun_text.h"
 #include "lockrun_turning.h"
@@ -31,6 +32,7 @@ static inline void lockrun_nodes_free(lockrun_nodes *nodes) {
     }
     if (nodes->service.at) lockrun_free(&nodes->service);
     lockrun_races_end(nodes);
+    lockrun_names_free(nodes->names);
     free(nodes->node);
     free(nodes->caller);
     memset((void *)nodes, 0, sizeof *nodes);

@@ -30,10 +30,14 @@ typedef struct {
     size_t rows;                       /* how many rows of 64 clients there are */
     int gives_up, keeps;               /* whether the script is of version 3; whether the nodes keep their journal */
     uint32_t first, families, members; /* where the sets of keys begin, and how many there are */
+    struct lockrun_names *names;       /* the exact names that were added, if there may be any */
     void *races;                       /* of a race detector */
+    int64_t victims_after;             /* after so many nanoseconds a waiter looks for a ring; 0 is never */
     char apart[LOCKRUN_APART];
     lockrun_row asleep[LOCKRUN_ROWS];  /* a bit for each caller that sleeps, and that nobody has begun to wake */
     char apart_too[LOCKRUN_APART];
+    lockrun_row asks, looked;          /* how many asks were numbered; when somebody looked for a ring last */
+    char apart_again[LOCKRUN_APART];
 } lockrun_nodes;
 
 /* A set in which a caller has locks, and how many. */
@@ -44,6 +48,8 @@ typedef struct {
     lockrun_signal told; /* not 0: since it looked last a reply came, or a node wants to be turned */
     lockrun_word watched; /* whether its wakes go to the descriptor */
     int descriptor;       /* of lockrun_fd; 0 is none */
+    lockrun_row ask, victim; /* the number of what it asks, where asks are numbered; and of what was chosen to be given up */
+    lockrun_row withheld;    /* one more than the set in which it asks again and again for what is withheld, or 0 */
 } lockrun_sleeper;
 
 typedef struct lockrun_caller {

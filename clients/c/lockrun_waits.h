@@ -3,6 +3,7 @@
 #define LOCKRUN_WAITS_H
 #include "lockrun_held.h"
 #include "lockrun_nodes.h"
+#include "lockrun_victims.h"
 
 enum { LOCKRUN_WAITS = 32 };
 
@@ -38,14 +39,14 @@ static inline int lockrun_is_told(lockrun_caller *caller) {
     return 0;
 }
 
-/* Sleeps until it is woken or the time is over, unless a reply is there or a node has work by now: then `came` says whether it is
- * the reply. The nodes that have work then. */
+/* Sleeps until it is woken or the time is over, unless a reply is there, it is to give up or a node has work by now: `came` says
+ * whether the reply is there. The nodes that have work then. */
 static inline uint64_t lockrun_doze(lockrun_caller *caller, int64_t end, int *came) {
     lockrun_nodes *nodes = caller->nodes;
     lockrun_lie_down(caller);
     *came = lockrun_take_reply(caller);
     uint64_t owed = *came ? 0 : lockrun_unturned(nodes);
-    if (!*came && !owed) {
+    if (!*came && !owed && !lockrun_is_to_give_up(caller)) {
         const int64_t watch = lockrun_now() + (int64_t)LOCKRUN_WATCH * 1000000;
         lockrun_sleep_on(&caller->sleeper.told, 0, lockrun_earlier(end, watch));
         if (lockrun_is_over(watch)) lockrun_mark_all(nodes, nodes->all);
@@ -84,6 +85,7 @@ static inline uint32_t lockrun_watch(lockrun_caller *caller) {
         lockrun_watch_no_more(caller);
         return caller->answer;
     }
+    if (lockrun_is_to_give_up(caller)) lockrun_notify(caller->nodes, caller->number);
     if (lockrun_unturned(caller->nodes)) lockrun_hand_on(caller->nodes);
     return LOCKRUN_WAITS;
 }
@@ -101,15 +103,21 @@ static inline uint32_t lockrun_wait_until(lockrun_caller *caller, int64_t end) {
     lockrun_watch_no_more(caller);
     if (lockrun_take_reply(caller)) return caller->answer;
     uint64_t owed = lockrun_unturned(nodes);
+    int64_t look = lockrun_next_look(nodes);
     int came = 0;
     for (unsigned looks = 0;; looks++) {
+        if (lockrun_is_to_give_up(caller)) owed |= lockrun_be_victim(caller);
         const uint32_t turned = lockrun_turn_owed(nodes, caller, &owed);
         if (came || lockrun_take_reply(caller)) return lockrun_leave(caller, owed, caller->answer);
         if (lockrun_is_fault(turned)) return lockrun_leave(caller, owed, turned);
         if (lockrun_may_leave(caller, end, looks)) return lockrun_leave(caller, owed, lockrun_watch(caller));
         if (owed) continue;
+        if (lockrun_is_over(look)) {
+            lockrun_look_for_ring(nodes);
+            look = lockrun_next_look(nodes);
+        }
         if (lockrun_is_over(end)) owed = lockrun_unturned(nodes);
-        else if (!lockrun_is_told(caller)) owed = lockrun_doze(caller, end, &came);
+        else if (!lockrun_is_told(caller)) owed = lockrun_doze(caller, lockrun_earlier(end, look), &came);
     }
 }
 

@@ -1,10 +1,10 @@
 /* Random calls of lockrun.h in any order that the header allows, with handles that stand for something else or for nothing, and
- * wrong numbers: for AddressSanitizer or valgrind, which have to find nothing. No answer is one that no call gives, a handle that
+ * wrong numbers, and some of the calls over it that wait: for AddressSanitizer or valgrind, which have to find nothing. No answer is one that no call gives, a handle that
  * stands for nothing is refused by each, and one that stands for something else by those that want another.
  *
  * usage: random [CALLS [SEED]] */
 #define _POSIX_C_SOURCE 200809L
-#include "lockrun.h"
+#include "lockrun_keys.h"
 #include <stdio.h>
 #include <stdlib.h>
 #include <string.h>
@@ -212,6 +212,50 @@ static void carry(void) {
     if (!draw(200)) end_remotes();
 }
 
+static lockrun_nodes nodes;
+static unsigned long named, asked, settled;
+
+static void open_nodes(void) {
+    static const char few[] = "nodes 2\nset a\nclient c0 at 0\nclient c1 at 1\nclient c2 at 0\nclient c3 at 1\n";
+    const uint32_t names = number(9);
+    const uint32_t code = lockrun_nodes_open_names(&nodes, few, sizeof few - 1, number(9), number(9), names, draw(9) ? 100000 : draw(99));
+    want(code == LOCKRUN_OK || code == LOCKRUN_TOO_MANY, "open_names", code);
+    if (code != LOCKRUN_OK) want(!nodes.node && !nodes.names, "nodes of a refusal", code);
+    else want(lockrun_victims(&nodes, draw(2) ? 0 : -1) == LOCKRUN_OK, "victims", 0);
+}
+
+/* A call of the nodes that lie in one process, by one thread: no patience, so none waits for another. */
+static void call_nodes(void) {
+    const char *word = "shelf book page", *name = word + draw(15), *parent = word + draw(15);
+    const size_t length = draw(4) ? draw(16 - (uint64_t)(name - word)) : 0, parent_length = draw(3) ? 0 : draw(16 - (uint64_t)(parent - word));
+    uint32_t set = 0, code = 0;
+    size_t size = 0;
+    if (!nodes.node) open_nodes();
+    if (!nodes.node) return;
+    lockrun_caller *caller = &nodes.caller[draw(nodes.callers)];
+    switch (draw(12)) {
+    case 0: case 1: case 2:
+        code = lockrun_name(&nodes, name, length, parent, parent_length, &set);
+        want(code == LOCKRUN_OK || code == LOCKRUN_BAD_ARGUMENT || code == LOCKRUN_NAMES_FULL, "name", code);
+        if (code != LOCKRUN_OK) break;
+        named++;
+        name = memcmp(lockrun_name_of(&nodes, set, &size), name, length) ? 0 : name;
+        want(name && size == length, "another name", set);
+        break;
+    case 3: want(!lockrun_name_of(&nodes, number(99), &size) || size < 16, "a name of a set", size); break;
+    case 4: settled += (unsigned)lockrun_rests(&nodes); break;
+    case 5: settled += (unsigned)lockrun_node_rests(&nodes, number(3)); break;
+    case 6: (void)lockrun_was_victim(caller); break;
+    case 7: code = lockrun_lock(caller, number(20), (enum lockrun_mode)draw(6), 0); break;
+    case 8: code = lockrun_ask(caller, number(20), (enum lockrun_mode)number(7), (int64_t)draw(2)); break;
+    case 9: code = lockrun_wait(caller, (int64_t)draw(2)); break;
+    case 10: code = draw(2) ? lockrun_give_up(caller) : lockrun_abort(caller); break;
+    default: if (!draw(40)) lockrun_nodes_free(&nodes); break;
+    }
+    asked += code >= LOCKRUN_GRANTED && code <= LOCKRUN_WITHHELD;
+    want(code <= LOCKRUN_NAMES_FULL, "a code", code);
+}
+
 int main(int count, char **words) {
     const unsigned long calls = count > 1 ? strtoul(words[1], 0, 10) : 100000;
     seed = count > 2 ? strtoull(words[2], 0, 10) : 1;
@@ -222,14 +266,17 @@ int main(int count, char **words) {
         else if (kind < 125) give_all();
         else if (kind < 126) drop_all();
         else if (kind < 200) carry();
+        else if (kind < 300) call_nodes();
         else work();
     }
     drop_all();
+    lockrun_nodes_free(&nodes);
     lockrun_free(journal);
     for (int k = 0; k < REMOTES; k++) {
         lockrun_free(&guest[k]);
         lockrun_free(&remote[k]);
     }
-    printf("random: %lu calls, %lu wrong handles refused, %lu replies, %lu services\n", made, refused, replies, services);
-    return calls >= 10000 && (!refused || !replies || !services);
+    printf("random: %lu calls, %lu wrong handles refused, %lu replies, %lu services; %lu names, %lu replies to callers, %lu times at rest\n",
+           made, refused, replies, services, named, asked, settled);
+    return calls >= 10000 && (!refused || !replies || !services || !named || !asked || !settled);
 }
