@@ -1,0 +1,2 @@
+pub mod PromiseOpened
+pub mod WaitsOpened
