@@ -3,14 +3,14 @@ use Rattle.std.proofs.Common.{take, subst, refl}
 use Rattle.lt_modes.specs.declared.event.Event.TheVariants.{Try as TryLine}
 use Rattle.lt_spec.specs.World.{world_after}
 use Rattle.lt_spec.specs.Promised.{IsOwnAnswer, IsInTurn}
-use Rattle.lt_law_opened.specs.PromiseOpened.{LocksAgree, LinesTellHeld, TokensAreOne, AsksAreOnce, LinesTellWaits, LinesTellWhether, FirstIsBarred, AsksAreLed, HoldersAreTold, MovesEndServed, MovesServeInTurn, TriesTellOwn}
+use Rattle.lt_law_opened.specs.PromiseOpened.{HeldLocksAgree, HeldIsTold, TokensAreOne, AsksAreOnce, OpenWaitsAreTold, LinesTellWhether, FirstIsBarred, AsksLedAtRest, HoldersAreTold, MovesEndServed, MovesServeInTurn, TriesTellOwn}
 use Rattle.lt_law_opened.specs.WaitsOpened.{EndedIsIdle, EndedHasNone, IdleHasEnded, HolderConflicts, ConflictHoldsUp, RingIsOfScript}
 
-pub locks_agree : LocksAgree
-locks_agree script run p k = (p.moments k).lawful
+pub held_locks_agree : HeldLocksAgree
+held_locks_agree script run p k = (p.moments k).lawful
 
-pub lines_tell_held : LinesTellHeld
-lines_tell_held script run p k client s mode below inside = (p.moments k).held client s mode below inside
+pub held_is_told : HeldIsTold
+held_is_told script run p k client s mode below inside = (p.moments k).held client s mode below inside
 
 pub tokens_are_one : TokensAreOne
 tokens_are_one script run p k s = (p.moments k).one_token s
@@ -18,8 +18,8 @@ tokens_are_one script run p k s = (p.moments k).one_token s
 pub asks_are_once : AsksAreOnce
 asks_are_once script run p k s x ask = (p.moments k).one_place s x ask
 
-pub lines_tell_waits : LinesTellWaits
-lines_tell_waits script run p k client s mode = (p.moments k).waits client s mode
+pub open_waits_are_told : OpenWaitsAreTold
+open_waits_are_told script run p k client s mode = (p.moments k).waits client s mode
 
 pub lines_tell_whether : LinesTellWhether
 lines_tell_whether script run p k = (p.moments k).somebody
@@ -27,8 +27,8 @@ lines_tell_whether script run p k = (p.moments k).somebody
 pub first_is_barred : FirstIsBarred
 first_is_barred script run p k s ask rest within = ((p.moments k).at_rest rest).first s ask within
 
-pub asks_are_led : AsksAreLed
-asks_are_led script run p k s x ask rest = ((p.moments k).at_rest rest).led s x ask
+pub asks_led_at_rest : AsksLedAtRest
+asks_led_at_rest script run p k s x ask rest = ((p.moments k).at_rest rest).led s x ask
 
 pub holders_are_told : HoldersAreTold
 holders_are_told script run p k s x row rest within known here =

@@ -23,12 +23,12 @@ abbrev pub AtMoments : (ScriptData → List Logged → Type 0) → Type 0
 AtMoments fact = (script : ScriptData) (run : List Logged) → Promised script run → (k : ℕ) → fact script (take k run)
 
 -- of locks of different clients no two conflict
-abbrev pub LocksAgree : Type 0
-LocksAgree = AtMoments (λ script run. AllPairs (λ a b. IsTrue (agree a b)) (holdings script (lines_of run)))
+abbrev pub HeldLocksAgree : Type 0
+HeldLocksAgree = AtMoments (λ script run. AllPairs (λ a b. IsTrue (agree a b)) (holdings script (lines_of run)))
 
 -- each client holds by the lines what its node holds for it
-abbrev pub LinesTellHeld : Type 0
-LinesTellHeld = AtMoments (λ script run. (client s : ℕ) (mode : Mode) → client < length script.clients
+abbrev pub HeldIsTold : Type 0
+HeldIsTold = AtMoments (λ script run. (client s : ℕ) (mode : Mode) → client < length script.clients
     → s < length script.sets
     → times_held (holdings script (lines_of run)) (holding client s mode)
     ≡ count_of (state_at (world_after script run) s (home script client)).held client mode)
@@ -44,8 +44,8 @@ AsksAreOnce = AtMoments (λ script run. (s x : ℕ) (ask : Ask) → x < script.n
     → place_count script (world_after script run) s ask ≡ 1)
 
 -- the lines tell who waits for what
-abbrev pub LinesTellWaits : Type 0
-LinesTellWaits = AtMoments (λ script run. (client s : ℕ) (mode : Mode) → client < length script.clients
+abbrev pub OpenWaitsAreTold : Type 0
+OpenWaitsAreTold = AtMoments (λ script run. (client s : ℕ) (mode : Mode) → client < length script.clients
     → s < length script.sets
     → HasOpenWait client s mode (lines_of run) ↔ WaitsFor script (world_after script run) client s mode)
 
@@ -61,8 +61,8 @@ FirstIsBarred = AtMoments (λ script run. (s : ℕ) (ask : Ask) → IsTrue (is_a
     → IsBarredByLines script (lines_of run) s ask)
 
 -- at rest each unanswered ask is led to the queue
-abbrev pub AsksAreLed : Type 0
-AsksAreLed = AtMoments (λ script run. (s x : ℕ) (ask : Ask) → IsTrue (is_at_rest script (world_after script run))
+abbrev pub AsksLedAtRest : Type 0
+AsksLedAtRest = AtMoments (λ script run. (s x : ℕ) (ask : Ask) → IsTrue (is_at_rest script (world_after script run))
     → s < length script.sets → x < script.nodes
     → Contains (state_at (world_after script run) s x).pending ask
     → IsLedToQueue script (world_after script run) s ask)

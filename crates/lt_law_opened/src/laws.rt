@@ -1,16 +1,16 @@
-ghost use Rattle.lt_law_opened.specs.PromiseOpened.{LocksAgree, LinesTellHeld, TokensAreOne, AsksAreOnce, LinesTellWaits, LinesTellWhether, FirstIsBarred, AsksAreLed, HoldersAreTold, MovesEndServed, MovesServeInTurn, TriesTellOwn};
+ghost use Rattle.lt_law_opened.specs.PromiseOpened.{HeldLocksAgree, HeldIsTold, TokensAreOne, AsksAreOnce, OpenWaitsAreTold, LinesTellWhether, FirstIsBarred, AsksLedAtRest, HoldersAreTold, MovesEndServed, MovesServeInTurn, TriesTellOwn};
 ghost use Rattle.lt_law_opened.specs.WaitsOpened.{EndedIsIdle, EndedHasNone, IdleHasEnded, HolderConflicts, ConflictHoldsUp, RingIsOfScript};
 
 /// Each part of the promise of a run in words of the run, its lines and its worlds alone.
 pub fn law_promise_opened()
-    ensures lawful { LocksAgree }
-    ensures held { LinesTellHeld }
+    ensures lawful { HeldLocksAgree }
+    ensures held { HeldIsTold }
     ensures one_token { TokensAreOne }
     ensures one_place { AsksAreOnce }
-    ensures waits { LinesTellWaits }
+    ensures waits { OpenWaitsAreTold }
     ensures somebody { LinesTellWhether }
     ensures first { FirstIsBarred }
-    ensures led { AsksAreLed }
+    ensures led { AsksLedAtRest }
     ensures frozen { HoldersAreTold }
     ensures ends { MovesEndServed }
     ensures in_turn { MovesServeInTurn }

@@ -1,11 +1,11 @@
-use Rattle.lt_law_opened.proofs.Opening.{locks_agree, lines_tell_held, tokens_are_one, asks_are_once, lines_tell_waits, lines_tell_whether, first_is_barred, asks_are_led, holders_are_told, moves_end_served, moves_serve_in_turn, tries_tell_own}
+use Rattle.lt_law_opened.proofs.Opening.{held_locks_agree, held_is_told, tokens_are_one, asks_are_once, open_waits_are_told, lines_tell_whether, first_is_barred, asks_led_at_rest, holders_are_told, moves_end_served, moves_serve_in_turn, tries_tell_own}
 use Rattle.lt_law_opened.proofs.laws.law_promise_opened.Goals as goal
 
 pub returns-clause-lawful : goal.returns-clause-lawful
-returns-clause-lawful c = locks_agree
+returns-clause-lawful c = held_locks_agree
 
 pub returns-clause-held : goal.returns-clause-held
-returns-clause-held c = lines_tell_held
+returns-clause-held c = held_is_told
 
 pub returns-clause-one_token : goal.returns-clause-one_token
 returns-clause-one_token c = tokens_are_one
@@ -14,7 +14,7 @@ pub returns-clause-one_place : goal.returns-clause-one_place
 returns-clause-one_place c = asks_are_once
 
 pub returns-clause-waits : goal.returns-clause-waits
-returns-clause-waits c = lines_tell_waits
+returns-clause-waits c = open_waits_are_told
 
 pub returns-clause-somebody : goal.returns-clause-somebody
 returns-clause-somebody c = lines_tell_whether
@@ -23,7 +23,7 @@ pub returns-clause-first : goal.returns-clause-first
 returns-clause-first c = first_is_barred
 
 pub returns-clause-led : goal.returns-clause-led
-returns-clause-led c = asks_are_led
+returns-clause-led c = asks_led_at_rest
 
 pub returns-clause-frozen : goal.returns-clause-frozen
 returns-clause-frozen c = holders_are_told
