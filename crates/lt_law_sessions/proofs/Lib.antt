@@ -1,3 +1,4 @@
 pub mod LineEffects
 pub mod Excluding
 pub mod GivenLocks
+pub mod Kept

@@ -3,4 +3,4 @@
 
 mod laws;
 
-pub use laws::law_sessions_exclude;
+pub use laws::{law_held_still, law_sessions_exclude};
