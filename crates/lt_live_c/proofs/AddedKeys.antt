@@ -1,8 +1,8 @@
 -- Sets of keys are added to a script one after another.
-use Rattle.std.proofs.Common.{◌≡◌, ◌<◌, ◌+◌, ◌-◌, ◌*◌, ◌∷◌, inl, ℕ, zero, suc, List, Bool, true, false, Option, Some, None, refl, sym, ap, ◌∙◌, arith, length, option_and_then}
+use Rattle.std.proofs.Common.{◌≡◌, ◌<◌, ◌≤◌, ◌+◌, ◌-◌, ◌*◌, ◌∷◌, inl, inr, ℕ, zero, suc, List, Bool, true, false, Option, Some, None, refl, sym, ap, subst, ◌∙◌, arith, length, option_and_then}
 use Rattle.lt_modes.specs.Script.{ScriptData}
 use Rattle.lt_spec.specs.declared.limits.TheConstants.{MAX_SETS_OF_SERVICE}
-use Rattle.lt_live_c.specs.declared.code.TheConstants.{TOO_MANY}
+use Rattle.lt_live_c.specs.declared.code.TheConstants.{TOO_MANY, BAD_SET, NO_MEMORY}
 use Rattle.lt_live_c.specs.Opening.{SetsRefused}
 use Rattle.lt_live_c.specs.NewSets.{SetWords, with_next_set, with_next_sets, AddsSet, AddsSets}
 use Rattle.lt_live_c.specs.KeySets.{key_words, key_sets_from, key_sets}
@@ -64,6 +64,33 @@ pub too_many_keys : (families members : ℕ) (script : ScriptData) → MAX_SETS_
     → SetsRefused TOO_MANY (key_sets families members) script
 too_many_keys families members script many = record {
   too_many = λ e. omega (arith, many, count_all families members);
+  many = λ again. refl;
   bad_set = λ e. absurd (omega (arith, e));
   only = inl refl;
 }
+
+-- where they are no more, and there is no memory for them, or one of them can't be added
+pub no_memory_for_keys : (families members : ℕ) (script : ScriptData)
+    → length script.sets + members * families ≤ MAX_SETS_OF_SERVICE
+    → SetsRefused NO_MEMORY (key_sets families members) script
+no_memory_for_keys families members script few = record {
+  too_many = λ e. absurd (omega (arith, e));
+  many = λ more. absurd (omega (arith, few, more, count_all families members));
+  bad_set = λ e. absurd (omega (arith, e));
+  only = inr (inr refl);
+}
+
+pub bad_key : (families members n : ℕ) (script same new : ScriptData) (added : Bool) → added ≡ false → same ≡ script
+    → n ≡ members * families → length script.sets + members * families ≤ MAX_SETS_OF_SERVICE
+    → AddsSets added (key_sets_from members 0 n) same new → SetsRefused BAD_SET (key_sets families members) script
+bad_key families members n script same new added none kept is few adds = record {
+  too_many = λ e. absurd (omega (arith, e));
+  many = λ more. absurd (omega (arith, few, more, count_all families members));
+  bad_set = λ e. ap (λ (k : ℕ). with_next_sets script (key_sets_from members 0 k)) (sym is) ∙ not;
+  only = inr (inl refl);
+}
+  where
+    of_script : AddsSets added (key_sets_from members 0 n) script new
+    of_script = subst (λ (s : ScriptData). AddsSets added (key_sets_from members 0 n) s new) kept adds
+    not : with_next_sets script (key_sets_from members 0 n) ≡ None
+    not = subst (λ (b : Bool). AddsSets b (key_sets_from members 0 n) script new) none of_script

@@ -50,17 +50,32 @@ module _ (s : Service) (script : ScriptData) (run : List Logged) where
 pub forgotten_so : (s : Service) → SomeForgot s → (FORGOTTEN ≢ WRONG_HANDLE) × FinishRefused FORGOTTEN (contents.Service s)
 forgotten_so s forgot = (
   λ e. omega (arith, e),
-  record { forgotten = λ e. forgot; many = λ e. absurd (omega (arith, e)); only = inr (inr (inl refl)) },
+  record {
+    forgotten = λ e. forgot;
+    forgot = λ again. refl;
+    many = λ e. absurd (omega (arith, e));
+    only = inr (inr (inl refl));
+  },
 )
 
-pub many_so : (s : Service) → HaveTooMany s → (TOO_MANY ≢ WRONG_HANDLE) × FinishRefused TOO_MANY (contents.Service s)
-many_so s many = (
+pub many_so : (s : Service) → HaveTooMany s → (SomeForgot s → ⊥) → (TOO_MANY ≢ WRONG_HANDLE) × FinishRefused TOO_MANY (contents.Service s)
+many_so s many all = (
   λ e. omega (arith, e),
-  record { forgotten = λ e. absurd (omega (arith, e)); many = λ e. many; only = inr (inr (inr refl)) },
+  record {
+    forgotten = λ e. absurd (omega (arith, e));
+    forgot = λ forgot. absurd (all forgot);
+    many = λ e. many;
+    only = inr (inr (inr refl));
+  },
 )
 
-pub no_memory_so : (s : Service) → (NO_MEMORY ≢ WRONG_HANDLE) × FinishRefused NO_MEMORY (contents.Service s)
-no_memory_so s = (
+pub no_memory_so : (s : Service) → (SomeForgot s → ⊥) → (NO_MEMORY ≢ WRONG_HANDLE) × FinishRefused NO_MEMORY (contents.Service s)
+no_memory_so s all = (
   λ e. omega (arith, e),
-  record { forgotten = λ e. absurd (omega (arith, e)); many = λ e. absurd (omega (arith, e)); only = inr (inl refl) },
+  record {
+    forgotten = λ e. absurd (omega (arith, e));
+    forgot = λ forgot. absurd (all forgot);
+    many = λ e. absurd (omega (arith, e));
+    only = inr (inl refl);
+  },
 )

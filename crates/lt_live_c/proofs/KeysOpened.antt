@@ -115,6 +115,7 @@ faults_told = record {
   script = λ bytes script line_was line fault_was fault read h.
       let is = h.bad_script refl in script_or_fault script is.found (read_of bytes) read is.read;
   short = λ bytes line_was line fault_was fault few h. omega (arith, h.too_many refl, few);
+  long = λ bytes code line_was line fault_was fault many h. h.long many;
   stays = λ bytes code line_was line fault_was fault other h. h.untold other;
   fault_codes = λ bytes code line_was line fault_was fault h. h.only;
 }

@@ -90,6 +90,7 @@ node_opens_told = record {
   never_opened = never_opened;
   no_such_node = no_such_node;
   in_range = in_range;
+  out_of_range = λ code text node limit places not h. h.unfit not;
   no_fault = λ text node limit places script read h.
       let fault = h.bad_script refl in
       script_or_fault script fault.0 (read_of text) read fault.1;

@@ -14,6 +14,7 @@ bad_argument s command not = record {
   ok = λ e. absurd (omega (arith, e));
   none = λ other. (refl, refl);
   bad_argument = λ e. not;
+  barred = λ again. refl;
   spent = λ e. absurd (omega (arith, e));
   full = λ e. absurd (omega (arith, e));
   place = λ free e. omega (arith, e);
@@ -27,17 +28,19 @@ pub may_not : (s : Session) (o : Option Command) (command : Command) (passes : B
 may_not s o command passes is fails all =
     bad_argument s o (subst (λ (x : Option Command). MayNot x s) (sym is) (λ may. false≢true (sym fails ∙ all may.0 may.1)))
 
-pub spent : (s : Session) (command : Option Command) → s.left ≡ 0 → Submits SPENT command s s
-spent s command none_left = record {
+pub spent : (s : Session) (o : Option Command) (command : Command) → o ≡ Some command → MaySubmit s command
+    → s.left ≡ 0 → Submits SPENT o s s
+spent s o command is may none_left = subst (λ (x : Option Command). Submits SPENT x s s) (sym is) (record {
   replies = (refl, refl);
   ok = λ e. absurd (omega (arith, e));
   none = λ other. (refl, refl);
   bad_argument = λ e. absurd (omega (arith, e));
+  barred = λ not. absurd (not may);
   spent = λ e. none_left;
   full = λ e. absurd (omega (arith, e));
   place = λ free e. omega (arith, e);
   only = inr (inr (inl refl));
-}
+})
 
 -- the session before the call and after it, which has the same replies
 module _ (s t : Session) (o : Option Command) (command : Command) (is : o ≡ Some command) (replies : (polled t ≡ polled s) × (known_replies t ≡ known_replies s)) where
@@ -48,21 +51,23 @@ module _ (s t : Session) (o : Option Command) (command : Command) (is : o ≡ So
     ok = λ e. record { may = may; next = next.0; left = next.1 };
     none = λ other. absurd (other refl);
     bad_argument = λ e. absurd (omega (arith, e));
+    barred = λ not. absurd (not may);
     spent = λ e. absurd (omega (arith, e));
     full = λ e. absurd (omega (arith, e));
     place = λ free e. omega (arith, e);
     only = inl refl;
   })
 
-  pub full : (submitted t ≡ submitted s) × (t.left ≡ s.left) → (places s ≤ length (submitted s)) × (free_places t ≡ 0)
+  pub full : MaySubmit s command → (submitted t ≡ submitted s) × (t.left ≡ s.left) → (places s ≤ length (submitted s)) × (free_places t ≡ 0)
       → (0 < free_places s → false ≡ true) → Submits FULL o s t
-  full none used no_place = record {
+  full may none used no_place = subst (λ (x : Option Command). Submits FULL x s t) (sym is) (record {
     replies = replies;
     ok = λ e. absurd (omega (arith, e));
     none = λ other. none;
     bad_argument = λ e. absurd (omega (arith, e));
+    barred = λ not. absurd (not may);
     spent = λ e. absurd (omega (arith, e));
     full = λ e. used;
     place = λ free e. false≢true (no_place free);
     only = inr (inr (inr refl));
-  }
+  })

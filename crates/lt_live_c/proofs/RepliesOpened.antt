@@ -6,7 +6,7 @@ use Rattle.lt_live.specs.declared.reply.Reply.TheVariants as replies
 use Rattle.lt_live.specs.Words.{polled}
 use Rattle.lt_live_c.specs.Calls.{number_of_reply, Polls, PollEnds, HasNoReply, TellsReply}
 
-bounds : (reply : Reply) → (16 ≤ number_of_reply reply) × (number_of_reply reply ≤ 25)
+pub bounds : (reply : Reply) → (16 ≤ number_of_reply reply) × (number_of_reply reply ≤ 25)
 bounds replies.Granted = (omega arith, omega arith)
 bounds replies.True = (omega arith, omega arith)
 bounds replies.False = (omega arith, omega arith)

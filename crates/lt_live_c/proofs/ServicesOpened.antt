@@ -103,6 +103,7 @@ opens_told = record {
   never_opened = never_opened;
   in_range = λ bytes limit places few some_moves few_moves some_places few_places h.
       false≢true (sym (h.bad_argument refl) ∙ fits bytes limit places few some_moves few_moves some_places few_places);
+  out_of_range = λ code bytes limit places not h. h.unfit not;
   no_fault = no_fault;
   open_codes = λ code bytes limit places h. h.only;
   whole = λ first s live. (first, live);
@@ -243,6 +244,7 @@ finishes_told prints = record {
   held = held_so;
   waiting = waiting_so;
   forgotten = λ s all h. h.forgotten refl all;
+  forgot = λ code s not h. h.forgot not;
   forgotten_of_others = forgotten_so;
   too_many = many_so;
   too_many_of_others = too_many_so;

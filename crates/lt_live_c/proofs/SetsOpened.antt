@@ -112,6 +112,7 @@ opens_sets_told = record {
   later_parent = never (set_with (codes "t") (codes "u") ∷ set_alone (codes "u") ∷ []) refl;
   sets_in_range = λ bytes sets limit places few some_moves few_moves some_places few_places h.
       false≢true (sym (h.bad_argument refl) ∙ fits bytes limit places few some_moves few_moves some_places few_places);
+  sets_out_of_range = λ code bytes sets limit places not h. h.unfit not;
   sets_no_fault = no_fault;
   few_sets = few_sets;
   good_sets = good_sets;

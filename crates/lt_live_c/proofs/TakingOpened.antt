@@ -7,7 +7,7 @@ use Rattle.lt_live.specs.Stations.{StationData}
 use Rattle.lt_live_c.specs.declared.content.Content.{Content}
 use Rattle.lt_live_c.specs.declared.content.Content.TheVariants as contents
 use Rattle.lt_live_c.specs.declared.service.Service.{Service}
-use Rattle.lt_live_c.specs.Taking.{HandleTakesStation, HandleTakesSession, TakesFirstStation, TakesFirstSession, HandleHasNoStation, HandleHasNoSession, HandleGives, GivesTo, HandleKeeps, SameService}
+use Rattle.lt_live_c.specs.Taking.{HandleTakesStation, HandleTakesSession, TakesFirstStation, TakesFirstSession, HandleHasNoStation, HandleHasNoSession, HandleGives, GivesTo, HandleKeeps, SameService, HandleGiveRefused}
 use Rattle.lt_live_c.specs.Told.{kind_of}
 use Rattle.lt_live_c.specs.ServicesTold.{OfService, HasThem, AfterTakingStation, AfterTakingSession, TakesTold, AfterGiving, GivesTold}
 
@@ -155,6 +155,20 @@ no_sessions_so (contents.Session s) other neither h = h.nothing refl
 no_sessions_so (contents.Journal journal) other neither h = h.nothing refl
 no_sessions_so (contents.Node node) other neither h = neither refl
 
+no_memory_so : (content : Content) → kind_of content ≢ 0 → HandleHasNoStation 3 (Some content) → ⊥
+no_memory_so (contents.Service s) other h = other refl
+no_memory_so (contents.Station x) other h = h.memory refl
+no_memory_so (contents.Session s) other h = h.memory refl
+no_memory_so (contents.Journal journal) other h = h.memory refl
+no_memory_so (contents.Node node) other h = h.memory refl
+
+no_memory_for : (content : Content) → kind_of content ≢ 0 → kind_of content ≢ 4 → HandleHasNoSession 3 (Some content) → ⊥
+no_memory_for (contents.Service s) other neither h = other refl
+no_memory_for (contents.Station x) other neither h = h.memory refl
+no_memory_for (contents.Session s) other neither h = h.memory refl
+no_memory_for (contents.Journal journal) other neither h = h.memory refl
+no_memory_for (contents.Node node) other neither h = neither refl
+
 pub takes_told : TakesTold
 takes_told = record {
   station = λ x y sessions old new taken has h. (first_station x y sessions old new taken has h).0;
@@ -173,6 +187,10 @@ takes_told = record {
   no_sessions_of_others = no_sessions_so;
   wrong_for_station = λ s h. false≢true (sym (h.wrong refl));
   wrong_for_session = λ s h. false≢true (sym (h.wrong refl));
+  memory_for_station = λ s none h. h.memory refl none;
+  memory_for_session = λ s none h. h.memory refl none;
+  no_memory_of_others = no_memory_so;
+  no_memory_for_session = no_memory_for;
   station_codes = λ code content h. h.only;
   session_codes = λ code content h. h.only;
 }
@@ -254,6 +272,21 @@ others_kept (contents.Node node) None other h = absurd h
 others_kept (contents.Journal journal) (Some b) other h = ap (λ (c : Content). Some c) h
 others_kept (contents.Node node) (Some b) other h = ap (λ (c : Content). Some c) h
 
+to_others : (given content : Content) → kind_of content ≢ 0 → HandleGiveRefused 3 (Some given) (Some content) → ⊥
+to_others given (contents.Service s) other h = other refl
+to_others given (contents.Station x) other h = false≢true ((h.memory refl).1)
+to_others given (contents.Session s) other h = false≢true ((h.memory refl).1)
+to_others given (contents.Journal journal) other h = false≢true ((h.memory refl).1)
+to_others given (contents.Node node) other h = false≢true ((h.memory refl).1)
+
+of_others : (given content : Content) → kind_of given ≢ 1 → kind_of given ≢ 2
+    → HandleGiveRefused 3 (Some given) (Some content) → ⊥
+of_others (contents.Service s) content other neither h = false≢true ((h.memory refl).0)
+of_others (contents.Station x) content other neither h = other refl
+of_others (contents.Session s) content other neither h = neither refl
+of_others (contents.Journal journal) content other neither h = false≢true ((h.memory refl).0)
+of_others (contents.Node node) content other neither h = false≢true ((h.memory refl).0)
+
 pub gives_told : GivesTold
 gives_told = record {
   station = station_given;
@@ -275,5 +308,7 @@ gives_told = record {
     | inl other ↦ false≢true (sym other)
     | inr other ↦ false≢true (sym other)
   ];
+  memory_to_others = to_others;
+  memory_of_others = of_others;
   give_codes = λ code given to h. h.only;
 }

@@ -116,6 +116,7 @@ pub record Submits (code : ℕ) (command : Option Command) (s t : Session) : Typ
   pub ok : code ≡ OK → IsSomeAnd command (λ c. IsSubmitted c s t)
   pub none : code ≢ OK → (submitted t ≡ submitted s) × (t.left ≡ s.left)
   pub bad_argument : code ≡ BAD_ARGUMENT → MayNot command s
+  pub barred : MayNot command s → code ≡ BAD_ARGUMENT
   pub spent : code ≡ SPENT → s.left ≡ 0
   pub full : code ≡ FULL → (places s ≤ length (submitted s)) × (free_places t ≡ 0)
   pub place : 0 < free_places s → code ≢ FULL

@@ -30,6 +30,7 @@ count_of_obeyed other was = was
 -- why a command was not submitted
 pub record MayNotDo (code : ℕ) (command : Option Command) (s : Session) : Type 0 where
   pub bad_argument : code ≡ BAD_ARGUMENT → MayNot command s
+  pub barred : MayNot command s → code ≡ BAD_ARGUMENT
   pub spent : code ≡ SPENT → s.left ≡ 0
   pub only : (code ≡ BAD_ARGUMENT) ⊎ (code ≡ SPENT)
 

@@ -72,6 +72,7 @@ ServiceHasTooMany other = ⊥
 -- why there is no journal
 pub record FinishRefused (code : ℕ) (a : Content) : Type 0 where
   pub forgotten : code ≡ FORGOTTEN → ServiceForgot a
+  pub forgot : ServiceForgot a → code ≡ FORGOTTEN
   pub many : code ≡ TOO_MANY → ServiceHasTooMany a
   pub only : (code ≡ WRONG_HANDLE) ⊎ ((code ≡ NO_MEMORY) ⊎ ((code ≡ FORGOTTEN) ⊎ (code ≡ TOO_MANY)))
 

@@ -58,6 +58,8 @@ pub record FaultsTold : Type 0 where
       → TellsFault text 5 line_was line fault_was fault → ⊥
   pub short : (text : List ℕ) (line_was line fault_was fault : ℕ) → length text ≤ 1048576
       → TellsFault text 10 line_was line fault_was fault → ⊥
+  pub long : (text : List ℕ) (code line_was line fault_was fault : ℕ) → 1048576 < length text
+      → TellsFault text code line_was line fault_was fault → code ≡ 10
   pub stays : (text : List ℕ) (code line_was line fault_was fault : ℕ) → code ≢ 5
       → TellsFault text code line_was line fault_was fault → (line ≡ line_was) × (fault ≡ fault_was)
   pub fault_codes : (text : List ℕ) (code line_was line fault_was fault : ℕ)

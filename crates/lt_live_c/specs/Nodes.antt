@@ -69,6 +69,7 @@ IsOutOfRange text node limit places =
 -- why no node was opened
 pub record NodeOpenRefused (code : ℕ) (text : List ℕ) (node limit places : ℕ) : Type 0 where
   pub bad_argument : code ≡ BAD_ARGUMENT → IsOutOfRange text node limit places
+  pub unfit : fits_for_c text limit places ≡ false → code ≡ BAD_ARGUMENT
   pub bad_script : code ≡ BAD_SCRIPT → (fault : ScriptFault) × (read_of text ≡ Err fault)
   pub only : (code ≡ BAD_ARGUMENT) ⊎ ((code ≡ BAD_SCRIPT) ⊎ (code ≡ NO_MEMORY))
 

@@ -1,5 +1,5 @@
 -- What C is told of nodes in processes of their own, but for their letters, in literals.
-use Rattle.std.specs.Prelude.{◌≡◌, ◌≢◌, ◌<◌, ◌≤◌, ◌⊎◌, [], ℕ, List, Option, Some, Ok, length}
+use Rattle.std.specs.Prelude.{◌≡◌, ◌≢◌, ◌<◌, ◌≤◌, ◌⊎◌, [], ℕ, List, false, Option, Some, Ok, length}
 use Rattle.lt_modes.specs.Script.{ScriptData}
 use Rattle.lt_frames.specs.Sealing.{service_number}
 use Rattle.lt_journal.specs.RunLines.{text_of}
@@ -12,6 +12,7 @@ use Rattle.lt_live_c.specs.declared.content.Content.TheVariants as contents
 use Rattle.lt_live_c.specs.OwnNode.{OwnNode}
 use Rattle.lt_live_c.specs.Nodes.{NodeOpenRefused, TellsPending, sent_by, unsent}
 use Rattle.lt_live_c.specs.NodeCalls.{HandleOpenedNode, AtNode, HandleFinishesNode, HandleNotFinishedNode}
+use Rattle.lt_live_c.specs.Opening.{fits_for_c}
 use Rattle.lt_live_c.specs.Told.{kind_of, IsOfKind}
 use Rattle.lt_live_c.specs.ServicesTold.{client_text, client_script, OfJournal}
 
@@ -42,6 +43,8 @@ pub record NodeOpensTold : Type 0 where
   pub in_range : (text : List ℕ) (node limit places : ℕ) (script : ScriptData)
       → length text ≤ 1048576 → 0 < limit → limit ≤ 36028797018963968 → 0 < places → places ≤ 4096
       → read_of text ≡ Ok script → node < script.nodes → NodeOpenRefused 4 text node limit places → ⊥
+  pub out_of_range : (code : ℕ) (text : List ℕ) (node limit places : ℕ)
+      → fits_for_c text limit places ≡ false → NodeOpenRefused code text node limit places → code ≡ 4
   pub no_fault : (text : List ℕ) (node limit places : ℕ) (script : ScriptData)
       → read_of text ≡ Ok script → NodeOpenRefused 5 text node limit places → ⊥
   pub open_codes : (code : ℕ) (text : List ℕ) (node limit places : ℕ) → NodeOpenRefused code text node limit places

@@ -52,18 +52,21 @@ pub record TextRefused (code : ℕ) (text : List ℕ) : Type 0 where
 -- why it has no further sets
 pub record SetsRefused (code : ℕ) (sets : List SetWords) (script : ScriptData) : Type 0 where
   pub too_many : code ≡ TOO_MANY → MAX_SETS_OF_SERVICE < length script.sets + length sets
+  pub many : MAX_SETS_OF_SERVICE < length script.sets + length sets → code ≡ TOO_MANY
   pub bad_set : code ≡ BAD_SET → with_next_sets script sets ≡ None
   pub only : (code ≡ TOO_MANY) ⊎ ((code ≡ BAD_SET) ⊎ (code ≡ NO_MEMORY))
 
 -- why nothing was opened
 pub record OpenRefused (code : ℕ) (text : List ℕ) (limit places : ℕ) : Type 0 where
   pub bad_argument : code ≡ BAD_ARGUMENT → fits_for_c text limit places ≡ false
+  pub unfit : fits_for_c text limit places ≡ false → code ≡ BAD_ARGUMENT
   pub bad_script : code ≡ BAD_SCRIPT → (fault : ScriptFault) × (read_of text ≡ Err fault)
   pub only : (code ≡ BAD_ARGUMENT) ⊎ ((code ≡ BAD_SCRIPT) ⊎ (code ≡ NO_MEMORY))
 
 -- the same with further sets: with those of the text they are more than a service may have, or one can't be added
 pub record OpenSetsRefused (code : ℕ) (text : List ℕ) (sets : List SetWords) (limit places : ℕ) : Type 0 where
   pub bad_argument : code ≡ BAD_ARGUMENT → fits_for_c text limit places ≡ false
+  pub unfit : fits_for_c text limit places ≡ false → code ≡ BAD_ARGUMENT
   pub bad_script : code ≡ BAD_SCRIPT → (fault : ScriptFault) × (read_of text ≡ Err fault)
   pub too_many : code ≡ TOO_MANY
       → (script : ScriptData) × (read_of text ≡ Ok script) × (MAX_SETS_OF_SERVICE < length script.sets + length sets)
@@ -84,5 +87,6 @@ pub record TellsFault (text : List ℕ) (code line_was line fault_was fault : �
   pub ok : code ≡ OK → (script : ScriptData) × (read_of text ≡ Ok script)
   pub bad_script : code ≡ BAD_SCRIPT → IsToldFault text line fault
   pub too_many : code ≡ TOO_MANY → MAX_BYTES < length text
+  pub long : MAX_BYTES < length text → code ≡ TOO_MANY
   pub untold : code ≢ BAD_SCRIPT → (line ≡ line_was) × (fault ≡ fault_was)
   pub only : (code ≡ OK) ⊎ ((code ≡ BAD_SCRIPT) ⊎ ((code ≡ TOO_MANY) ⊎ (code ≡ NO_MEMORY)))

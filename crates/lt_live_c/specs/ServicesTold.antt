@@ -1,6 +1,6 @@
 -- What C is told of services and journals, in literals: what was taken, given, opened, finished and served, or why
 -- nothing was.
-use Rattle.std.specs.Prelude.{◌≡◌, ◌≢◌, ◌<◌, ◌≤◌, ◌⊎◌, ◌+◌, ◌∷◌, [], ℕ, List, Ok, Option, Some, None, codes, filter, length, map, slice_get}
+use Rattle.std.specs.Prelude.{◌≡◌, ◌≢◌, ◌<◌, ◌≤◌, ◌⊎◌, ◌+◌, ◌∷◌, [], ℕ, List, false, Ok, Option, Some, None, codes, filter, length, map, slice_get}
 use Rattle.lt_modes.specs.declared.command.Command.TheVariants.{Lock}
 use Rattle.lt_modes.specs.declared.event.Event.TheVariants.{Grant, Wait}
 use Rattle.lt_modes.specs.declared.mode.Mode.TheVariants.{Write}
@@ -24,7 +24,7 @@ use Rattle.lt_live_c.specs.declared.content.Content.TheVariants as contents
 use Rattle.lt_live_c.specs.declared.journal.Journal.{Journal}
 use Rattle.lt_live_c.specs.declared.service.Service.{Service}
 use Rattle.lt_live_c.specs.Taking.{IsWholeHandle, IsNoService, HandleTakesStation, HandleTakesSession, HandleHasNoStation, HandleHasNoSession, HandleGives, HandleKeeps, HandleGiveRefused}
-use Rattle.lt_live_c.specs.Opening.{HandleOpened, OpenRefused}
+use Rattle.lt_live_c.specs.Opening.{HandleOpened, OpenRefused, fits_for_c}
 use Rattle.lt_live_c.specs.Journals.{HandleFinishes, HandleNotFinished, TellsOf, HandleTellsEnd, CopiesFrom, text_of_content, script_at}
 use Rattle.lt_live_c.specs.Serving.{HandleTellsServed, HandleNotTold, IsWholeHandleIfAll}
 use Rattle.lt_live_c.specs.Told.{kind_of}
@@ -71,6 +71,12 @@ pub record TakesTold : Type 0 where
       → HandleHasNoSession 1 (Some content) → ⊥
   pub wrong_for_station : (s : Service) → HandleHasNoStation 2 (Some (contents.Service s)) → ⊥
   pub wrong_for_session : (s : Service) → HandleHasNoSession 2 (Some (contents.Service s)) → ⊥
+  -- memory is wanted only where there is one
+  pub memory_for_station : (s : Service) → s.stations.items ≡ [] → HandleHasNoStation 3 (Some (contents.Service s)) → ⊥
+  pub memory_for_session : (s : Service) → s.sessions.items ≡ [] → HandleHasNoSession 3 (Some (contents.Service s)) → ⊥
+  pub no_memory_of_others : (content : Content) → kind_of content ≢ 0 → HandleHasNoStation 3 (Some content) → ⊥
+  pub no_memory_for_session : (content : Content) → kind_of content ≢ 0 → kind_of content ≢ 4
+      → HandleHasNoSession 3 (Some content) → ⊥
   pub station_codes : (code : ℕ) (content : Content) → HandleHasNoStation code (Some content)
       → (code ≡ 1) ⊎ ((code ≡ 2) ⊎ (code ≡ 3))
   pub session_codes : (code : ℕ) (content : Content) → HandleHasNoSession code (Some content)
@@ -101,6 +107,10 @@ pub record GivesTold : Type 0 where
       → HandleGiveRefused 2 (Some (contents.Station x)) (Some (contents.Service s)) → ⊥
   pub wrong_session : (t : Session) (s : Service)
       → HandleGiveRefused 2 (Some (contents.Session t)) (Some (contents.Service s)) → ⊥
+  pub memory_to_others : (given content : Content) → kind_of content ≢ 0
+      → HandleGiveRefused 3 (Some given) (Some content) → ⊥
+  pub memory_of_others : (given content : Content) → kind_of given ≢ 1 → kind_of given ≢ 2
+      → HandleGiveRefused 3 (Some given) (Some content) → ⊥
   pub give_codes : (code : ℕ) (given to : Content) → HandleGiveRefused code (Some given) (Some to)
       → (code ≡ 2) ⊎ (code ≡ 3)
 
@@ -125,6 +135,8 @@ pub record OpensTold : Type 0 where
   pub in_range : (text : List ℕ) (limit places : ℕ)
       → length text ≤ 1048576 → 0 < limit → limit ≤ 36028797018963968 → 0 < places → places ≤ 4096
       → OpenRefused 4 text limit places → ⊥
+  pub out_of_range : (code : ℕ) (text : List ℕ) (limit places : ℕ)
+      → fits_for_c text limit places ≡ false → OpenRefused code text limit places → code ≡ 4
   pub no_fault : (text : List ℕ) (limit places : ℕ) (script : ScriptData)
       → read_of text ≡ Ok script → OpenRefused 5 text limit places → ⊥
   pub open_codes : (code : ℕ) (text : List ℕ) (limit places : ℕ)
@@ -206,6 +218,8 @@ pub record FinishesTold : Type 0 where
   pub waiting : (journal : Journal) → TellsOf three_writers one_holds journal → journal.waiting ≡ 2
   pub forgotten : (s : Service) → HaveAll (map runner_of s.stations.items)
       → HandleNotFinished 9 (Some (contents.Service s)) → ⊥
+  pub forgot : (code : ℕ) (s : Service) → (HaveAll (map runner_of s.stations.items) → ⊥)
+      → HandleNotFinished code (Some (contents.Service s)) → code ≡ 9
   pub forgotten_of_others : (content : Content) → kind_of content ≢ 0 → HandleNotFinished 9 (Some content) → ⊥
   pub too_many : (first : ScriptData) (s : Service) → AreLive first s.stations.items s.sessions.items
       → HandleNotFinished 10 (Some (contents.Service s))

@@ -1,5 +1,5 @@
 -- What C is told of sets, in literals: the number of a name, and what was opened with further sets, or why nothing was.
-use Rattle.std.specs.Prelude.{◌≡◌, ◌≢◌, ◌<◌, ◌≤◌, ◌⊎◌, ◌∷◌, [], ℕ, List, Ok, Option, Some, codes, length}
+use Rattle.std.specs.Prelude.{◌≡◌, ◌≢◌, ◌<◌, ◌≤◌, ◌⊎◌, ◌∷◌, [], ℕ, List, false, Ok, Option, Some, codes, length}
 use Rattle.lt_modes.specs.Script.{ScriptData}
 use Rattle.lt_script.specs.Reading.{read_of}
 use Rattle.lt_live.specs.declared.ends.Session.{Session}
@@ -8,7 +8,7 @@ use Rattle.lt_live_c.specs.declared.content.Content.{Content}
 use Rattle.lt_live_c.specs.declared.content.Content.TheVariants as contents
 use Rattle.lt_live_c.specs.Calls.{HandleTellsSet}
 use Rattle.lt_live_c.specs.NewSets.{SetWords}
-use Rattle.lt_live_c.specs.Opening.{HandleOpenedWith, OpenSetsRefused}
+use Rattle.lt_live_c.specs.Opening.{HandleOpenedWith, OpenSetsRefused, fits_for_c}
 use Rattle.lt_live_c.specs.Told.{kind_of}
 use Rattle.lt_live_c.specs.ServicesTold.{OfService, client_text, client_script}
 
@@ -63,6 +63,8 @@ pub record OpensSetsTold : Type 0 where
   pub sets_in_range : (text : List ℕ) (sets : List SetWords) (limit places : ℕ)
       → length text ≤ 1048576 → 0 < limit → limit ≤ 36028797018963968 → 0 < places → places ≤ 4096
       → OpenSetsRefused 4 text sets limit places → ⊥
+  pub sets_out_of_range : (code : ℕ) (text : List ℕ) (sets : List SetWords) (limit places : ℕ)
+      → fits_for_c text limit places ≡ false → OpenSetsRefused code text sets limit places → code ≡ 4
   pub sets_no_fault : (text : List ℕ) (sets : List SetWords) (limit places : ℕ) (script : ScriptData)
       → read_of text ≡ Ok script → OpenSetsRefused 5 text sets limit places → ⊥
   pub few_sets : (sets : List SetWords) (limit places : ℕ) → length sets ≤ 65535

@@ -1,5 +1,5 @@
 -- What is behind a handle, and what calls do with it.
-use Rattle.std.specs.Prelude.{◌≡◌, ℕ, Bool, true, false, Option, Some, None, ⊤, ◌++◌, ◌∷◌, [], ◌⊎◌, drop, slice_get}
+use Rattle.std.specs.Prelude.{◌≡◌, ◌≢◌, ℕ, Bool, true, false, Option, Some, None, ⊤, ◌++◌, ◌∷◌, [], ◌⊎◌, drop, slice_get}
 use Rattle.lt_live.specs.declared.ends.Session.{Session}
 use Rattle.lt_live.specs.Stations.{StationData}
 use Rattle.lt_live.specs.Words.{SameSession}
@@ -136,22 +136,37 @@ HasNoSession (contents.Service s) = s.sessions.items ≡ []
 HasNoSession (contents.Node n) = n.sessions ≡ []
 HasNoSession other = ⊥
 
--- why none was taken
+-- a service that has one
+abbrev pub HasStation : Content → Type 0
+HasStation (contents.Service s) = s.stations.items ≢ []
+HasStation other = ⊥
+
+abbrev pub HasSession : Content → Type 0
+HasSession (contents.Service s) = s.sessions.items ≢ []
+HasSession (contents.Node n) = n.sessions ≢ []
+HasSession other = ⊥
+
+-- why none was taken: memory is wanted only where there is one
 pub record NoStation (code : ℕ) (a : Content) : Type 0 where
   pub nothing : code ≡ NOTHING → HasNoStation a
+  pub memory : code ≡ NO_MEMORY → HasStation a
   pub wrong : code ≡ WRONG_HANDLE → stands_for_service a ≡ false
   pub only : (code ≡ NOTHING) ⊎ ((code ≡ WRONG_HANDLE) ⊎ (code ≡ NO_MEMORY))
 
 pub record NoSession (code : ℕ) (a : Content) : Type 0 where
   pub nothing : code ≡ NOTHING → HasNoSession a
+  pub memory : code ≡ NO_MEMORY → HasSession a
   pub wrong : code ≡ WRONG_HANDLE → has_sessions a ≡ false
   pub only : (code ≡ NOTHING) ⊎ ((code ≡ WRONG_HANDLE) ⊎ (code ≡ NO_MEMORY))
 
-abbrev pub StationRefused : ℕ → Content → Content → Type 0
-StationRefused code a b = NoStation code a × (b ≡ a)
+-- the code of what has none
+abbrev pub IsNoStation : ℕ → Content → Type 0
+IsNoStation code a =
+    ((code ≡ NOTHING) × HasNoStation a) ⊎ ((code ≡ WRONG_HANDLE) × (stands_for_service a ≡ false))
 
-abbrev pub SessionRefused : ℕ → Content → Content → Type 0
-SessionRefused code a b = NoSession code a × (b ≡ a)
+abbrev pub IsNoSession : ℕ → Content → Type 0
+IsNoSession code a =
+    ((code ≡ NOTHING) × HasNoSession a) ⊎ ((code ≡ WRONG_HANDLE) × (has_sessions a ≡ false))
 
 abbrev pub HandleHasNoStation : ℕ → Option Content → Type 0
 HandleHasNoStation code a = WrongOr code (NoStation code) a
@@ -195,9 +210,10 @@ HandleKeeps a b = BothIfAny KeepsAll a b
 abbrev pub IsNoGift : Content → Content → Type 0
 IsNoGift x a = (is_end x ≡ false) ⊎ (stands_for_service a ≡ false)
 
--- why it was not given
+-- why it was not given: memory is wanted only for a station or a session that goes to a service
 pub record NotGiven (code : ℕ) (x a : Content) : Type 0 where
   pub wrong : code ≡ WRONG_HANDLE → IsNoGift x a
+  pub memory : code ≡ NO_MEMORY → (is_end x ≡ true) × (stands_for_service a ≡ true)
   pub only : (code ≡ WRONG_HANDLE) ⊎ (code ≡ NO_MEMORY)
 
 abbrev pub GiveRefused : ℕ → Content → Content → Content → Type 0

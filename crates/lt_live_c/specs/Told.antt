@@ -160,6 +160,9 @@ pub record SubmitsTold : Type 0 where
   pub no_command : AfterSubmit 0 0 6 (λ s t. ⊥)
   pub named : AfterSubmit 4 1 1 (λ s t.
       7 < length s.script.sets → IsTrue (is_of_version s.script.version modes.Read) → ⊥)
+  -- a number that is no mode's, and a set that isn't there, are told so whatever else is wrong
+  pub bad_mode : (code : ℕ) → AfterSubmit code 0 6 (λ s t. code ≡ 4)
+  pub bad_set : (code : ℕ) → AfterSubmit code 0 5 (λ s t. length s.script.sets ≤ 7 → code ≡ 4)
   pub spent : AfterSubmit 6 0 5 (λ s t. s.left ≡ 0)
   pub used_up : AfterSubmit 7 0 5 (λ s t. producer_capacity s.commands ≤ length (submitted s))
   pub no_place : AfterSubmit 7 0 5 (λ s t. known_free t.commands ≡ 0)

@@ -115,6 +115,7 @@ pub fn command_numbered(kind: u32, set: u32, first: u32, second: u32) -> Option<
     }
 }
 
+/// The mode of this number, in the order in which the table of conflicts has them.
 pub fn mode_numbered(number: u32) -> Option<Mode>
     ensures { result ≡ mode_numbered number }
 {

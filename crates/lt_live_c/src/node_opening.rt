@@ -1,10 +1,11 @@
 // One node of a script, opened, asked for sessions and ended.
-ghost use Rattle.std.specs.Prelude.{◌≡◌, ◌<◌, ◌≤◌, ◌≢◌, ℕ, [], IfOk, IfErr, IfSome, IfNone, length, slice_get, drop, Some, None, Ok};
+ghost use Rattle.std.specs.Prelude.{◌≡◌, ◌<◌, ◌≤◌, ◌≢◌, ℕ, [], IfOk, IfErr, IfSome, IfNone, OnOk, true, length, slice_get, drop, Some, None, Ok};
 ghost use Rattle.lt_runner.specs.Kept.{HasAll};
 ghost use Rattle.lt_live_c.specs.NodeCalls.{IsJournalOfOwnNode};
 ghost use Rattle.lt_spec.specs.declared.moves.TheConstants.{MAX_MOVES_OF_SERVICE};
 ghost use Rattle.lt_spec.specs.declared.limits.TheConstants.{MAX_COMMANDS};
 ghost use Rattle.lt_live.specs.Stations.{most_share};
+ghost use Rattle.lt_live_c.specs.Opening.{fits_for_c};
 ghost use Rattle.lt_live_c.specs.Nodes.{IsOpenedNode, NodeOpenRefused, IsPeer, TakesOwnSession, IsNodeStart, NoFrameWaits};
 
 use crate::code::{BAD_ARGUMENT, NO_MEMORY};
@@ -19,6 +20,7 @@ use std::alloc::{AllocError, Global};
 
 impl Node {
     /// The node of the script that the text denotes, whose commands are left out.
+    #[tactic(auto, using(crate::proofs::Unopened::node_unfit, crate::proofs::Unopened::node_unread, crate::proofs::Unopened::node_beyond, crate::proofs::Unopened::node_no_memory))]
     pub fn open(
         alloc: Global,
         text: &[u8],
@@ -30,6 +32,7 @@ impl Node {
     ) -> Result<Node, u32>
         ensures opened { IfOk result (λ n. IsOpenedNode text.now node key.now start limit places n) }
         ensures refused { IfErr result (λ code. NodeOpenRefused code text.now node limit places) }
+        ensures fits { OnOk result (fits_for_c text.now limit places ≡ true) }
     {
         if !fits(text, limit, places) {
             return Err(BAD_ARGUMENT);

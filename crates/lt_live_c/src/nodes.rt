@@ -16,6 +16,7 @@ use std::mem::replace;
 
 /// Opens one node of the script: `opened` stands for it, and for the sessions of its clients.
 #[unsafe(no_mangle)]
+#[tactic(auto, using(crate::proofs::Unopened::node_no_memory))]
 pub extern "C" fn lockrun_node_open(
     alloc: Global,
     text: &[u8],
@@ -30,13 +31,14 @@ pub extern "C" fn lockrun_node_open(
     ensures keeps { result ≢ OK → opened.new.value ≡ opened.old.value }
     ensures refused { result ≢ OK → NodeOpenRefused result text.now node limit places }
 {
+    let made = match Node::open(alloc, text, node, key, start, limit, places) {
+        Ok(made) => made,
+        Err(code) => return code,
+    };
     let Ok(room) = room(alloc) else {
         return NO_MEMORY;
     };
-    match Node::open(alloc, text, node, key, start, limit, places) {
-        Ok(node) => put(room, Content::Node(node), opened),
-        Err(code) => code,
-    }
+    put(room, Content::Node(made), opened)
 }
 
 /// Puts the next frame for a node at the front of the buffer, where it has room.

@@ -1,5 +1,5 @@
 // The stations and sessions of a script, until they are taken, and after they are given back.
-ghost use Rattle.std.specs.Prelude.{◌≡◌, ◌≢◌, ◌<◌, ◌≤◌, ◌-◌, ◌^◌, [], Ok, Some, length, map, IfOk, IfErr, IfSome, IfNone};
+ghost use Rattle.std.specs.Prelude.{◌≡◌, ◌≢◌, ◌<◌, ◌≤◌, ◌-◌, ◌^◌, [], Ok, Err, Some, length, map, true, IfOk, IfErr, IfSome, IfNone, OnOk};
 ghost use Rattle.lt_spec.specs.declared.moves.TheConstants.{MAX_MOVES_OF_SERVICE};
 ghost use Rattle.lt_spec.specs.declared.limits.TheConstants.{MAX_COMMANDS, MAX_SETS};
 ghost use Rattle.lt_script.specs.Reading.{read_of};
@@ -40,11 +40,12 @@ impl Drop for Service {
 
 impl Service {
     /// The stations and sessions of the script, whose commands are left out.
-    #[tactic(auto, using(crate::proofs::Unopened::unread))]
+    #[tactic(auto, using(crate::proofs::Unopened::unread, crate::proofs::Unopened::fits_all))]
     pub fn open(alloc: Global, text: &[u8], limit: u64, places: u32) -> Result<Service, u32>
         ensures opened { IfOk result (λ s. IsOpenedFrom text.now limit places s) }
         ensures whole { IfOk result (λ s. LiveScript s.stations.items s.sessions.items) }
         ensures refused { IfErr result (λ code. OpenRefused code text.now limit places) }
+        ensures fits { OnOk result (fits_for_c text.now limit places ≡ true) }
     {
         if !fits(text, limit, places) {
             return Err(BAD_ARGUMENT);
@@ -54,7 +55,7 @@ impl Service {
     }
 
     /// The same of the script with further sets.
-    #[tactic(auto, using(crate::proofs::Unopened::unread, crate::proofs::Unopened::without_sets, crate::proofs::Unopened::no_sets))]
+    #[tactic(auto, using(crate::proofs::Unopened::unread, crate::proofs::Unopened::without_sets, crate::proofs::Unopened::no_sets, crate::proofs::Unopened::fits_all))]
     pub fn open_sets(
         alloc: Global,
         text: &[u8],
@@ -66,6 +67,7 @@ impl Service {
         ensures whole { IfOk result (λ s. LiveScript s.stations.items s.sessions.items) }
         ensures refused { IfErr result (λ code.
             OpenSetsRefused code text.now (map words_of_set sets.now) limit places) }
+        ensures fits { OnOk result (fits_for_c text.now limit places ≡ true) }
     {
         if !fits(text, limit, places) {
             return Err(BAD_ARGUMENT);
@@ -76,7 +78,7 @@ impl Service {
     }
 
     /// The same of the script with so many families of sets for keys.
-    #[tactic(auto, using(crate::proofs::Unopened::unread, crate::proofs::Unopened::without_sets, crate::proofs::Unopened::no_sets))]
+    #[tactic(auto, using(crate::proofs::Unopened::unread, crate::proofs::Unopened::without_sets, crate::proofs::Unopened::no_sets, crate::proofs::Unopened::fits_all))]
     pub fn open_keys(
         alloc: Global,
         text: &[u8],
@@ -89,6 +91,7 @@ impl Service {
         ensures whole { IfOk result (λ s. LiveScript s.stations.items s.sessions.items) }
         ensures refused { IfErr result (λ code.
             OpenSetsRefused code text.now (key_sets families members) limit places) }
+        ensures fits { OnOk result (fits_for_c text.now limit places ≡ true) }
     {
         if !fits(text, limit, places) {
             return Err(BAD_ARGUMENT);
@@ -133,6 +136,7 @@ impl Service {
         requires { LiveScript self.stations.items self.sessions.items }
         ensures journal { IfOk result (λ journal. IsJournalOfService self journal) }
         ensures forgotten { IfErr result (λ error. error ≡ errors.Forgotten → SomeForgot self) }
+        ensures forgot { SomeForgot self → result ≡ Err errors.Forgotten }
         ensures many { IfErr result (λ error. error ≡ errors.TooMany → HaveTooMany self) }
     {
         let Service { stations, sessions } = self;
@@ -233,6 +237,7 @@ fn journal_of(alloc: Global, script: &Script, run: &Run) -> Result<Journal, Fini
         (length script.now.sets ≤ MAX_SETS) × TellsOf script.now run.now.entries journal) }
     ensures many { IfErr result (λ error.
         (error ≢ errors.Forgotten) × (error ≡ errors.TooMany → MAX_SETS < length script.now.sets)) }
+    ensures told { MAX_SETS < length script.now.sets → result ≡ Err errors.TooMany }
 {
     if script.sets() > MAX_SETS {
         return Err(FinishError::TooMany);

@@ -1,6 +1,6 @@
 // The calls on services.
 ghost use Rattle.std.specs.Prelude.{◌≡◌, ◌≢◌, true, Some, None, IsSome, map};
-ghost use Rattle.lt_live_c.specs.Taking.{IsWholeService, stands_for_service as is_service, IsWholeHandle, IsWholeIfAny, IsNoService, HandleTakesStation, HandleTakesSession, HandleHasNoStation, HandleHasNoSession, HandleGives, HandleKeeps, KeepsAll, HandleGiveRefused};
+ghost use Rattle.lt_live_c.specs.Taking.{IsWholeService, stands_for_service as is_service, IsWholeHandle, IsWholeIfAny, IsNoService, HandleTakesStation, HandleTakesSession, HandleHasNoStation, HandleHasNoSession, HandleGives, HandleKeeps, KeepsAll, HandleGiveRefused, NoStation, NoSession};
 ghost use Rattle.lt_live_c.specs.Serving.{IsWholeHandleIfAll, HandleTellsServed, HandleNotTold};
 ghost use Rattle.lt_live_c.specs.NewSets.{words_of_set};
 ghost use Rattle.lt_live_c.specs.KeySets.{key_sets};
@@ -15,12 +15,15 @@ use crate::journal::Journal;
 use crate::new_sets::NewSet;
 use crate::service::Service;
 use crate::serving::tell_served;
-use crate::taking::{give_back, next_session, next_station, stands_for_service};
+use crate::taking::{
+    give_back, next_session, next_station, no_session, no_station, stands_for_service,
+};
 use std::alloc::Global;
 use std::mem::replace;
 
 /// Opens the script: `service` stands for its stations and sessions.
 #[unsafe(no_mangle)]
+#[tactic(auto, using(crate::proofs::Unopened::no_memory))]
 pub extern "C" fn lockrun_open(
     alloc: Global,
     text: &[u8],
@@ -33,17 +36,19 @@ pub extern "C" fn lockrun_open(
     ensures keeps { result ≢ OK → service.new.value ≡ service.old.value }
     ensures refused { result ≢ OK → OpenRefused result text.now limit places }
 {
+    let opened = match Service::open(alloc, text, limit, places) {
+        Ok(opened) => opened,
+        Err(code) => return code,
+    };
     let Ok(room) = room(alloc) else {
         return NO_MEMORY;
     };
-    match Service::open(alloc, text, limit, places) {
-        Ok(opened) => put(room, Content::Service(opened), service),
-        Err(code) => code,
-    }
+    put(room, Content::Service(opened), service)
 }
 
 /// Opens the script with further sets: `service` stands for its stations and sessions.
 #[unsafe(no_mangle)]
+#[tactic(auto, using(crate::proofs::Unopened::no_memory_with))]
 pub extern "C" fn lockrun_open_sets(
     alloc: Global,
     text: &[u8],
@@ -58,17 +63,19 @@ pub extern "C" fn lockrun_open_sets(
     ensures keeps { result ≢ OK → service.new.value ≡ service.old.value }
     ensures refused { result ≢ OK → OpenSetsRefused result text.now (map words_of_set sets.now) limit places }
 {
+    let opened = match Service::open_sets(alloc, text, sets, limit, places) {
+        Ok(opened) => opened,
+        Err(code) => return code,
+    };
     let Ok(room) = room(alloc) else {
         return NO_MEMORY;
     };
-    match Service::open_sets(alloc, text, sets, limit, places) {
-        Ok(opened) => put(room, Content::Service(opened), service),
-        Err(code) => code,
-    }
+    put(room, Content::Service(opened), service)
 }
 
 /// Opens the script with families of sets for keys: `service` stands for its stations and sessions.
 #[unsafe(no_mangle)]
+#[tactic(auto, using(crate::proofs::Unopened::no_memory_with))]
 pub extern "C" fn lockrun_open_keys(
     alloc: Global,
     text: &[u8],
@@ -84,13 +91,14 @@ pub extern "C" fn lockrun_open_keys(
     ensures keeps { result ≢ OK → service.new.value ≡ service.old.value }
     ensures refused { result ≢ OK → OpenSetsRefused result text.now (key_sets families members) limit places }
 {
+    let opened = match Service::open_keys(alloc, text, families, members, limit, places) {
+        Ok(opened) => opened,
+        Err(code) => return code,
+    };
     let Ok(room) = room(alloc) else {
         return NO_MEMORY;
     };
-    match Service::open_keys(alloc, text, families, members, limit, places) {
-        Ok(opened) => put(room, Content::Service(opened), service),
-        Err(code) => code,
-    }
+    put(room, Content::Service(opened), service)
 }
 
 /// Takes the next station of the service.
@@ -108,16 +116,9 @@ pub extern "C" fn lockrun_take_station(
     let Some(mut inside) = take(alloc, service) else {
         return WRONG_HANDLE;
     };
-    let Ok(room) = room(alloc) else {
-        *service = Handle::of(inside);
-        return NO_MEMORY;
-    };
-    let next = next_station(&mut inside);
+    let code = take_station_from(alloc, &mut inside, station);
     *service = Handle::of(inside);
-    match next {
-        Ok(next) => put(room, Content::Station(next), station),
-        Err(code) => code,
-    }
+    code
 }
 
 /// Takes the next session of the service.
@@ -135,15 +136,46 @@ pub extern "C" fn lockrun_take_session(
     let Some(mut inside) = take(alloc, service) else {
         return WRONG_HANDLE;
     };
+    let code = take_session_from(alloc, &mut inside, session);
+    *service = Handle::of(inside);
+    code
+}
+
+// Memory is asked for once there is a station to be taken.
+#[tactic(auto, using(crate::proofs::Untaken::no_station_so, crate::proofs::Untaken::no_room_for_station))]
+fn take_station_from(alloc: Global, content: &mut Content, station: &mut Handle) -> u32
+    ensures takes { result ≡ OK → HandleTakesStation station.new.value (Some content.old) (Some content.new) }
+    ensures keeps { result ≢ OK → (content.new ≡ content.old) × (station.new.value ≡ station.old.value) }
+    ensures refused { result ≢ OK → NoStation result content.old }
+{
+    if let Some(code) = no_station(content) {
+        return code;
+    }
     let Ok(room) = room(alloc) else {
-        *service = Handle::of(inside);
         return NO_MEMORY;
     };
-    let next = next_session(&mut inside);
-    *service = Handle::of(inside);
-    match next {
-        Ok(next) => put(room, Content::Session(next), session),
-        Err(code) => code,
+    match next_station(content) {
+        Some(next) => put(room, Content::Station(next), station),
+        None => unreachable!(),
+    }
+}
+
+// Memory is asked for once there is a session to be taken.
+#[tactic(auto, using(crate::proofs::Untaken::no_session_so, crate::proofs::Untaken::no_room_for_session))]
+fn take_session_from(alloc: Global, content: &mut Content, session: &mut Handle) -> u32
+    ensures takes { result ≡ OK → HandleTakesSession session.new.value (Some content.old) (Some content.new) }
+    ensures keeps { result ≢ OK → (content.new ≡ content.old) × (session.new.value ≡ session.old.value) }
+    ensures refused { result ≢ OK → NoSession result content.old }
+{
+    if let Some(code) = no_session(content) {
+        return code;
+    }
+    let Ok(room) = room(alloc) else {
+        return NO_MEMORY;
+    };
+    match next_session(content) {
+        Some(next) => put(room, Content::Session(next), session),
+        None => unreachable!(),
     }
 }
 

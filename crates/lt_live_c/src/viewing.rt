@@ -69,8 +69,8 @@ pub extern "C" fn lockrun_asked(
     code
 }
 
-/// Whether in the queue of the set's desk, if that is at the station's node, an ask of the client stands behind one of the
-/// other.
+/// Whether in the queue of the set's desk, if that is at the station's node, an ask of the client stands behind one of
+/// the other.
 #[unsafe(no_mangle)]
 pub extern "C" fn lockrun_behind(
     alloc: Global,

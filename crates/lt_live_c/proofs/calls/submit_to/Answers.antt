@@ -10,7 +10,9 @@ returns-then-not-may_submit-clause-submits c =
 
 pub returns-then-left-eq0-clause-submits : goal.returns-then-left-eq0-clause-submits
 returns-then-left-eq0-clause-submits c =
-    spent c.args.session.now c.args.command (sym c.left.ensures.left ∙ c.if-left-eq0.true)
+    spent c.args.session.now c.args.command c.in-Some.command c.in-Some.is
+    (c.may_submit.ensures.targets c.if-not-may_submit.false, c.may_submit.ensures.modes c.if-not-may_submit.false)
+    (sym c.left.ensures.left ∙ c.if-left-eq0.true)
 
 pub returns-in-Ok-clause-submits : goal.returns-in-Ok-clause-submits
 returns-in-Ok-clause-submits c =
@@ -21,4 +23,5 @@ returns-in-Ok-clause-submits c =
 pub returns-in-Err-clause-submits : goal.returns-in-Err-clause-submits
 returns-in-Err-clause-submits c =
     full c.args.session.now c.submit.new.self c.args.command c.in-Some.command c.in-Some.is c.submit.ensures.replies
+    (c.may_submit.ensures.targets c.if-not-may_submit.false, c.may_submit.ensures.modes c.if-not-may_submit.false)
     (c.in-Err.ensures.back.1, c.in-Err.ensures.back.2) (c.in-Err.ensures.full, c.in-Err.ensures.no_place) c.in-Err.ensures.place

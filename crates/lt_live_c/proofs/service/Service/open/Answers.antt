@@ -25,4 +25,6 @@ returns-clause-opened c =
     c.start.ensures.opened
 
 pub returns-clause-refused : goal.returns-clause-refused
-returns-clause-refused c = not_opened c.args.text.now c.args.limit c.args.places c.start.result c.start.ensures.refused
+returns-clause-refused c =
+    not_opened c.args.text.now c.args.limit c.args.places c.start.result (sym c.fits.ensures ∙ c.if-not-fits.false)
+    c.start.ensures.refused

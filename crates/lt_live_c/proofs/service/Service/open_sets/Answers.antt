@@ -30,4 +30,4 @@ returns-clause-opened c =
 pub returns-clause-refused : goal.returns-clause-refused
 returns-clause-refused c =
     not_opened_with c.args.text.now c.args.limit c.args.places (map words_of_set c.args.sets.now) c.start.result
-    c.start.ensures.refused
+    (sym c.fits.ensures ∙ c.if-not-fits.false) c.start.ensures.refused
