@@ -20,7 +20,7 @@ use std::alloc::{AllocError, Global};
 
 impl Node {
     /// The node of the script that the text denotes, whose commands are left out.
-    #[tactic(auto, using(crate::proofs::Unopened::node_unfit, crate::proofs::Unopened::node_unread, crate::proofs::Unopened::node_beyond, crate::proofs::Unopened::node_no_memory))]
+    #[tactic(auto, using(crate::proofs::Unopened::node_unread, crate::proofs::Unopened::node_no_memory))]
     pub fn open(
         alloc: Global,
         text: &[u8],
