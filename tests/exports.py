@@ -9,6 +9,7 @@ from pathlib import Path
 
 TOP = Path(__file__).resolve().parent.parent
 CRATE = ''.join(path.read_text() for path in sorted((TOP / 'crates' / 'lt_live_c' / 'src').glob('*.rt')))
+CLIENTS = (TOP / 'crates' / 'lt_live' / 'src' / 'clients.rt').read_text()
 HEADER = re.sub(r'/\*.*?\*/', '', (TOP / 'clients' / 'c' / 'lockrun.h').read_text(), flags=re.S)
 RUST = re.sub(r'//.*', '', (TOP / 'clients' / 'rust' / 'src' / 'exports.rs').read_text())
 SESSION = (TOP / 'clients' / 'rust' / 'src' / 'session.rs').read_text()
@@ -20,7 +21,7 @@ import lockrun  # noqa: E402
 CROSSES = {
     'Global': [], '&[u8]': ['*u8', 'size'], '&mut [u8]': ['*u8', 'size'], '&mut Handle': ['*handle'],
     '&mut u32': ['*u32'], '&mut u64': ['*u64'], '&mut usize': ['*size'], 'u32': ['u32'], 'u64': ['u64'], 'usize': ['size'],
-    '&mut ClientBits': ['*clients'],
+    '&mut Clients': ['*clients'],
     "&[NewSet<'_>]": ['*set', 'size'], "&'a [u8]": ['*u8', 'size']}
 IN_C = {'uint32_t': 'u32', 'uint64_t': 'u64', 'size_t': 'size', 'lockrun_handle *': '*handle', 'lockrun_service *': '*handle',
         'lockrun_station *': '*handle', 'lockrun_session *': '*handle', 'lockrun_journal *': '*handle',
@@ -122,7 +123,7 @@ def fields_differ():
 
 def bits_differ():
     """The faults of the bits of clients: so many words in all languages."""
-    words = int(re.search(r'pub struct ClientBits \{\s+pub bits: \[u64; (\d+)\],', CRATE)[1])
+    words = int(re.search(r'pub struct Clients \{\s+pub words: \[u64; (\d+)\],', CLIENTS)[1])
     if f'uint64_t bits[{words}];' not in HEADER:
         yield 'the bits of clients of C are others'
     if f'pub bits: [u64; {words}],' not in RUST:

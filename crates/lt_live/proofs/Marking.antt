@@ -13,16 +13,16 @@ use Rattle.lt_spec.specs.World.{Logged}
 use Rattle.lt_mail.specs.declared.mail.Mail.{Mail}
 use Rattle.lt_mail.specs.Words.{Alike, given_to}
 use Rattle.lt_mail.specs.Telling.{GrewIf, TellsGiven}
-use Rattle.lt_mail.proofs.TellingLemmas.{grew_join, number_of_either}
+use Rattle.lt_mail.proofs.TellingLemmas.{grew_join}
 use Rattle.lt_runner.specs.declared.parts.Parts.{Parts}
 use Rattle.lt_live.specs.declared.clients.Clients.{Clients}
 use Rattle.lt_live.specs.declared.ends.Seat.{Seat}
 use Rattle.lt_live.specs.declared.reply.Reply.{Reply}
 use Rattle.lt_live.specs.Seats.{TakesIn, TellsSeat, reply_to, replies_in}
 use Rattle.lt_live.specs.Stations.{IsStation, EachSeat, SeatAt, HandMayGo, AreOthers}
-use Rattle.lt_live.specs.Told.{word_has, OtherBitsStay, has_mark, RingGrew, TellsClients, HaveOwnBits, AnswersSeat}
+use Rattle.lt_live.specs.Told.{word_has, OtherBitsStay, has_mark, RingGrew, TellsClients, RingAdds, AddsClients, HaveOwnBits, AnswersSeat}
 use Rattle.lt_live.specs.Words.{told_to, outbox_replies, due_to}
-use Rattle.lt_live.proofs.SeatLists.{Going, alike_self, each_before, each_join}
+use Rattle.lt_live.proofs.SeatLists.{Going, alike_self, alike_weaker, each_before, each_join}
 
 -- One bit of some words.
 
@@ -65,46 +65,6 @@ no_bits k = ap (λ (w : ℕ). bit_at w (k % 64) == 1) zero_there ∙ ap (λ (b :
       | inl few ↦ get_or-replicate 16 (k / 64) 0 0 few
       | inr past ↦ get_or_past no_words (k / 64) 0 past
     ]
-
-pub no_bit_past : (words : List ℕ) (k : ℕ) → length words ≡ 16 → 1024 ≤ k → word_has words k ≡ false
-no_bit_past words k count past =
-    ap (λ (w : ℕ). bit_at w (k % 64) == 1) (get_or_past words (k / 64) 0 (omega (arith, count, past)))
-    ∙ ap (λ (b : ℕ). b == 1) (bit_at-zero (k % 64))
-
--- Bits of either, word by word.
-
--- of the first words the bits are those of either, and the others are as they were
-pub record JoinsFirst (n : ℕ) (old others new : List ℕ) : Type 0 where
-  pub count : length new ≡ length old
-  pub done : (i : ℕ) → i < n → slice_index_or new i 0 ≡ bit_or (slice_index_or old i 0) (slice_index_or others i 0)
-  pub rest : (i : ℕ) → n ≤ i → slice_index_or new i 0 ≡ slice_index_or old i 0
-
-pub joins_none : (old others : List ℕ) → JoinsFirst 0 old others old
-joins_none old others = record { count = refl; done = λ i below. absurd (omega (arith, below)); rest = λ i past. refl }
-
-pub joins_more : (n : ℕ) (old others mid new : List ℕ) → JoinsFirst n old others mid → n < length mid
-    → new ≡ slice_set mid n (bit_or (slice_index_or mid n 0) (slice_index_or others n 0)) → JoinsFirst (n + 1) old others new
-joins_more n old others mid new h inside is =
-    let word = bit_or (slice_index_or mid n 0) (slice_index_or others n 0) in
-    subst (λ (words : List ℕ). JoinsFirst (n + 1) old others words) (sym is) (record {
-      count = length-set mid n word ∙ h.count;
-      done = λ i below. elim (cases_eq i n) [
-        | inl same ↦ subst (λ (j : ℕ). slice_index_or (slice_set mid n word) j 0 ≡ bit_or (slice_index_or old j 0) (slice_index_or others j 0)) (sym same)
-            (get_or-set_same mid n word 0 inside ∙ ap (λ (w : ℕ). bit_or w (slice_index_or others n 0)) (h.rest n (omega arith)))
-        | inr apart ↦ get_or-set_other mid n i word 0 apart ∙ h.done i (omega (arith, below, apart))
-      ];
-      rest = λ i past. get_or-set_other mid n i word 0 (λ e. omega (arith, past, e)) ∙ h.rest i (omega (arith, past));
-    })
-
-pub joins_all : (n : ℕ) (old others new : List ℕ) → 16 ≤ n → length old ≡ 16 → length others ≡ 16 → JoinsFirst n old others new
-    → (k : ℕ) → word_has new k ≡ (word_has old k || word_has others k)
-joins_all n old others new all count also h k = elim (cases_lt (k / 64) 16) [
-  | inl few ↦ ap (λ (w : ℕ). bit_at w (k % 64) == 1) (h.done (k / 64) (omega (arith, few, all)))
-      ∙ number_of_either (slice_index_or old (k / 64) 0) (slice_index_or others (k / 64) 0) (k % 64)
-  | inr past ↦ no_bit_past new k (h.count ∙ count) (omega (arith, past))
-      ∙ sym (ap (λ (t : Bool). t || word_has others k) (no_bit_past old k count (omega (arith, past)))
-      ∙ no_bit_past others k also (omega (arith, past)))
-]
 
 -- Replies that went into a ring.
 
@@ -159,19 +119,13 @@ line_grew client mine line said xs ys own more some = here (reply_to client line
 
 -- Seats that told their clients one after the other.
 
--- those of the first n seats whose rings were given replies are marked, and no others
-pub record ToldFirst (n : ℕ) (told : Clients) (old new : List Seat) : Type 0 where
-  pub each : (k : ℕ) (x y : Seat) → k < n → slice_get old k ≡ Some x → slice_get new k ≡ Some y → RingGrew told x y
-  pub others : (client : ℕ) → ((k : ℕ) (x : Seat) → k < n → slice_get old k ≡ Some x → x.client ≢ client) → has_mark told client ≡ false
+-- those of the first n seats whose rings were given replies are marked, with those that were before, and no others
+pub record ToldFirst (n : ℕ) (before told : Clients) (old new : List Seat) : Type 0 where
+  pub each : (k : ℕ) (x y : Seat) → k < n → slice_get old k ≡ Some x → slice_get new k ≡ Some y → RingAdds before told x y
+  pub others : (client : ℕ) → ((k : ℕ) (x : Seat) → k < n → slice_get old k ≡ Some x → x.client ≢ client) → has_mark told client ≡ has_mark before client
 
-pub told_none : (told : Clients) (seats : List Seat) → ((client : ℕ) → has_mark told client ≡ false) → ToldFirst 0 told seats seats
-told_none told seats none = record { each = λ k x y below e f. absurd (omega (arith, below)); others = λ client apart. none client }
-
--- the next seat's client isn't marked yet
-pub next_unmarked : (n : ℕ) (told : Clients) (old new : List Seat) (seat : Seat) → HaveOwnBits old → ToldFirst n told old new → slice_get old n ≡ Some seat
-    → has_mark told seat.client ≡ false
-next_unmarked n told old new seat bits h here = h.others seat.client (λ k x below e same.
-    let at = bits.apart k n x seat e here same in omega (arith, below, at))
+pub told_none : (told : Clients) (seats : List Seat) → ToldFirst 0 told told seats seats
+told_none told seats = record { each = λ k x y below e f. absurd (omega (arith, below)); others = λ client apart. refl }
 
 pub seat_tells : (log : List Logged) (told later : Clients) (n : ℕ) (old new : List Seat) → SeatAt (AnswersSeat log told later) n old new → SeatAt (TellsSeat log) n old new
 seat_tells log told later n old new at = record {
@@ -184,20 +138,21 @@ seat_tells log told later n old new at = record {
   others = at.others;
 }
 
-pub told_more : (log : List Logged) (n : ℕ) (told later : Clients) (old mid new : List Seat) → HaveOwnBits old → Going (TellsSeat log) n old mid
-    → SeatAt (AnswersSeat log told later) n mid new → ToldFirst n told old mid → ToldFirst (n + 1) later old new
-told_more log n told later old mid new bits going at h = record {
+pub told_more : (log : List Logged) (n : ℕ) (before told later : Clients) (old mid new : List Seat) → HaveOwnBits old → Going (TellsSeat log) n old mid
+    → SeatAt (AnswersSeat log told later) n mid new → ToldFirst n before told old mid → ToldFirst (n + 1) before later old new
+told_more log n before told later old mid new bits going at h = record {
   each = λ k x y below e f. elim (cases_eq k n) [
     | inl same ↦
         let x_is : at.x ≡ x = same_Some at.x x (sym was ∙ (ap (slice_get old) (sym same) ∙ e)) in
         let y_is : at.y ≡ y = same_Some at.y y (sym at.now ∙ (ap (slice_get new) (sym same) ∙ f)) in
-        subst (λ (s : Seat). RingGrew later s y) x_is (subst (λ (s : Seat). RingGrew later at.x s) y_is at.one.own)
+        subst (λ (s : Seat). RingAdds before later s y) x_is (subst (λ (s : Seat). RingAdds before later at.x s) y_is own)
     | inr apart ↦
-        let before = h.each k x y (omega (arith, below, apart)) e (sym (at.others k apart) ∙ f) in
+        let done = h.each k x y (omega (arith, below, apart)) e (sym (at.others k apart) ∙ f) in
         record {
-          client = before.client;
-          grew = subst (λ (t : Bool). GrewIf t (told_to x) (told_to y))
-              (sym (at.one.others x.client (λ same. apart (bits.apart k n x at.x e was same)))) before.grew;
+          client = done.client;
+          told = done.told;
+          grew = done.grew;
+          mark = at.one.others x.client (λ same. apart (bits.apart k n x at.x e was same)) ∙ done.mark;
         }
   ];
   others = λ client none.
@@ -208,14 +163,26 @@ told_more log n told later old mid new bits going at h = record {
     was : slice_get old n ≡ Some at.x
     was = sym (going.rest n (omega arith)) ∙ at.before
 
-pub told_all : (log : List Logged) (n : ℕ) (told : Clients) (old new : List Seat) → length old ≤ n → EachSeat (TellsSeat log) old new → ToldFirst n told old new
-    → TellsClients told old new
-told_all log n told old new long tells h = record {
+    -- the client was marked by no other seat
+    unmarked : has_mark told at.x.client ≡ has_mark before at.x.client
+    unmarked = h.others at.x.client (λ k x below e same. let here = bits.apart k n x at.x e was same in omega (arith, below, here))
+
+    own : RingAdds before later at.x at.y
+    own = record {
+      client = at.one.own.client;
+      told = at.one.own.told;
+      grew = at.one.own.grew;
+      mark = at.one.own.mark ∙ ap (λ (t : Bool). t || at.one.own.told) unmarked;
+    }
+
+pub told_all : (log : List Logged) (n : ℕ) (before told : Clients) (old new : List Seat) → length old ≤ n → EachSeat (TellsSeat log) old new
+    → ToldFirst n before told old new → AddsClients before told old new
+told_all log n before told old new long tells h = record {
   each = λ k. by_place k (slice_get old k) (slice_get new k) refl refl (tells k);
   others = λ client apart. h.others client (λ k x below e. apart k x e);
 }
   where
-    by_place : (k : ℕ) (o p : Option Seat) → slice_get old k ≡ o → slice_get new k ≡ p → Alike (TellsSeat log) o p → Alike (RingGrew told) o p
+    by_place : (k : ℕ) (o p : Option Seat) → slice_get old k ≡ o → slice_get new k ≡ p → Alike (TellsSeat log) o p → Alike (RingAdds before told) o p
     by_place k None None e f goes = tt
     by_place k None (Some y) e f goes = goes
     by_place k (Some x) None e f goes = goes
@@ -240,19 +207,20 @@ keeps_told a b c takes (inl gone) =
 keeps_told a b c takes (inr still) =
     subst (λ (seat : Seat). KeepsTold a seat) (sym still) (record { client = takes.same.client; told = takes.told.0 })
 
-ring_grew : (told : Clients) (a b c : Seat) → KeepsTold a b → RingGrew told b c → RingGrew told a c
-ring_grew told a b c h k = record {
+ring_grew : (before told : Clients) (a b c : Seat) → KeepsTold a b → RingAdds before told b c → RingAdds before told a c
+ring_grew before told a b c h k = record {
   client = k.client ∙ h.client;
-  grew = subst (λ (client : ℕ). GrewIf (has_mark told client) (told_to a) (told_to c)) h.client
-      (subst (λ (replies : List Reply). GrewIf (has_mark told b.client) replies (told_to c)) h.told k.grew);
+  told = k.told;
+  grew = subst (λ (replies : List Reply). GrewIf k.told replies (told_to c)) h.told k.grew;
+  mark = subst (λ (client : ℕ). has_mark told client ≡ (has_mark before client || k.told)) h.client k.mark;
 }
 
-pub turn_tells : (told : Clients) (seats one two later : List Seat) → EachSeat TakesIn seats one → EachSeat HandMayGo one two → TellsClients told two later
-    → TellsClients told seats later
-turn_tells told seats one two later takes gives h =
+pub turn_tells : (before told : Clients) (seats one two later : List Seat) → EachSeat TakesIn seats one → EachSeat HandMayGo one two
+    → AddsClients before told two later → AddsClients before told seats later
+turn_tells before told seats one two later takes gives h =
     let keeps : EachSeat KeepsTold seats two = each_join TakesIn HandMayGo KeepsTold keeps_told seats one two takes gives in
     record {
-      each = each_join KeepsTold (RingGrew told) (RingGrew told) (ring_grew told) seats two later keeps h.each;
+      each = each_join KeepsTold (RingAdds before told) (RingAdds before told) (ring_grew before told) seats two later keeps h.each;
       others = λ client apart. h.others client (λ k y e same.
           let (x, here, kept) = each_before KeepsTold seats two keeps k y e in
           apart k x here (sym kept.client ∙ same));
@@ -263,35 +231,74 @@ turn_tells told seats one two later takes gives h =
 pub tells_nothing : (a : Mail) → TellsGiven 0 a a
 tells_nothing a node = subst (λ (bit : ℕ). GrewIf (bit == 1) (given_to a node) (given_to a node)) (sym (bit_at-zero node)) refl
 
-pub tells_no_client : (told : Clients) (seats : List Seat) → ((client : ℕ) → has_mark told client ≡ false) → TellsClients told seats seats
-tells_no_client told seats none = record {
-  each = λ k. alike_self (RingGrew told) still seats k;
-  others = λ client apart. none client;
-}
-  where
-    still : (seat : Seat) → RingGrew told seat seat
-    still seat = record {
-      client = refl;
-      grew = subst (λ (t : Bool). GrewIf t (told_to seat) (told_to seat)) (sym (none seat.client)) refl;
-    }
+or_false : (t : Bool) → t ≡ (t || false)
+or_false true = refl
+or_false false = refl
 
-pub tells_clients_join : (told more both : Clients) (one two three : List Seat)
-    → ((client : ℕ) → has_mark both client ≡ (has_mark told client || has_mark more client)) → TellsClients told one two → TellsClients more two three
-    → TellsClients both one three
-tells_clients_join told more both one two three joined h k = record {
-  each = each_join (RingGrew told) (RingGrew more) (RingGrew both) ring_joined one two three h.each k.each;
-  others = λ client apart.
-      joined client
-      ∙ (ap (λ (t : Bool). t || has_mark more client) (h.others client apart)
-      ∙ k.others client (λ place y e same.
-      let (x, here, grew) = each_before (RingGrew told) one two h.each place y e in
-      apart place x here (sym grew.client ∙ same)));
+or_more : (t u v : Bool) → ((t || u) || v) ≡ (t || (u || v))
+or_more true u v = refl
+or_more false u v = refl
+
+pub adds_none : (told : Clients) (seats : List Seat) → AddsClients told told seats seats
+adds_none told seats = record {
+  each = λ k. alike_self (RingAdds told told) still seats k;
+  others = λ client apart. refl;
 }
   where
-    ring_joined : (x y z : Seat) → RingGrew told x y → RingGrew more y z → RingGrew both x z
+    still : (seat : Seat) → RingAdds told told seat seat
+    still seat = record { client = refl; told = false; grew = refl; mark = or_false (has_mark told seat.client) }
+
+pub adds_join : (before told more : Clients) (one two three : List Seat) → AddsClients before told one two → AddsClients told more two three
+    → AddsClients before more one three
+adds_join before told more one two three h k = record {
+  each = each_join (RingAdds before told) (RingAdds told more) (RingAdds before more) ring_joined one two three h.each k.each;
+  others = λ client apart.
+      k.others client (λ place y e same.
+      let (x, here, grew) = each_before (RingAdds before told) one two h.each place y e in
+      apart place x here (sym grew.client ∙ same))
+      ∙ h.others client apart;
+}
+  where
+    ring_joined : (x y z : Seat) → RingAdds before told x y → RingAdds told more y z → RingAdds before more x z
     ring_joined x y z p q = record {
       client = q.client ∙ p.client;
-      grew = subst (λ (t : Bool). GrewIf t (told_to x) (told_to z)) (sym (joined x.client))
-          (grew_join (has_mark told x.client) (has_mark more x.client) (told_to x) (told_to y) (told_to z) p.grew
-          (subst (λ (client : ℕ). GrewIf (has_mark more client) (told_to y) (told_to z)) p.client q.grew));
+      told = p.told || q.told;
+      grew = grew_join p.told q.told (told_to x) (told_to y) (told_to z) p.grew q.grew;
+      mark = subst (λ (client : ℕ). has_mark more client ≡ (has_mark told client || q.told)) p.client q.mark
+          ∙ ap (λ (t : Bool). t || q.told) p.mark
+          ∙ or_more (has_mark before x.client) p.told q.told;
     }
+
+-- where none was marked before, these are those whose rings were given replies
+pub adds_alone : (before told : Clients) (old new : List Seat) → ((client : ℕ) → has_mark before client ≡ false) → AddsClients before told old new
+    → TellsClients told old new
+adds_alone before told old new none h = record {
+  each = alike_weaker (RingAdds before told) (RingGrew told) alone old new h.each;
+  others = λ client apart. h.others client apart ∙ none client;
+}
+  where
+    alone : (x y : Seat) → RingAdds before told x y → RingGrew told x y
+    alone x y p = record {
+      client = p.client;
+      grew = subst (λ (t : Bool). GrewIf t (told_to x) (told_to y)) (sym (p.mark ∙ ap (λ (t : Bool). t || p.told) (none x.client))) p.grew;
+    }
+
+-- a seat that told its client, which is marked where its ring was given replies
+pub answers_told : (log : List Logged) (before now : Clients) (a b : Seat) → TellsSeat log a b → GrewIf true (told_to a) (told_to b) → has_mark now a.client ≡ true
+    → ((client : ℕ) → client ≢ a.client → has_mark now client ≡ has_mark before client) → AnswersSeat log before now a b
+answers_told log before now a b tells grew own others = record {
+  tells = tells;
+  own = record { client = tells.on.rest.same.client; told = true; grew = grew; mark = own ∙ or_true (has_mark before a.client) };
+  others = others;
+}
+  where
+    or_true : (t : Bool) → true ≡ (t || true)
+    or_true true = refl
+    or_true false = refl
+
+pub answers_none : (log : List Logged) (told : Clients) (a b : Seat) → TellsSeat log a b → GrewIf false (told_to a) (told_to b) → AnswersSeat log told told a b
+answers_none log told a b tells same = record {
+  tells = tells;
+  own = record { client = tells.on.rest.same.client; told = false; grew = same; mark = or_false (has_mark told a.client) };
+  others = λ client apart. refl;
+}

@@ -1,5 +1,5 @@
 -- Which clients' rings were given replies.
-use Rattle.std.specs.Prelude.{◌≡◌, ◌≢◌, ◌<◌, ◌/◌, ◌%◌, ◌==◌, ℕ, Bool, true, false, List, Some, slice_get, slice_index_or}
+use Rattle.std.specs.Prelude.{◌≡◌, ◌≢◌, ◌<◌, ◌/◌, ◌%◌, ◌==◌, ◌||◌, ℕ, Bool, true, false, List, Some, slice_get, slice_index_or}
 use Rattle.std.specs.Int.{bit_at}
 use Rattle.lt_mail.specs.Telling.{GrewIf}
 use Rattle.lt_spec.specs.declared.limits.TheConstants.{MAX_CLIENTS}
@@ -32,6 +32,18 @@ pub record TellsClients (told : Clients) (old new : List Seat) : Type 0 where
   pub each : EachSeat (RingGrew told) old new
   pub others : (client : ℕ) → AreOthers client old → has_mark told client ≡ false
 
+-- the seat of the same client, which is among these where it was before, or where its ring was given replies
+pub record RingAdds (before now : Clients) (a b : Seat) : Type 0 where
+  pub client : b.client ≡ a.client
+  pub told : Bool
+  pub grew : GrewIf told (told_to a) (told_to b)
+  pub mark : has_mark now a.client ≡ (has_mark before a.client || told)
+
+-- the clients of the seats whose rings were given replies are among these, with those that were before, and no others
+pub record AddsClients (before now : Clients) (old new : List Seat) : Type 0 where
+  pub each : EachSeat (RingAdds before now) old new
+  pub others : (client : ℕ) → AreOthers client old → has_mark now client ≡ has_mark before client
+
 -- each seat's client has a bit, and no two seats are of one client
 pub record HaveOwnBits (seats : List Seat) : Type 0 where
   pub few : (k : ℕ) (seat : Seat) → slice_get seats k ≡ Some seat → seat.client < MAX_CLIENTS
@@ -40,5 +52,5 @@ pub record HaveOwnBits (seats : List Seat) : Type 0 where
 -- one seat told its client, which is marked where its ring was given replies
 pub record AnswersSeat (log : List Logged) (before now : Clients) (a b : Seat) : Type 0 where
   pub tells : TellsSeat log a b
-  pub own : RingGrew now a b
+  pub own : RingAdds before now a b
   pub others : (client : ℕ) → client ≢ a.client → has_mark now client ≡ has_mark before client

@@ -1,11 +1,11 @@
 // What a station tells its clients, and which of them.
-ghost use Rattle.std.specs.Prelude.{◌≡◌, ◌≤◌, ◌<◌, ◌||◌, [], false, length, IfSome, is_some, slice_get, Some};
+ghost use Rattle.std.specs.Prelude.{◌≡◌, ◌≤◌, ◌<◌, ◌||◌, [], length, IfSome, is_some, slice_get, Some};
 ghost use Rattle.lt_mail.specs.Telling.{GrewIf};
 ghost use Rattle.lt_spec.specs.declared.limits.TheConstants.{MAX_CLIENTS};
 ghost use Rattle.lt_live.specs.declared.ends.Seat.{Seat as SeatEnds};
 ghost use Rattle.lt_live.specs.Seats.{IsCursorOf, IsLastLine, TellsMove, TellsSeat, reply_to};
 ghost use Rattle.lt_live.specs.Stations.{EachSeat, SeatAt, HasCursorAt, HaveCursors};
-ghost use Rattle.lt_live.specs.Told.{has_mark, TellsClients, HaveOwnBits, AnswersSeat};
+ghost use Rattle.lt_live.specs.Told.{AddsClients, HaveOwnBits, AnswersSeat};
 ghost use Rattle.lt_live.specs.Words.{outbox_replies, told_to};
 
 use crate::clients::Clients;
@@ -15,21 +15,21 @@ use crate::turning::line_for;
 use lt_log::LongLog;
 use lt_modes::Event;
 
-/// Tells each client its replies, in order, while its ring has places, and says which rings were given some.
-pub(crate) fn answer_all(seats: &mut Vec<Seat>, log: &LongLog) -> Clients
+/// Tells each client its replies, in order, while its ring has places, and adds those to `told` whose rings were given
+/// some.
+pub(crate) fn answer_all(seats: &mut Vec<Seat>, log: &LongLog, told: &mut Clients)
     requires cursors { HaveCursors log.now seats.old.items }
     requires bits { HaveOwnBits seats.old.items }
     ensures tells { EachSeat (TellsSeat log.now.entries) seats.old.items seats.new.items }
-    ensures told { TellsClients result seats.old.items seats.new.items }
+    ensures told { AddsClients told.old told.new seats.old.items seats.new.items }
 {
     let only = line_for(seats.len(), log);
-    let mut told = Clients::none();
     for place in 0..seats.len() {
-        answer_at(seats, log, only, &mut told, place);
+        answer_at(seats, log, only, told, place);
     }
-    told
 }
 
+#[inline(always)]
 fn answer_at(
     seats: &mut Vec<Seat>,
     log: &LongLog,
@@ -41,19 +41,17 @@ fn answer_at(
     requires cursor { HasCursorAt log.now seats.old.items place }
     requires only { IfSome only (λ line. IsLastLine log.now.entries line.now) }
     requires few { (seat : SeatEnds) → slice_get seats.old.items place ≡ Some seat → seat.client < MAX_CLIENTS }
-    requires first { (seat : SeatEnds) → slice_get seats.old.items place ≡ Some seat
-        → has_mark told.old seat.client ≡ false }
     ensures { SeatAt (AnswersSeat log.now.entries told.old told.new) place seats.old.items seats.new.items }
 {
     answer(&mut seats[place], log, only, told);
 }
 
 // Tells the client its replies, and marks it where its ring was given some.
+#[inline(always)]
 fn answer(seat: &mut Seat, log: &LongLog, only: Option<&Event>, told: &mut Clients)
     requires cursor { IsCursorOf log.now seat.old }
     requires only { IfSome only (λ line. IsLastLine log.now.entries line.now) }
     requires few { seat.old.client < MAX_CLIENTS }
-    requires first { has_mark told.old seat.old.client ≡ false }
     ensures { AnswersSeat log.now.entries told.old told.new seat.old seat.new }
 {
     let client = seat.client;
@@ -80,6 +78,7 @@ fn either(first: bool, second: bool) -> bool
 impl Seat {
     // Gives the ring what waits, and then the client's replies of the log, whose last move has this line alone, if one
     // is given. It says whether the ring was given any.
+    #[inline(always)]
     fn answer_after(&mut self, log: &LongLog, only: Option<&Event>) -> bool
         requires cursor { IsCursorOf log.now self.old }
         requires only { IfSome only (λ line. IsLastLine log.now.entries line.now) }
@@ -97,6 +96,7 @@ impl Seat {
     }
 
     // The same, whatever lines the last move has.
+    #[inline(never)]
     fn answer_on(&mut self, log: &LongLog) -> bool
         requires { IsCursorOf log.now self.old }
         ensures tells { TellsSeat log.now.entries self.old self.new }

@@ -1,9 +1,10 @@
 // Some of a script's clients, a bit for each.
-ghost use Rattle.std.specs.Prelude.{◌≡◌, ◌≢◌, ◌<◌, ◌||◌, ℕ, true, false, length};
+ghost use Rattle.std.specs.Prelude.{◌≡◌, ◌≢◌, ◌<◌, ℕ, true, false};
 ghost use Rattle.lt_live.specs.Told.{has_mark, word_has, OtherBitsStay};
 ghost use Rattle.lt_spec.specs.declared.limits.TheConstants.{MAX_CLIENTS};
 
 /// Some of a script's clients: client c is among them where bit c % 64 of word c / 64 is set.
+#[repr(C)]
 #[derive(Clone, Copy, Debug, PartialEq, Eq)]
 pub struct Clients {
     pub words: [u64; 16],
@@ -17,11 +18,11 @@ impl Clients {
         Clients { words: [0; 16] }
     }
 
-    /// The others are among them too.
-    pub fn join(&mut self, others: &Clients)
-        ensures { (client : ℕ) → has_mark self.new client ≡ (has_mark self.old client || has_mark others.now client) }
+    /// No client is among them any more.
+    pub fn clear(&mut self)
+        ensures { (client : ℕ) → has_mark self.new client ≡ false }
     {
-        join_words(&mut self.words, &others.words);
+        self.words = [0; 16];
     }
 
     /// The client is among them.
@@ -31,15 +32,6 @@ impl Clients {
         ensures others { (other : ℕ) → other ≢ client → has_mark self.new other ≡ has_mark self.old other }
     {
         set_bit(&mut self.words, client);
-    }
-}
-
-#[tactic(auto, using(crate::proofs::Marking::joins_more, crate::proofs::Marking::joins_none))]
-fn join_words(words: &mut [u64; 16], others: &[u64; 16])
-    ensures { (k : ℕ) → word_has words.new k ≡ (word_has words.old k || word_has others.now k) }
-{
-    for word in 0..16 {
-        words[word] |= others[word];
     }
 }
 

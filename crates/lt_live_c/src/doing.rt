@@ -1,7 +1,6 @@
 // Commands that are submitted and served in one call.
-ghost use Rattle.std.specs.Prelude.{◌≡◌, ◌<◌, IsSome, Some, IfOk, IfErr, ℕ, false};
+ghost use Rattle.std.specs.Prelude.{◌≡◌, ◌<◌, IsSome, Some, IfOk, IfErr};
 ghost use Rattle.lt_spec.specs.Script.{HasTargets, IsOfVersion};
-ghost use Rattle.lt_live.specs.Told.{word_has};
 ghost use Rattle.lt_live.specs.Words.{SameSession};
 ghost use Rattle.lt_live.specs.Live.{StationGoesOn};
 ghost use Rattle.lt_apart.specs.Remote.{CarriesNone};
@@ -17,7 +16,6 @@ use crate::code::{
 };
 use crate::content::Content;
 use crate::handle::Handle;
-use crate::telling::ClientBits;
 use lt_apart::Remote;
 use lt_live::{Clients, ObeyReport, Obeyed, Session, Station};
 use lt_modes::Command;
@@ -37,14 +35,14 @@ pub extern "C" fn lockrun_do(
     second: u32,
     count: &mut u64,
     sent: &mut u64,
-    told: &mut ClientBits,
+    told: &mut Clients,
 ) -> u32
     ensures some { IsSome station.old.value → IsSome station.new.value }
     ensures some_session { IsSome session.old.value → IsSome session.new.value }
     ensures goes_on { HandleGoesOn station.old.value station.new.value }
     ensures session_goes_on { HandleGoesOn session.old.value session.new.value }
     ensures does { AtBoth result (DoTells result (the_command kind set first second) count.old count.new sent.new
-        told.new.bits) station.old.value station.new.value session.old.value session.new.value }
+        told.new.words) station.old.value station.new.value session.old.value session.new.value }
     ensures untold { result ≡ WRONG_HANDLE
         → (count.new ≡ count.old) × ((sent.new ≡ sent.old) × (told.new ≡ told.old)) }
 {
@@ -64,12 +62,12 @@ fn do_at(
     command: Option<Command>,
     count: &mut u64,
     sent: &mut u64,
-    told: &mut ClientBits,
+    told: &mut Clients,
 ) -> u32
     ensures some { IsSome session.old.value → IsSome session.new.value }
     ensures goes_on { ContentGoesOn node.old node.new }
     ensures session_goes_on { HandleGoesOn session.old.value session.new.value }
-    ensures does { AtBoth result (DoTells result command count.old count.new sent.new told.new.bits)
+    ensures does { AtBoth result (DoTells result command count.old count.new sent.new told.new.words)
         (Some node.old) (Some node.new) session.old.value session.new.value }
     ensures untold { result ≡ WRONG_HANDLE
         → (count.new ≡ count.old) × ((sent.new ≡ sent.old) × (told.new ≡ told.old)) }
@@ -88,11 +86,11 @@ fn do_with(
     command: Option<Command>,
     count: &mut u64,
     sent: &mut u64,
-    told: &mut ClientBits,
+    told: &mut Clients,
 ) -> u32
     ensures goes_on { ContentGoesOn node.old node.new }
     ensures session_goes_on { ContentGoesOn client.old client.new }
-    ensures does { OnBoth result (DoTells result command count.old count.new sent.new told.new.bits)
+    ensures does { OnBoth result (DoTells result command count.old count.new sent.new told.new.words)
         node.old node.new client.old client.new }
     ensures untold { result ≡ WRONG_HANDLE
         → (count.new ≡ count.old) × ((sent.new ≡ sent.old) × (told.new ≡ told.old)) }
@@ -107,50 +105,52 @@ fn do_with(
     }
 }
 
+#[tactic(auto, using(lt_live::proofs::Marking::adds_alone, lt_live::proofs::Marking::adds_none))]
 fn do_of(
     station: &mut Station,
     session: &mut Session,
     command: Option<Command>,
     count: &mut u64,
     sent: &mut u64,
-    told: &mut ClientBits,
+    told: &mut Clients,
 ) -> u32
     ensures goes_on { StationGoesOn station.old station.new }
     ensures same { SameSession session.old session.new }
-    ensures does { DoTells result command count.old count.new sent.new told.new.bits station.old station.new
+    ensures does { DoTells result command count.old count.new sent.new told.new.words station.old station.new
         session.old session.new }
     ensures right { result ≡ WRONG_HANDLE → ⊥ }
 {
+    told.clear();
     match may_do(session, command) {
-        Ok(command) => report(station.obey(session, command, &Open), count, sent, told),
+        Ok(command) => report(station.obey(session, command, &Open, told), count, sent),
         Err(code) => {
             *sent = 0;
-            tell_none(told);
             code
         }
     }
 }
 
+#[tactic(auto, using(lt_live::proofs::Marking::adds_alone, lt_live::proofs::Marking::adds_none))]
 fn do_on(
     remote: &mut Remote,
     session: &mut Session,
     command: Option<Command>,
     count: &mut u64,
     sent: &mut u64,
-    told: &mut ClientBits,
+    told: &mut Clients,
 ) -> u32
     ensures goes_on { StationGoesOn remote.old.station remote.new.station }
     ensures same { SameSession session.old session.new }
-    ensures does { DoTells result command count.old count.new sent.new told.new.bits remote.old.station
+    ensures does { DoTells result command count.old count.new sent.new told.new.words remote.old.station
         remote.new.station session.old session.new }
     ensures carried { CarriesNone remote.old remote.new }
     ensures right { result ≡ WRONG_HANDLE → ⊥ }
 {
+    told.clear();
     match may_do(session, command) {
-        Ok(command) => report(remote.obey(session, command, &Open), count, sent, told),
+        Ok(command) => report(remote.obey(session, command, &Open, told), count, sent),
         Err(code) => {
             *sent = 0;
-            tell_none(told);
             code
         }
     }
@@ -174,16 +174,13 @@ fn may_do(session: &Session, command: Option<Command>) -> Result<Command, u32>
     Ok(command)
 }
 
-// Tells how the command ended, and whom the turns reached.
-fn report(done: ObeyReport, count: &mut u64, sent: &mut u64, told: &mut ClientBits) -> u32
+// Tells how the command ended, and which nodes the turns reached.
+fn report(done: ObeyReport, count: &mut u64, sent: &mut u64) -> u32
     ensures code { result ≡ number_of_obeyed done.obeyed }
     ensures count { count.new ≡ count_of_obeyed done.obeyed count.old }
     ensures sent { sent.new ≡ done.sent }
-    ensures told { told.new.bits ≡ done.told.words }
 {
     *sent = done.sent;
-    let words = done.told.words;
-    told.bits = words;
     match done.obeyed {
         Obeyed::Refused => FULL,
         Obeyed::Told(reply) => number_of_reply(reply, count),
@@ -191,12 +188,4 @@ fn report(done: ObeyReport, count: &mut u64, sent: &mut u64, told: &mut ClientBi
         Obeyed::Full => LOG_FULL,
         Obeyed::NoMemory => NO_MEMORY,
     }
-}
-
-fn tell_none(told: &mut ClientBits)
-    ensures { (client : ℕ) → word_has told.new.bits client ≡ false }
-{
-    let none = Clients::none();
-    let words = none.words;
-    told.bits = words;
 }

@@ -11,16 +11,9 @@ use crate::code::{WRONG_HANDLE, number_of_turn};
 use crate::content::Content;
 use crate::handle::Handle;
 use lt_apart::Remote;
-use lt_live::Station;
+use lt_live::{Clients, Station};
 use lt_runner::Open;
 use std::alloc::Global;
-
-/// Some of a script's clients, each with a bit: that of client c is bit c % 64 of word c / 64.
-#[repr(C)]
-#[derive(Clone, Copy)]
-pub struct ClientBits {
-    pub bits: [u64; 16],
-}
 
 /// Lets a station make a turn, and tells to which nodes it sent letters and which clients it told replies.
 #[unsafe(no_mangle)]
@@ -28,11 +21,11 @@ pub extern "C" fn lockrun_turn_telling(
     alloc: Global,
     station: &mut Handle,
     sent: &mut u64,
-    told: &mut ClientBits,
+    told: &mut Clients,
 ) -> u32
     ensures some { IsSome station.old.value → IsSome station.new.value }
     ensures goes_on { HandleGoesOn station.old.value station.new.value }
-    ensures turns { AtStation result (TurnsTelling result sent.new told.new.bits) station.old.value
+    ensures turns { AtStation result (TurnsTelling result sent.new told.new.words) station.old.value
         station.new.value }
     ensures untold { result ≡ WRONG_HANDLE → (sent.new ≡ sent.old) × (told.new ≡ told.old) }
 {
@@ -45,9 +38,9 @@ pub extern "C" fn lockrun_turn_telling(
 }
 
 #[tactic(auto, using(lt_live::proofs::Settling::same_sessions))]
-fn turn_telling(content: &mut Content, sent: &mut u64, told: &mut ClientBits) -> u32
+fn turn_telling(content: &mut Content, sent: &mut u64, told: &mut Clients) -> u32
     ensures goes_on { ContentGoesOn content.old content.new }
-    ensures turns { OnStation result (TurnsTelling result sent.new told.new.bits) content.old content.new }
+    ensures turns { OnStation result (TurnsTelling result sent.new told.new.words) content.old content.new }
     ensures untold { result ≡ WRONG_HANDLE → (sent.new ≡ sent.old) × (told.new ≡ told.old) }
 {
     match content {
@@ -57,29 +50,27 @@ fn turn_telling(content: &mut Content, sent: &mut u64, told: &mut ClientBits) ->
     }
 }
 
-#[tactic(auto, using(crate::proofs::TurnCodes::turn_is_right))]
-fn tell_of(station: &mut Station, sent: &mut u64, told: &mut ClientBits) -> u32
+#[tactic(auto, using(crate::proofs::TurnCodes::turn_is_right, lt_live::proofs::Marking::adds_alone))]
+fn tell_of(station: &mut Station, sent: &mut u64, told: &mut Clients) -> u32
     ensures goes_on { StationGoesOn station.old station.new }
-    ensures turns { TurnsTelling result sent.new told.new.bits station.old station.new }
+    ensures turns { TurnsTelling result sent.new told.new.words station.old station.new }
     ensures right { result ≡ WRONG_HANDLE → ⊥ }
 {
-    let report = station.turn_telling(&Open);
+    told.clear();
+    let report = station.turn_telling(&Open, told);
     *sent = report.sent;
-    let words = report.told.words;
-    told.bits = words;
     number_of_turn(report.turned)
 }
 
-#[tactic(auto, using(crate::proofs::TurnCodes::turn_is_right))]
-fn tell_at(remote: &mut Remote, sent: &mut u64, told: &mut ClientBits) -> u32
+#[tactic(auto, using(crate::proofs::TurnCodes::turn_is_right, lt_live::proofs::Marking::adds_alone))]
+fn tell_at(remote: &mut Remote, sent: &mut u64, told: &mut Clients) -> u32
     ensures goes_on { StationGoesOn remote.old.station remote.new.station }
-    ensures turns { TurnsTelling result sent.new told.new.bits remote.old.station remote.new.station }
+    ensures turns { TurnsTelling result sent.new told.new.words remote.old.station remote.new.station }
     ensures carried { CarriesNone remote.old remote.new }
     ensures right { result ≡ WRONG_HANDLE → ⊥ }
 {
-    let report = remote.turn_telling(&Open);
+    told.clear();
+    let report = remote.turn_telling(&Open, told);
     *sent = report.sent;
-    let words = report.told.words;
-    told.bits = words;
     number_of_turn(report.turned)
 }

@@ -1,9 +1,9 @@
-use Rattle.std.proofs.Common.{◌≡◌, ◌<◌, false, subst, sym, slice_index_or}
+use Rattle.std.proofs.Common.{◌<◌, subst, sym, slice_index_or}
 use Rattle.std.proofs.lemmas.Option.{slice_get-get_or}
 use Rattle.lt_spec.specs.declared.limits.TheConstants.{MAX_CLIENTS}
 use Rattle.lt_live.specs.declared.ends.Seat.{Seat}
 use Rattle.lt_live.specs.Seats.{IsCursorOf}
-use Rattle.lt_live.specs.Told.{AnswersSeat, has_mark}
+use Rattle.lt_live.specs.Told.{AnswersSeat}
 use Rattle.lt_live.proofs.SeatLists.{seat_set}
 use Rattle.lt_live.proofs.answering.answer_at.Goals as goal
 
@@ -23,9 +23,3 @@ answer-requires-clause-few c =
     let d = c.index_mut.result.now in
     subst (λ (s : Seat). s.client < MAX_CLIENTS) (sym c.index_mut.ensures.value)
     (c.requires.few (slice_index_or c.args.seats.now.items c.args.place d) (slice_get-get_or c.args.seats.now.items c.args.place d c.requires.inside))
-
-pub answer-requires-clause-first : goal.answer-requires-clause-first
-answer-requires-clause-first c =
-    let d = c.index_mut.result.now in
-    subst (λ (s : Seat). has_mark c.args.told.now s.client ≡ false) (sym c.index_mut.ensures.value)
-    (c.requires.first (slice_index_or c.args.seats.now.items c.args.place d) (slice_get-get_or c.args.seats.now.items c.args.place d c.requires.inside))

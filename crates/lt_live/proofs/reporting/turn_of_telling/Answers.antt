@@ -14,29 +14,29 @@ use Rattle.lt_live.proofs.reporting.turn_of_telling.Goals as goal
 pub append_all-fits-requires : goal.append_all-fits-requires
 append_all-fits-requires g c = station_taken c.args.runner.now c.args.seats.now.items c.take_all.new.seats.items c.requires c.take_all.ensures
 
-pub answer_all-told-requires-clause-cursors : goal.answer_all-told-requires-clause-cursors
-answer_all-told-requires-clause-cursors g c =
+pub answer_all-requires-clause-cursors : goal.answer_all-requires-clause-cursors
+answer_all-requires-clause-cursors g c =
     subst (λ (log : LogData). HaveCursors log c.append_all-fits.new.seats.items) (sym c.log.ensures)
     (cursors c.make_move_telling-turned.new.runner c.append_all-fits.new.seats.items
     (station_grew c.append_all-fits.new.runner c.make_move_telling-turned.new.runner c.append_all-fits.new.seats.items c.append_all-fits.ensures.kept c.make_move_telling-turned.ensures.grew))
 
 pub returns-clause-kept : goal.returns-clause-kept
 returns-clause-kept g c =
-    station_told c.make_move_telling-turned.new.runner c.append_all-fits.new.seats.items c.answer_all-told.new.seats.items
+    station_told c.make_move_telling-turned.new.runner c.append_all-fits.new.seats.items c.answer_all.new.seats.items
     (station_grew c.append_all-fits.new.runner c.make_move_telling-turned.new.runner c.append_all-fits.new.seats.items c.append_all-fits.ensures.kept c.make_move_telling-turned.ensures.grew)
-    (subst (λ (log : LogData). EachSeat (TellsSeat log.entries) c.append_all-fits.new.seats.items c.answer_all-told.new.seats.items) c.log.ensures c.answer_all-told.ensures.tells)
+    (subst (λ (log : LogData). EachSeat (TellsSeat log.entries) c.append_all-fits.new.seats.items c.answer_all.new.seats.items) c.log.ensures c.answer_all.ensures.tells)
 
 pub returns-clause-turns : goal.returns-clause-turns
 returns-clause-turns g c =
     let move = c.make_move_telling-turned.ensures in
     turns c.make_move_telling-turned.result.0 c.append_all-fits.result c.args.runner.now c.append_all-fits.new.runner c.make_move_telling-turned.new.runner
-    c.args.seats.now.items c.take_all.new.seats.items c.append_all-fits.new.seats.items c.answer_all-told.new.seats.items
+    c.args.seats.now.items c.take_all.new.seats.items c.append_all-fits.new.seats.items c.answer_all.new.seats.items
     c.take_all.ensures c.append_all-fits.ensures.runner c.append_all-fits.ensures.seats c.append_all-fits.ensures.all c.append_all-fits.ensures.memory
     (record { grew = move.grew; ends = move.ends; shown = move.shown; passed = move.passed; memory = move.memory })
-    (subst (λ (log : LogData). EachSeat (TellsSeat log.entries) c.append_all-fits.new.seats.items c.answer_all-told.new.seats.items) c.log.ensures c.answer_all-told.ensures.tells)
+    (subst (λ (log : LogData). EachSeat (TellsSeat log.entries) c.append_all-fits.new.seats.items c.answer_all.new.seats.items) c.log.ensures c.answer_all.ensures.tells)
 
-pub answer_all-told-requires-clause-bits : goal.answer_all-told-requires-clause-bits
-answer_all-told-requires-clause-bits g c =
+pub answer_all-requires-clause-bits : goal.answer_all-requires-clause-bits
+answer_all-requires-clause-bits g c =
     own_bits c.make_move_telling-turned.new.runner c.append_all-fits.new.seats.items c.commands.ensures.script
     (station_grew c.append_all-fits.new.runner c.make_move_telling-turned.new.runner c.append_all-fits.new.seats.items c.append_all-fits.ensures.kept c.make_move_telling-turned.ensures.grew)
 
@@ -47,8 +47,8 @@ returns-clause-sent g c =
 
 pub returns-clause-told : goal.returns-clause-told
 returns-clause-told g c =
-    turn_tells c.answer_all-told.result c.args.seats.now.items c.take_all.new.seats.items c.append_all-fits.new.seats.items c.answer_all-told.new.seats.items
-    c.take_all.ensures c.append_all-fits.ensures.seats c.answer_all-told.ensures.told
+    turn_tells c.args.told.now c.answer_all.new.told c.args.seats.now.items c.take_all.new.seats.items c.append_all-fits.new.seats.items c.answer_all.new.seats.items
+    c.take_all.ensures c.append_all-fits.ensures.seats c.answer_all.ensures.told
 
 pub returns-clause-flushed : goal.returns-clause-flushed
 returns-clause-flushed g c = λ moves.

@@ -1,7 +1,7 @@
 -- The command is submitted, and then turns are made.
 use Rattle.std.proofs.Common.{◌<◌, arith, refl, sym}
 use Rattle.lt_live.proofs.LiveShares.{goes_itself}
-use Rattle.lt_live.proofs.Marking.{tells_no_client, tells_nothing}
+use Rattle.lt_live.proofs.Marking.{adds_none, tells_nothing}
 use Rattle.lt_live.proofs.UntilTold.{not_refused, obeys_turns, same_session_join}
 use Rattle.lt_live.proofs.station.Station.obey.Goals as goal
 
@@ -39,7 +39,7 @@ pub returns-in-Err-clause-sent : goal.returns-in-Err-clause-sent
 returns-in-Err-clause-sent g c = tells_nothing c.args.self.now.runner.mail
 
 pub returns-in-Err-clause-told : goal.returns-in-Err-clause-told
-returns-in-Err-clause-told g c = tells_no_client c.none.result c.args.self.now.seats c.none.ensures
+returns-in-Err-clause-told g c = adds_none c.args.told.now c.args.self.now.seats
 
 pub returns-in-Err-clause-goes_on : goal.returns-in-Err-clause-goes_on
 returns-in-Err-clause-goes_on g c = goes_itself c.args.self.now.runner

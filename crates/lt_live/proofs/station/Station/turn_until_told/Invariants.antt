@@ -5,7 +5,7 @@ use Rattle.lt_live.specs.declared.obeying.TheConstants.{MOST_TURNS}
 use Rattle.lt_live.specs.Live.{GoesOn}
 use Rattle.lt_live.specs.Obeying.{MakesMoves, KeepsCommands}
 use Rattle.lt_live.specs.Stations.{StaySeated}
-use Rattle.lt_live.specs.Told.{TellsClients}
+use Rattle.lt_live.specs.Told.{AddsClients}
 use Rattle.lt_live.specs.Words.{polled, known_replies, SameSession}
 use Rattle.lt_live.proofs.station.Station.turn_until_told.Given as goal
 
@@ -17,7 +17,7 @@ invariant-loop-turns g l = record {
   polls : polled l.session ≡ polled l.initial.session;
   none : 0 < l.turns → known_replies l.session ≡ [];
   sends : TellsGiven l.sent l.initial.self.runner.mail l.self.runner.mail;
-  tells : TellsClients l.told l.initial.self.seats l.self.seats;
+  tells : AddsClients l.initial.told l.told l.initial.self.seats l.self.seats;
   same : SameSession l.initial.session l.session;
   goes_on : GoesOn l.initial.self.runner l.self.runner;
   seated : StaySeated l.initial.self.seats l.self.seats;
