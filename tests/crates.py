@@ -11,7 +11,7 @@ sys.dont_write_bytecode = True
 from definitions import House
 
 MOST_IN_CHAIN = 10
-MOST_TWICE = 37
+MOST_TWICE = 30
 
 
 def hands_on(crate):

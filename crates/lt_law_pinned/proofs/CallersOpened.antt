@@ -10,7 +10,7 @@ use Rattle.lt_modes.specs.declared.moves.Step.TheVariants.{Act}
 use Rattle.lt_modes.specs.Modes.{conflicts}
 use Rattle.lt_modes.specs.Script.{ScriptData}
 use Rattle.lt_spec.specs.Holdings.{lines_of}
-use Rattle.lt_spec.specs.NodeMove.{commands_of as commands_in}
+use Rattle.lt_spec.specs.NodeMove.{commands_of}
 use Rattle.lt_spec.specs.World.{Logged}
 use Rattle.lt_script.specs.Printing.{print_of}
 use Rattle.lt_script.specs.Printing as printing
@@ -87,8 +87,8 @@ silent_at first last (s ∷ rest) heard (suc k) step here none = silent_at s.lat
 module _ {C : Type 0} (goes : C → Option Reply → Option Command → C → Type 0) where
   -- the caller at this place, with its session
   at_place : (first script : ScriptData) (run : List Logged) (client : ℕ) (s : Session)
-      (caller : C) (place : Option (Called C)) → IsServedSession (commands_in script client) (lines_of run) client s
-      → commands_in script client ≡ submitted s → CallsAt goes (Some caller) s place
+      (caller : C) (place : Option (Called C)) → IsServedSession (commands_of script client) (lines_of run) client s
+      → commands_of script client ≡ submitted s → CallsAt goes (Some caller) s place
       → ((called : Called C) → place ≡ Some called → (command : Command) → called.refused ≡ Some command → ¬ MayCommand first client s command)
       → (after : Called C) × (place ≡ Some after) × CallerTold goes first script run client caller after
   at_place first script run client s caller None served all calls barred = absurd calls

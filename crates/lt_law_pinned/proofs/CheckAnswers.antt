@@ -93,12 +93,12 @@ answered input script answer before denoted e =
     subst (λ (s : ScriptData). checked_input s (lines input) ≡ answer) (one_script input script before denoted) e
 
 -- what is told of the journal in an input is what it is answered
-accepted_run : (input : List ℕ) (script : ScriptData) (run : List Logged) → IsScript script → read_of (take (input_parts input).script input) ≡ Ok script
+pub accepted_run : (input : List ℕ) (script : ScriptData) (run : List Logged) → IsScript script → read_of (take (input_parts input).script input) ≡ Ok script
     → IsFinished script run → IsJournalOf (Some input) script run → checked_input script (lines input) ≡ Ok run
 accepted_run input script run is_script denoted finished journal =
     (accepted_input script input run is_script (read_is_short (take (input_parts input).script input) script denoted)).1 (finished, journal)
 
-refused_line : (input : List ℕ) (script : ScriptData) (line : ℕ) → IsScript script → read_of (take (input_parts input).script input) ≡ Ok script
+pub refused_line : (input : List ℕ) (script : ScriptData) (line : ℕ) → IsScript script → read_of (take (input_parts input).script input) ≡ Ok script
     → IsFirstBadIn script line input → checked_input script (lines input) ≡ Err line
 refused_line input script line is_script denoted bad =
     (refused_input script input line is_script (read_is_short (take (input_parts input).script input) script denoted)).1 bad

@@ -35,6 +35,7 @@ use Rattle.lt_serve.specs.TopCall.{Journals, JournalsInOrder, JournalsBy, Checks
 use Rattle.lt_serve.proofs.NeverCut.{never_cut}
 use Rattle.lt_law_pinned.specs.Worlds.{made_from_233, made_text}
 use Rattle.lt_law_pinned.specs.Whole.{DrawnIs}
+use Rattle.lt_law_pinned.proofs.TwoWritersSay.{same_script}
 use Rattle.lt_law_pinned.proofs.Numbers.{zero_text, one_text, two_text}
 use Rattle.lt_law_pinned.specs.Told.{WordsAre, OpensRun, RunsTold, OrdersTold, TimesTold, two_writers, two_writers_script, both_moves, two_nodes, two_nodes_script, unlocks, four_moves, one_each, one_and_two, WithinTold, FarTold, EachTimeTold, IsNeverCut, EndsTold, SoakTold, CheckedRun, CheckTold, MakeTold, checked_writers, letter_first}
 
@@ -72,9 +73,6 @@ words_are = record {
   no_nodes = refl;
   many_nodes = refl;
 }
-
-pub same_script : (a b : ScriptData) (read : Result ScriptData ScriptFault) → read ≡ Ok a → read ≡ Ok b → a ≡ b
-same_script a b read e f = cc
 
 pub writers_read : read_of two_writers ≡ Ok two_writers_script
 unfolding reading.script_body reading.read_from text.lines text.cut_at reading.line_step text.words

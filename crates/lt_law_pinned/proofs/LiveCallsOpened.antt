@@ -23,7 +23,8 @@ use Rattle.lt_live_serve.specs.Status.{outcome_of}
 use Rattle.lt_law_pinned.specs.Told.{two_writers, two_writers_script}
 use Rattle.lt_law_pinned.specs.LiveCalls.{LiveCodesAre, LiveTextsAre, LiveCall, IsCall, Answers, ReadsBytes, IsUntroubled, ReadsWhole, LiveWordsTold, LiveRefusalsTold, LiveCountsTold, LiveEndsTold, no_nodes, one_lock, one_lock_script}
 use Rattle.lt_law_pinned.proofs.Numbers.{one_text, three_text, five_text, seven_text}
-use Rattle.lt_law_pinned.proofs.LimitsOpened.{same_script, writers_read}
+use Rattle.lt_law_pinned.proofs.TwoWritersSay.{same_script}
+use Rattle.lt_law_pinned.proofs.LimitsOpened.{writers_read}
 
 pub live_codes_are : LiveCodesAre
 live_codes_are = record {

@@ -17,7 +17,8 @@ use Rattle.lt_live_serve.specs.Serves.{Journals, all_replies}
 use Rattle.lt_live_serve.specs.Status.{cut_node}
 use Rattle.lt_law_pinned.specs.Told.{two_writers, two_writers_script, falling, crossed}
 use Rattle.lt_law_pinned.specs.LiveCalls.{one_lock, one_lock_script, LiveRunsTold, LiveSharesTold}
-use Rattle.lt_law_pinned.proofs.LimitsOpened.{same_script, writers_read}
+use Rattle.lt_law_pinned.proofs.TwoWritersSay.{same_script}
+use Rattle.lt_law_pinned.proofs.LimitsOpened.{writers_read}
 use Rattle.lt_law_pinned.proofs.LiveCallsOpened.{did_so, did_read, live_so, one_lock_read, two_fit}
 
 -- the journal of the two writers, of which no run is cut

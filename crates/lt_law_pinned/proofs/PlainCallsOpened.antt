@@ -7,7 +7,7 @@ use Rattle.lt_call.specs.declared.outcome.Outcome.{Outcome}
 use Rattle.lt_call.specs.declared.outcome.Outcome.TheVariants.{Done, Usage, Refused, TooLong, ReadFault, WriteFault, NoMemory, BadJournal}
 use Rattle.lt_call.specs.Outcomes.{HasRead, IsRefused, WritesNothing, SaysOfSource}
 use Rattle.lt_call.specs.Calls.{Serves}
-use Rattle.lt_law_pinned.specs.PlainCalls.{SinkTells, PlainCall, EndsIn, EndsWhole, EndsUnwritten, PlainlyTold, IsPartWritten}
+use Rattle.lt_law_pinned.specs.PlainCalls.{SinkTells, PlainCall, EndsPlainly, EndsWhole, EndsUnwritten, PlainlyTold, IsPartWritten}
 
 pub one_text : decimal 1 ≡ codes "1"
 one_text = decimal_digit 1 (omega arith)
@@ -57,7 +57,7 @@ module _ {A : Type 0} (outcome : A → Outcome) (makes : Option (List ℕ) → L
   not_usage : (c : PlainCall A) → IsPlain c → c.words ≡ 0 → outcome c.answer ≢ Usage
   not_usage c serves none e = let some = serves.usage e in omega (arith, some, none)
 
-  says_of : (c : PlainCall A) (end : Outcome) → EndsIn IsPlain outcome end c → SaysOfSource limit end c.source c.source_after
+  says_of : (c : PlainCall A) (end : Outcome) → EndsPlainly IsPlain outcome end c → SaysOfSource limit end c.source c.source_after
   says_of c end h =
       subst (λ (o : Outcome). SaysOfSource limit o c.source c.source_after) h.end_is (h.serves.reading (not_usage c h.serves h.no_words))
 

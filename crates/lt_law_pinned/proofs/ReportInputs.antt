@@ -55,6 +55,14 @@ pub record InputIs (bytes : List ℕ) (script : ScriptData) (answer : Result (Li
   pub denoted : read_of (take (input_parts bytes).script bytes) ≡ Ok script
   pub answered : checked_input script (lines bytes) ≡ answer
 
+-- so it is, where the lines behind the script are these and answered so
+input_is : (bytes : List ℕ) (script : ScriptData) (before : ℕ) (journal : List (List ℕ)) (answer : Result (List Logged) ℕ) → read_of (take (input_parts bytes).script bytes) ≡ Ok script
+    → lines_before (lines bytes) ≡ before → journal_in (lines bytes) ≡ journal → checked script journal ≡ answer → InputIs bytes script (counted_from before answer)
+input_is bytes script before journal answer denoted count same answered = record {
+  denoted = denoted;
+  answered = ap₂ (λ (n : ℕ) (all : List (List ℕ)). counted_from n (checked script all)) count same ∙ ap (counted_from before) answered;
+}
+
 abbrev apart_lines : List (List ℕ)
 apart_lines = codes "move 1 0 act a" ∷ codes "grant a s write" ∷ codes "move 2 0 act b" ∷ codes "wait b s write" ∷ codes "held a s write 1" ∷ codes "waiting b s write" ∷ codes "owner s 0 0" ∷ codes "end 2" ∷ []
 
@@ -75,12 +83,7 @@ unfolding reading.script_body reading.read_from text.lines text.cut_at reading.l
 apart_denoted = refl
 
 pub apart_is : InputIs writers_apart apart_script (Ok writer_moves)
-apart_is = record {
-  denoted = apart_denoted;
-  answered =
-      ap₂ (λ (before : ℕ) (all : List (List ℕ)). counted_from before (checked apart_script all)) apart_count apart_journal
-      ∙ ap (counted_from 7) apart_checked;
-}
+apart_is = input_is writers_apart apart_script 7 apart_lines (Ok writer_moves) apart_denoted apart_count apart_journal apart_checked
 
 abbrev change_lines : List (List ℕ)
 change_lines = codes "move 1 0 act a" ∷ codes "grant a s read" ∷ codes "move 2 0 act b" ∷ codes "grant b s read" ∷ codes "move 3 0 act a" ∷ codes "wait a s write" ∷ codes "move 4 0 act b" ∷ codes "wait b s write" ∷ codes "held a s read 1" ∷ codes "held b s read 1" ∷ codes "waiting a s write" ∷ codes "waiting b s write" ∷ codes "owner s 0 0" ∷ codes "end 4" ∷ []
@@ -102,12 +105,7 @@ unfolding reading.script_body reading.read_from text.lines text.cut_at reading.l
 change_denoted = refl
 
 pub change_is : InputIs both_change change_script (Ok change_moves)
-change_is = record {
-  denoted = change_denoted;
-  answered =
-      ap₂ (λ (before : ℕ) (all : List (List ℕ)). counted_from before (checked change_script all)) change_count change_journal
-      ∙ ap (counted_from 9) change_checked;
-}
+change_is = input_is both_change change_script 9 change_lines (Ok change_moves) change_denoted change_count change_journal change_checked
 
 abbrev wrong_lines : List (List ℕ)
 wrong_lines = codes "move 1 0 act a" ∷ codes "grant a s read" ∷ []
@@ -129,12 +127,7 @@ unfolding reading.script_body reading.read_from text.lines text.cut_at reading.l
 wrong_denoted = refl
 
 pub wrong_is : InputIs wrong_grant apart_script (Err 9)
-wrong_is = record {
-  denoted = wrong_denoted;
-  answered =
-      ap₂ (λ (before : ℕ) (all : List (List ℕ)). counted_from before (checked apart_script all)) wrong_count wrong_journal
-      ∙ ap (counted_from 7) wrong_checked;
-}
+wrong_is = input_is wrong_grant apart_script 7 wrong_lines (Err 2) wrong_denoted wrong_count wrong_journal wrong_checked
 
 -- their reports
 

@@ -19,6 +19,8 @@ use Rattle.lt_waits.specs.declared.answer.Answer.{Answer}
 use Rattle.lt_waits.specs.declared.answer.Answer.TheVariants.{Done, Usage, Refused, TooLong, ReadFault, WriteFault, NoMemory, BadJournal}
 use Rattle.lt_waits.specs.Answers.{outcome_of}
 use Rattle.lt_waits.specs.Serves.{waits_text, IsReportOf, IsUnfit}
+use Rattle.lt_law_pinned.proofs.TwoWritersSay.{same_script, same_fault, script_or_fault, same_run, same_line, run_or_line}
+use Rattle.lt_law_pinned.proofs.CheckAnswers.{accepted_run, refused_line}
 use Rattle.lt_law_pinned.specs.PlainCalls.{PlainCall, ReadsPlain, PlainlyTold}
 use Rattle.lt_law_pinned.specs.Reports.{ReportCodesAre, ReportTextsAre, IsReportCall, Reports, ReportsTold, no_nodes_fault, writers_apart, writers_report, both_change, wrong_grant}
 use Rattle.lt_law_pinned.proofs.ReportInputs.{InputIs, apart_script, writer_moves, change_script, change_moves, nothing_read, apart_is, change_is, wrong_is, apart_text, change_text, void_is_told}
@@ -49,37 +51,6 @@ report_texts_are = record {
   no_memory = refl;
   bad_journal = ap (λ (line : List ℕ). codes "lockwaits: line " ++ line ++ codes ": journal") seven_text;
 }
-
--- a result says one thing
-
-same_script : (a b : ScriptData) (read : Result ScriptData ScriptFault) → read ≡ Ok a → read ≡ Ok b → a ≡ b
-same_script a b read e f = cc
-
-same_fault : (a b : ScriptFault) (read : Result ScriptData ScriptFault) → read ≡ Err a → read ≡ Err b → a ≡ b
-same_fault a b read e f = cc
-
-script_or_fault : (script : ScriptData) (fault : ScriptFault) (read : Result ScriptData ScriptFault) → read ≡ Ok script → read ≡ Err fault → ⊥
-script_or_fault script fault read e f = cc
-
-same_run : (a b : List Logged) (answer : Result (List Logged) ℕ) → answer ≡ Ok a → answer ≡ Ok b → a ≡ b
-same_run a b answer e f = cc
-
-same_line : (a b : ℕ) (answer : Result (List Logged) ℕ) → answer ≡ Err a → answer ≡ Err b → a ≡ b
-same_line a b answer e f = cc
-
-run_or_line : (run : List Logged) (line : ℕ) (answer : Result (List Logged) ℕ) → answer ≡ Ok run → answer ≡ Err line → ⊥
-run_or_line run line answer e f = cc
-
--- what is told of the journal in an input is what it is answered
-accepted_run : (bytes : List ℕ) (script : ScriptData) (run : List Logged) → IsScript script → read_of (take (input_parts bytes).script bytes) ≡ Ok script
-    → IsFinished script run → IsJournalOf (Some bytes) script run → checked_input script (lines bytes) ≡ Ok run
-accepted_run bytes script run is_script denoted finished journal =
-    (accepted_input script bytes run is_script (read_is_short (take (input_parts bytes).script bytes) script denoted)).1 (finished, journal)
-
-refused_line : (bytes : List ℕ) (script : ScriptData) (line : ℕ) → IsScript script → read_of (take (input_parts bytes).script bytes) ≡ Ok script
-    → IsFirstBadIn script line bytes → checked_input script (lines bytes) ≡ Err line
-refused_line bytes script line is_script denoted bad =
-    (refused_input script bytes line is_script (read_is_short (take (input_parts bytes).script bytes) script denoted)).1 bad
 
 -- the run that is told is the one that the input says
 pub run_so : (bytes : List ℕ) (script : ScriptData) (answer : Result (List Logged) ℕ) (told : ScriptData) (run : List Logged)

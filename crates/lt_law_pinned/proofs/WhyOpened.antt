@@ -24,7 +24,7 @@ use Rattle.lt_waits.specs.Serves.{IsWhyOf, IsUnfit}
 use Rattle.lt_waits.specs.Reasons.{waits_by_lock}
 use Rattle.lt_waits.specs.Shortest.{IsRingNamed}
 use Rattle.lt_waits.specs.Why.{NamesRing, why_text}
-use Rattle.lt_law_pinned.specs.PlainCalls.{SinkTells, PlainCall, EndsIn, ReadsPlain, PlainlyTold}
+use Rattle.lt_law_pinned.specs.PlainCalls.{SinkTells, PlainCall, EndsPlainly, ReadsPlain, PlainlyTold}
 use Rattle.lt_law_pinned.specs.Reports.{no_nodes_fault, writers_apart, both_change, void_script, void_moves, wrong_grant}
 use Rattle.lt_law_pinned.specs.WhyCalls.{WhyWordsAre, IsWhyCall, WhyTold, writer_why, first_why, second_why, behind_why, four_script, four_wait}
 use Rattle.lt_law_pinned.proofs.ReportInputs.{InputIs, apart_script, writer_moves, change_script, change_moves, nothing_read, apart_is, change_is, wrong_is}
@@ -234,8 +234,8 @@ IsLikeReport c = HasWords c c.words
 like_report : (c : PlainCall Answer) → IsWhyCall c → IsLikeReport c
 like_report c call = subst (HasWords c) (sym call.0) call.1
 
-ends_like : (end : Outcome) (c : PlainCall Answer) → EndsIn IsWhyCall outcome_of end c
-    → EndsIn IsLikeReport outcome_of end c
+ends_like : (end : Outcome) (c : PlainCall Answer) → EndsPlainly IsWhyCall outcome_of end c
+    → EndsPlainly IsLikeReport outcome_of end c
 ends_like end c h = record {
   serves = like_report c h.serves;
   no_words = h.no_words;

@@ -6,7 +6,7 @@ use Rattle.lt_modes.specs.declared.command.Command.TheVariants.{Lock, Unlock}
 use Rattle.lt_modes.specs.declared.mode.Mode.TheVariants.{Write}
 use Rattle.lt_modes.specs.Script.{ScriptData}
 use Rattle.lt_spec.specs.Holdings.{lines_of}
-use Rattle.lt_spec.specs.NodeMove.{commands_of as commands_in, with_commands}
+use Rattle.lt_spec.specs.NodeMove.{commands_of, with_commands}
 use Rattle.lt_spec.specs.Script.{IsScript}
 use Rattle.lt_spec.specs.World.{Logged, IsRun}
 use Rattle.lt_merge.specs.Merging.{AreRising}
@@ -18,7 +18,7 @@ use Rattle.lt_live_callers.specs.declared.ending.LiveEnding.TheVariants.{Done, S
 use Rattle.lt_live_callers.specs.declared.error.CallersError.TheVariants.{Count, Limit, NoMemory}
 use Rattle.lt_live_callers.specs.declared.served.Called.{Called}
 use Rattle.lt_live_callers.specs.declared.served.Served.{Served}
-use Rattle.lt_live_callers.specs.Desks.{StepOf, Went, replies_of, commands_of}
+use Rattle.lt_live_callers.specs.Desks.{StepOf, Went, replies_in_steps, commands_in_steps}
 use Rattle.lt_live_callers.specs.Refused.{NamesOwn}
 use Rattle.lt_live_callers.specs.Served.{CallersEndSo, IsServedBy, with_journal}
 use Rattle.lt_live_callers.specs.Texts.{error_text}
@@ -58,12 +58,12 @@ module _ {C : Type 0} (goes : C → Option Reply → Option Command → C → Ty
       : Type 0 where
     pub steps : List (StepOf C)
     pub went : Went goes caller steps after.caller
-    pub told : IsPrefix (replies_of steps) (replies_in client (lines_of run))
+    pub told : IsPrefix (replies_in_steps steps) (replies_in client (lines_of run))
     pub silent : (k : ℕ) (step : StepOf C) → slice_get steps k ≡ Some step → step.reply ≡ None
         → known_replies step.session ≡ []
     pub given : List Command
-    pub asked : given ++ command_held after.refused ≡ commands_of steps
-    pub all : commands_in script client ≡ given
+    pub asked : given ++ command_held after.refused ≡ commands_in_steps steps
+    pub all : commands_of script client ≡ given
     pub refused : (command : Command) → after.refused ≡ Some command → length given < equal_share first
         → NamesOwn first client command → ⊥
 

@@ -32,7 +32,7 @@ SinkHolds old new c = (c.sink.held ≡ Some old) × (c.sink_after.held ≡ Some 
 
 module _ {A : Type 0} (is_call : PlainCall A → Type 0) (outcome : A → Outcome) where
   -- the program answers so without words, where all counts begin at 0
-  pub record EndsIn (end : Outcome) (c : PlainCall A) : Type 0 where
+  pub record EndsPlainly (end : Outcome) (c : PlainCall A) : Type 0 where
     pub serves : is_call c
     pub no_words : c.words ≡ 0
     pub end_is : outcome c.answer ≡ end
@@ -51,11 +51,11 @@ module _ {A : Type 0} (is_call : PlainCall A → Type 0) (outcome : A → Outcom
 
   -- with this answer the source was read to its end
   abbrev pub EndsWhole : Outcome → Type 0
-  EndsWhole end = (c : PlainCall A) → EndsIn end c → c.source_after.ends ≡ 1
+  EndsWhole end = (c : PlainCall A) → EndsPlainly end c → c.source_after.ends ≡ 1
 
   -- with this answer nothing was written
   abbrev pub EndsUnwritten : Outcome → Type 0
-  EndsUnwritten end = (c : PlainCall A) → EndsIn end c → c.sink_after ≡ c.sink
+  EndsUnwritten end = (c : PlainCall A) → EndsPlainly end c → c.sink_after ≡ c.sink
 
   -- no read or write failed, the input has no more than so many bytes, and memory wasn't wanting
   pub record IsPlainlyUntroubled (limit : ℕ) (c : PlainCall A) : Type 0 where
@@ -73,14 +73,14 @@ module _ {A : Type 0} (is_call : PlainCall A → Type 0) (outcome : A → Outcom
     pub unwritten : (c : PlainCall A) → is_call c → c.words ≡ 1 → c.sink_after ≡ c.sink
     pub no_usage : (c : PlainCall A) → is_call c → c.words ≡ 0 → outcome c.answer ≢ Usage
     -- what is counted
-    pub too_long : (c : PlainCall A) → EndsIn TooLong c → c.source_after.given ≡ limit + 1
-    pub not_too_long : (c : PlainCall A) → EndsIn NoMemory c → c.source_after.given ≤ limit
+    pub too_long : (c : PlainCall A) → EndsPlainly TooLong c → c.source_after.given ≡ limit + 1
+    pub not_too_long : (c : PlainCall A) → EndsPlainly NoMemory c → c.source_after.given ≤ limit
     -- memory was wanting once bytes came, or once the source was found at its end
-    pub memory : (c : PlainCall A) → EndsIn NoMemory c → (0 < c.source_after.given) ⊎ (c.source_after.ends ≡ 1)
-    pub read_fault : (c : PlainCall A) → EndsIn ReadFault c → c.source_after.faults ≡ 1
-    pub no_read_fault : (c : PlainCall A) → EndsIn NoMemory c → c.source_after.faults ≡ 0
-    pub write_fault : (c : PlainCall A) → EndsIn WriteFault c → c.sink_after.faults ≡ 1
-    pub no_write_fault : (c : PlainCall A) → EndsIn Done c → c.sink_after.faults ≡ 0
+    pub memory : (c : PlainCall A) → EndsPlainly NoMemory c → (0 < c.source_after.given) ⊎ (c.source_after.ends ≡ 1)
+    pub read_fault : (c : PlainCall A) → EndsPlainly ReadFault c → c.source_after.faults ≡ 1
+    pub no_read_fault : (c : PlainCall A) → EndsPlainly NoMemory c → c.source_after.faults ≡ 0
+    pub write_fault : (c : PlainCall A) → EndsPlainly WriteFault c → c.sink_after.faults ≡ 1
+    pub no_write_fault : (c : PlainCall A) → EndsPlainly Done c → c.sink_after.faults ≡ 0
     pub whole_done : EndsWhole Done
     pub whole_write : EndsWhole WriteFault
     pub whole_refused : EndsWhole Refused

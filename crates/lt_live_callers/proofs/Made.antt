@@ -17,7 +17,7 @@ use Rattle.lt_live_callers.specs.declared.served.Served.{Served}
 use Rattle.lt_live_callers.specs.Refused.{NamesOwn, CanSubmit, MayCommand}
 use Rattle.lt_live_callers.specs.Desks.{caller_of, called_of, session_of, StationsGoOn}
 use Rattle.lt_live_callers.specs.Over.{MadeRounds}
-use Rattle.lt_live_callers.specs.Served.{CallsIn, NoneRefused, AreDesks, AreServing, AreEnded, IsServedBy, IsServedIn, WereOpened, AreServed}
+use Rattle.lt_live_callers.specs.Served.{CallsIn, NoneRefused, AreDesks, AreServing, AreEnded, IsServedBy, IsServedIn, WereOpened, CallersAreServed}
 use Rattle.lt_live_callers.proofs.Steps.{no_steps, knows_same}
 use Rattle.lt_live_callers.proofs.Taken.{have_made}
 
@@ -154,9 +154,9 @@ module _ {C : Type 0} where
       (callers : List C) (opened stations : List StationData) (desks : List (Desk C)) (served : Served C)
       → WereOpened script limit opened → StationsGoOn (times made) opened stations → AreServing goes (times made) script limit callers stations desks
       → MadeRounds says rounds made (map called_of desks) → AreEnded script limit stations desks served → served.rounds ≡ made
-      → AreServed goes says rounds (times served.rounds) limit script callers served
+      → CallersAreServed goes says rounds (times served.rounds) limit script callers served
   are_served goes says times rounds made script limit callers opened stations desks served fresh turns serving worked ended same =
-      subst (λ (k : ℕ). AreServed goes says rounds (times k) limit script callers served) (sym same)
+      subst (λ (k : ℕ). CallersAreServed goes says rounds (times k) limit script callers served) (sym same)
       (record {
         called = served_in goes (times made) script limit callers stations desks served serving ended;
         worked = subst (λ (k : ℕ). MadeRounds says rounds k served.callers.items) (sym same)

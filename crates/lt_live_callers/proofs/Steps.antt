@@ -10,7 +10,7 @@ use Rattle.lt_live.specs.Words.{submitted, polled, known_replies, command_held, 
 use Rattle.lt_live.proofs.SeatLists.{pushed}
 use Rattle.lt_live.proofs.Settling.{session_itself, same_sessions}
 use Rattle.lt_live_callers.specs.declared.desk.Desk.{Desk}
-use Rattle.lt_live_callers.specs.Desks.{told, HearsAtDesk, SubmitsAtDesk, KnowsMore, StepOf, HearsInStep, Heard, Went, replies_of, commands_of, called_of, LastAnswers, AreSteps, DeskGoesOn, IsAsked}
+use Rattle.lt_live_callers.specs.Desks.{reply_told, HearsAtDesk, SubmitsAtDesk, KnowsMore, StepOf, HearsInStep, Heard, Went, replies_in_steps, commands_in_steps, called_of, LastAnswers, AreSteps, DeskGoesOn, IsAsked}
 use Rattle.lt_live_callers.specs.Refused.{NamesOwn, NamesAll, CanSubmit}
 use Rattle.lt_live_callers.specs.Served.{CallsIn}
 
@@ -84,7 +84,7 @@ module _ {C : Type 0} where
   hears_one s mid o hears submits = record {
     same = same_sessions s.session mid s.later hears.same submits.same;
     polled = submits.replies.0 ∙ hears.polled;
-    known = subst (λ (list : List Reply). IsPrefix (known_replies s.session) (told s.reply ++ list)) (sym submits.replies.1) hears.known;
+    known = subst (λ (list : List Reply). IsPrefix (known_replies s.session) (reply_told s.reply ++ list)) (sym submits.replies.1) hears.known;
     none = hears.none;
   }
 
@@ -165,7 +165,7 @@ module _ {C : Type 0} (goes : C → Option Reply → Option Command → C → Ty
         steps = the_step ∷ [];
         went = (did, refl);
         heard = (knows_same a.session a.session refl, hears_one the_step mid b.refused hears submits, knows_same b.session b.session refl);
-        told = submits.replies.0 ∙ hears.polled ∙ sym (ap (λ (rest : List Reply). polled a.session ++ rest) (append-nil (told reply)));
+        told = submits.replies.0 ∙ hears.polled ∙ sym (ap (λ (rest : List Reply). polled a.session ++ rest) (append-nil (reply_told reply)));
         asked = submits.submitted ∙ ap (λ (xs : List Command). xs ++ command_held command) hears.submitted
             ∙ sym (ap (λ (xs : List Command). xs ++ command_held command)
             (ap (λ (o : Option Command). submitted a.session ++ command_held o) free ∙ append-nil (submitted a.session)))
@@ -180,25 +180,25 @@ module _ {C : Type 0} (goes : C → Option Reply → Option Command → C → Ty
   went_on a b c [] ys first second = subst (λ (x : C). Went goes x ys c) first second
   went_on a b c (x ∷ xs) ys first second = (first.0, went_on x.after b c xs ys first.1 second)
 
-  replies_append : (xs ys : List (StepOf C)) → replies_of (xs ++ ys) ≡ replies_of xs ++ replies_of ys
+  replies_append : (xs ys : List (StepOf C)) → replies_in_steps (xs ++ ys) ≡ replies_in_steps xs ++ replies_in_steps ys
   replies_append [] ys = refl
-  replies_append (x ∷ xs) ys = ap (λ (rest : List Reply). told x.reply ++ rest) (replies_append xs ys) ∙ sym (append_assoc (told x.reply) (replies_of xs) (replies_of ys))
+  replies_append (x ∷ xs) ys = ap (λ (rest : List Reply). reply_told x.reply ++ rest) (replies_append xs ys) ∙ sym (append_assoc (reply_told x.reply) (replies_in_steps xs) (replies_in_steps ys))
 
-  commands_append : (xs ys : List (StepOf C)) → commands_of (xs ++ ys) ≡ commands_of xs ++ commands_of ys
+  commands_append : (xs ys : List (StepOf C)) → commands_in_steps (xs ++ ys) ≡ commands_in_steps xs ++ commands_in_steps ys
   commands_append [] ys = refl
-  commands_append (x ∷ xs) ys = ap (λ (rest : List Command). command_held x.command ++ rest) (commands_append xs ys) ∙ sym (append_assoc (command_held x.command) (commands_of xs) (commands_of ys))
+  commands_append (x ∷ xs) ys = ap (λ (rest : List Command). command_held x.command ++ rest) (commands_append xs ys) ∙ sym (append_assoc (command_held x.command) (commands_in_steps xs) (commands_in_steps ys))
 
   pub desk_join : (n m k : ℕ) (a b c : Desk C) → k ≡ n + m → DeskGoesOn goes n a b → DeskGoesOn goes m b c → DeskGoesOn goes k a c
   desk_join n m k a b c sum first second = record {
     same = same_sessions a.session b.session c.session first.same second.same;
     steps = first.steps ++ second.steps;
     went = went_on a.caller b.caller c.caller first.steps second.steps first.went second.went;
-    told = second.told ∙ ap (λ (xs : List Reply). xs ++ replies_of second.steps) first.told
-        ∙ append_assoc (polled a.session) (replies_of first.steps) (replies_of second.steps)
+    told = second.told ∙ ap (λ (xs : List Reply). xs ++ replies_in_steps second.steps) first.told
+        ∙ append_assoc (polled a.session) (replies_in_steps first.steps) (replies_in_steps second.steps)
         ∙ sym (ap (λ (rest : List Reply). polled a.session ++ rest) (replies_append first.steps second.steps));
     heard = heard_on a.session b.session c.session first.steps second.steps first.heard second.heard;
-    asked = second.asked ∙ ap (λ (xs : List Command). xs ++ commands_of second.steps) first.asked
-        ∙ append_assoc (submitted a.session ++ command_held a.refused) (commands_of first.steps) (commands_of second.steps)
+    asked = second.asked ∙ ap (λ (xs : List Command). xs ++ commands_in_steps second.steps) first.asked
+        ∙ append_assoc (submitted a.session ++ command_held a.refused) (commands_in_steps first.steps) (commands_in_steps second.steps)
         ∙ sym (ap (λ (rest : List Command). (submitted a.session ++ command_held a.refused) ++ rest) (commands_append first.steps second.steps));
     many = λ free. steps_join n m k b.refused c.refused first.steps second.steps sum (first.many free) second.many second.over;
     over = λ command was.
@@ -220,8 +220,8 @@ module _ {C : Type 0} (goes : C → Option Reply → Option Command → C → Ty
       first = calls.first;
       fresh = calls.fresh;
       heard = heard_on calls.first b.session c.session calls.steps second.steps calls.heard second.heard;
-      told = second.told ∙ ap (λ (xs : List Reply). xs ++ replies_of second.steps) calls.told ∙ sym (replies_append calls.steps second.steps);
-      asked = second.asked ∙ ap (λ (xs : List Command). xs ++ commands_of second.steps) calls.asked ∙ sym (commands_append calls.steps second.steps);
+      told = second.told ∙ ap (λ (xs : List Reply). xs ++ replies_in_steps second.steps) calls.told ∙ sym (replies_append calls.steps second.steps);
+      asked = second.asked ∙ ap (λ (xs : List Command). xs ++ commands_in_steps second.steps) calls.asked ∙ sym (commands_append calls.steps second.steps);
     },
     steps_join n m k b.refused c.refused calls.steps second.steps sum steps second.many second.over,
   )

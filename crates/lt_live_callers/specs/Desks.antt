@@ -13,16 +13,16 @@ use Rattle.lt_live_callers.specs.declared.served.Called.{Called}
 use Rattle.lt_live_callers.specs.Places.{Each}
 use Rattle.lt_live_callers.specs.Refused.{CanSubmit, NamesAll}
 
-abbrev pub told : Option Reply → List Reply
-told None = []
-told (Some reply) = reply ∷ []
+abbrev pub reply_told : Option Reply → List Reply
+reply_told None = []
+reply_told (Some reply) = reply ∷ []
 
 -- the next reply was polled, if one is known
 pub record HearsAtDesk (result : Option Reply) (old new : Session) : Type 0 where
   pub same : SameSession old new
-  pub polled : polled new ≡ polled old ++ told result
+  pub polled : polled new ≡ polled old ++ reply_told result
   pub submitted : submitted new ≡ submitted old
-  pub known : IsPrefix (known_replies old) (told result ++ known_replies new)
+  pub known : IsPrefix (known_replies old) (reply_told result ++ known_replies new)
   pub none : result ≡ None → known_replies old ≡ []
 
 -- the command, if there is one, was submitted, or comes back since it might not be
@@ -54,19 +54,19 @@ module _ {C : Type 0} where
   Went goes a [] b = b ≡ a
   Went goes a (s ∷ rest) b = goes a s.reply s.command s.after × Went goes s.after rest b
 
-  abbrev pub replies_of : List (StepOf C) → List Reply
-  replies_of [] = []
-  replies_of (s ∷ rest) = told s.reply ++ replies_of rest
+  abbrev pub replies_in_steps : List (StepOf C) → List Reply
+  replies_in_steps [] = []
+  replies_in_steps (s ∷ rest) = reply_told s.reply ++ replies_in_steps rest
 
-  abbrev pub commands_of : List (StepOf C) → List Command
-  commands_of [] = []
-  commands_of (s ∷ rest) = command_held s.command ++ commands_of rest
+  abbrev pub commands_in_steps : List (StepOf C) → List Command
+  commands_in_steps [] = []
+  commands_in_steps (s ∷ rest) = command_held s.command ++ commands_in_steps rest
 
   -- the caller was told the next reply that its session knew; nothing only where it knew none
   pub record HearsInStep (s : StepOf C) : Type 0 where
     pub same : SameSession s.session s.later
-    pub polled : polled s.later ≡ polled s.session ++ told s.reply
-    pub known : IsPrefix (known_replies s.session) (told s.reply ++ known_replies s.later)
+    pub polled : polled s.later ≡ polled s.session ++ reply_told s.reply
+    pub known : IsPrefix (known_replies s.session) (reply_told s.reply ++ known_replies s.later)
     pub none : s.reply ≡ None → known_replies s.session ≡ []
 
   -- from the first session to the second one, in each of these steps the caller was told what its session knew
@@ -85,8 +85,8 @@ module _ {C : Type 0} where
   called_of desk = record { caller = desk.caller; done = desk.done; refused = desk.refused }
 
   -- the command that was refused might not be submitted
-  abbrev pub IsBarred : Desk C → Type 0
-  IsBarred desk = (back : Command) → desk.refused ≡ Some back → ¬ CanSubmit desk.session back
+  abbrev pub IsRightlyRefused : Desk C → Type 0
+  IsRightlyRefused desk = (back : Command) → desk.refused ≡ Some back → ¬ CanSubmit desk.session back
 
   -- the last of the steps answered with this command
   pub record LastAnswers (command : Command) (steps : List (StepOf C)) : Type 0 where
@@ -106,13 +106,13 @@ module _ {C : Type 0} where
     pub same : SameSession a.session b.session
     pub steps : List (StepOf C)
     pub went : Went goes a.caller steps b.caller
-    pub told : polled b.session ≡ polled a.session ++ replies_of steps
+    pub told : polled b.session ≡ polled a.session ++ replies_in_steps steps
     pub heard : Heard a.session steps b.session
     pub asked : submitted b.session ++ command_held b.refused
-        ≡ (submitted a.session ++ command_held a.refused) ++ commands_of steps
+        ≡ (submitted a.session ++ command_held a.refused) ++ commands_in_steps steps
     pub many : a.refused ≡ None → AreSteps n b.refused steps
     pub over : (command : Command) → a.refused ≡ Some command → (steps ≡ []) × (b.refused ≡ Some command)
-    pub barred : IsBarred a → IsBarred b
+    pub barred : IsRightlyRefused a → IsRightlyRefused b
     pub names : NamesAll a.session → NamesAll b.session
 
   abbrev pub DesksGoOn : (C → Option Reply → Option Command → C → Type 0) → ℕ → List (Desk C) → List (Desk C) → Type 0

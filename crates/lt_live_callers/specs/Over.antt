@@ -4,12 +4,12 @@ use Rattle.lt_live_callers.specs.declared.served.Called.{Called}
 
 module _ {C : Type 0} where
   -- the caller needs no more steps, as it said at the end, or may make none, since a command of its was refused
-  abbrev pub IsOver : Called C → Type 0
-  IsOver called = (called.done ≡ true) ⊎ (called.refused ≢ None)
+  abbrev pub NeedsNoStep : Called C → Type 0
+  NeedsNoStep called = (called.done ≡ true) ⊎ (called.refused ≢ None)
 
   -- so it is of each
   abbrev pub AreOver : List (Called C) → Type 0
-  AreOver callers = (client : ℕ) (called : Called C) → slice_get callers client ≡ Some called → IsOver called
+  AreOver callers = (client : ℕ) (called : Called C) → slice_get callers client ≡ Some called → NeedsNoStep called
 
   -- each said at the end that it is done
   abbrev pub AreDone : List (Called C) → Type 0

@@ -25,7 +25,7 @@ use Rattle.lt_live_callers.specs.declared.ending.LiveEnding.TheVariants.{Done, S
 use Rattle.lt_live_callers.specs.declared.desk.Desk.{Desk}
 use Rattle.lt_live_callers.specs.declared.served.Called.{Called}
 use Rattle.lt_live_callers.specs.declared.served.Served.{Served}
-use Rattle.lt_live_callers.specs.Desks.{StepOf, Went, Heard, AreSteps, replies_of, commands_of, caller_of, called_of, session_of, IsBarred, StationsGoOn}
+use Rattle.lt_live_callers.specs.Desks.{StepOf, Went, Heard, AreSteps, replies_in_steps, commands_in_steps, caller_of, called_of, session_of, IsRightlyRefused, StationsGoOn}
 use Rattle.lt_live_callers.specs.Over.{MadeRounds}
 use Rattle.lt_live_callers.specs.Refused.{MayCommand, NamesAll}
 use Rattle.lt_live_callers.specs.Taking.{GoesFurther, HearsAll, AreAllAppended}
@@ -52,10 +52,6 @@ abbrev pub as_live : Ending → LiveEnding
 as_live endings.Done = Done
 as_live endings.Stuck = Stuck
 as_live (endings.Cut node) = Unfinished node
-
--- runners went on to where one could make a move
-abbrev pub MemoryIsWanted : List Parts → Type 0
-MemoryIsWanted rs = (between : List Parts) × EachIs Grew rs between × SomeCouldMove between
 
 -- the text of a script, the line `journal`, and the text of a run of it at rest
 abbrev pub with_journal : ScriptData → List Logged → List ℕ
@@ -100,12 +96,12 @@ module _ {C : Type 0} where
       (a : C) (s : Session) (b : Called C) : Type 0 where
     pub steps : List (StepOf C)
     pub went : Went goes a steps b.caller
-    pub told : polled s ≡ replies_of steps
+    pub told : polled s ≡ replies_in_steps steps
     -- its session, as it was opened, knew no reply, and whatever it knew later the caller was told in its next step
     pub first : Session
     pub fresh : (polled first ≡ []) × (known_replies first ≡ [])
     pub heard : Heard first steps s
-    pub asked : submitted s ++ command_held b.refused ≡ commands_of steps
+    pub asked : submitted s ++ command_held b.refused ≡ commands_in_steps steps
 
   abbrev pub CallsAt : (C → Option Reply → Option Command → C → Type 0) → Option C → Session → Option (Called C)
       → Type 0
@@ -147,7 +143,7 @@ module _ {C : Type 0} where
         (by_callers.each client s here)
 
   -- all that is said of callers that are served
-  pub record AreServed (goes : C → Option Reply → Option Command → C → Type 0)
+  pub record CallersAreServed (goes : C → Option Reply → Option Command → C → Type 0)
       (says : C → Bool → Type 0) (rounds n limit : ℕ) (first : ScriptData) (callers : List C)
       (served : Served C) : Type 0 where
     pub called : IsServedIn goes n first callers served
@@ -185,7 +181,7 @@ module _ {C : Type 0} where
         → CallsIn goes n (slice_get callers client) d.session (Some (called_of d))
     pub shares : (client : ℕ) (d : Desk C) → slice_get desks client ≡ Some d → d.session.share ≡ equal_share script
     pub roomy : (client : ℕ) (d : Desk C) → slice_get desks client ≡ Some d → d.session.share ≤ places d.session
-    pub barred : (client : ℕ) (d : Desk C) → slice_get desks client ≡ Some d → IsBarred d
+    pub barred : (client : ℕ) (d : Desk C) → slice_get desks client ≡ Some d → IsRightlyRefused d
     pub names : (client : ℕ) (d : Desk C) → slice_get desks client ≡ Some d → NamesAll d.session
     pub hears : (client : ℕ) (d : Desk C) → slice_get desks client ≡ Some d → HearsAll script stations client d.session
 

@@ -3,7 +3,7 @@ ghost use Rattle.std.specs.Prelude.{◌≡◌, ◌<◌, true, Some, length, map,
 ghost use Rattle.lt_live.specs.Words.{SameSession};
 ghost use Rattle.lt_live_callers.specs.Desks.{DeskGoesOn, DesksGoOn, HearsAtDesk, SubmitsAtDesk, IsAsked, called_of};
 ghost use Rattle.lt_live_callers.specs.Places.{OneAt};
-ghost use Rattle.lt_live_callers.specs.Over.{IsOver, AreOver, HaveSaid};
+ghost use Rattle.lt_live_callers.specs.Over.{NeedsNoStep, AreOver, HaveSaid};
 
 use crate::caller::Caller;
 use lt_live::{Reply, Session};
@@ -71,7 +71,7 @@ pub(crate) fn all_over<C: Caller>(desks: &mut Vec<Desk<C>>) -> bool
 fn ask_at<C: Caller>(desks: &mut Vec<Desk<C>>, place: usize) -> bool
     requires { place < length desks.old.items }
     ensures asked { OneAt (IsAsked C.says) place desks.old.items desks.new.items }
-    ensures over { result ≡ true → (desk : _) → slice_get desks.new.items place ≡ Some desk → IsOver (called_of desk) }
+    ensures over { result ≡ true → (desk : _) → slice_get desks.new.items place ≡ Some desk → NeedsNoStep (called_of desk) }
 {
     desks[place].ask()
 }
@@ -80,7 +80,7 @@ impl<C: Caller> Desk<C> {
     // Asks the caller whether it is done; tells whether it needs no step.
     fn ask(&mut self) -> bool
         ensures asked { IsAsked C.says self.old self.new }
-        ensures over { result ≡ true → IsOver (called_of self.new) }
+        ensures over { result ≡ true → NeedsNoStep (called_of self.new) }
     {
         self.done = self.caller.is_done();
         self.done || self.refused.is_some()

@@ -2,14 +2,11 @@
 //! sessions.
 #![tactic(auto)]
 
-mod alone;
 mod caller;
 mod desk;
 mod ending;
 mod error;
-mod moving;
 mod opening;
-mod resting;
 mod served;
 mod serving;
 mod taking;
@@ -19,5 +16,5 @@ pub use caller::Caller;
 pub use ending::LiveEnding;
 pub use error::CallersError;
 pub use served::{Called, Served};
-pub use serving::{serve_callers, serve_callers_alone};
+pub use serving::serve_callers;
 pub use turning::TIMES_A_ROUND;

@@ -10,9 +10,8 @@ ghost use Rattle.lt_live_callers.specs.declared.turning.TheConstants.{TIMES_A_RO
 ghost use Rattle.lt_live_callers.specs.Desks.{called_of, session_of};
 ghost use Rattle.lt_live_callers.specs.Over.{AreOver, HaveSaid};
 ghost use Rattle.lt_live_callers.specs.Taking.{AreAsking};
-ghost use Rattle.lt_live_callers.specs.Served.{IsServedIn, AreEnded, AreServed, ComesOfTurns, IsNoLimit};
+ghost use Rattle.lt_live_callers.specs.Served.{IsServedIn, AreEnded, CallersAreServed, ComesOfTurns, IsNoLimit};
 
-use crate::alone::work_alone;
 use crate::caller::Caller;
 use crate::desk::Desk;
 use crate::ending::end_run;
@@ -30,7 +29,7 @@ use std::thread::Threads;
 /// beside them on as many more. A node makes up to `limit` moves.
 ///
 /// They work in rounds, until each caller is done or has a command that it might not submit, or the rounds are over.
-/// Then the nodes take in the commands that are left, and make the moves that there are. The script's own commands are
+/// Then the nodes take in the commands that are left, and make the moves that there are, on so many threads too. The script's own commands are
 /// left out. Where there isn't a caller for each client, that is the answer, whatever the limit, and nothing is begun.
 pub fn serve_callers<R: Threads + Sync, C: Caller + Send + Drop>(
     rt: &R,
@@ -60,33 +59,6 @@ pub fn serve_callers<R: Threads + Sync, C: Caller + Send + Drop>(
     Ok(served)
 }
 
-/// As `serve_callers`, all on the thread of this call: in each round each caller makes a step, and then the nodes make
-/// all moves that there are.
-pub fn serve_callers_alone<C: Caller + Drop>(
-    alloc: Global,
-    script: &Script,
-    callers: Vec<C>,
-    limit: u32,
-    rounds: u32,
-) -> Result<Served<C>, CallersError>
-    ensures served { IfOk result (λ served.
-        IsServedIn C.goes served.rounds (record script.now { commands = [] }) callers.items served) }
-    ensures said { IfOk result (λ served. HaveSaid C.says served.callers.items) }
-    ensures rounds { IfOk result (λ served.
-        (served.rounds ≤ rounds) × (served.rounds < rounds → AreOver served.callers.items)) }
-    ensures turned { IfOk result (λ served.
-        ComesOfTurns (record script.now { commands = [] }) limit served.rounds served.script served.run.entries) }
-    ensures within { IfOk result (λ served. StaysWithin limit served.script served.run.entries) }
-    ensures far { IfOk result (λ served. GoesFar limit served.script served.run.entries) }
-    ensures count { (result ≡ Err errors.Count) ↔ (length callers.items ≢ length script.now.clients) }
-    ensures limit { (result ≡ Err errors.Limit)
-        ↔ ((length callers.items ≡ length script.now.clients) × IsNoLimit limit) }
-{
-    may_begin(script, callers.len(), limit)?;
-    let served = serve_alone(alloc, script, callers, limit, rounds)?;
-    Ok(served)
-}
-
 // A caller for each client, on threads.
 fn serve<R: Threads + Sync, C: Caller + Send + Drop>(
     rt: &R,
@@ -100,45 +72,26 @@ fn serve<R: Threads + Sync, C: Caller + Send + Drop>(
     requires count { length callers.items ≡ length script.now.clients }
     requires limit { (0 < limit) × (limit ≤ MAX_MOVES) }
     ensures { IfOk result (λ served.
-        AreServed C.goes C.says rounds (served.rounds * TIMES_A_ROUND) limit
+        CallersAreServed C.goes C.says rounds (served.rounds * TIMES_A_ROUND) limit
         (record script.now { commands = [] }) callers.items served) }
 {
     law_live_lasts();
     let bare = script.without_commands(alloc)?;
     let (mut stations, mut desks) = begin(alloc, &bare, callers, limit)?;
     let made = work(rt, &mut stations, &mut desks, threads, rounds);
-    let served = end(alloc, &bare, stations, desks, limit, made)?;
-    Ok(served)
-}
-
-// A caller for each client, on this thread.
-fn serve_alone<C: Caller + Drop>(
-    alloc: Global,
-    script: &Script,
-    callers: Vec<C>,
-    limit: u32,
-    rounds: u32,
-) -> Result<Served<C>, AllocError>
-    requires count { length callers.items ≡ length script.now.clients }
-    requires limit { (0 < limit) × (limit ≤ MAX_MOVES) }
-    ensures { IfOk result (λ served.
-        AreServed C.goes C.says rounds served.rounds limit (record script.now { commands = [] }) callers.items served) }
-{
-    law_live_lasts();
-    let bare = script.without_commands(alloc)?;
-    let (mut stations, mut desks) = begin(alloc, &bare, callers, limit)?;
-    let made = work_alone(&mut stations, &mut desks, rounds);
-    let served = end(alloc, &bare, stations, desks, limit, made)?;
+    let served = end(rt, alloc, &bare, stations, desks, limit, threads, made)?;
     Ok(served)
 }
 
 // The run of the stations, once they have taken in all commands, and the callers at its end.
-fn end<C: Drop>(
+fn end<R: Threads + Sync, C: Drop>(
+    rt: &R,
     alloc: Global,
     bare: &Script,
     mut stations: Vec<Station>,
     desks: Vec<Desk<C>>,
     limit: u32,
+    threads: usize,
     rounds: u32,
 ) -> Result<Served<C>, AllocError>
     requires asking { AreAsking bare.now stations.items (map session_of desks.items) }
@@ -149,7 +102,7 @@ fn end<C: Drop>(
 {
     let (callers, mut sessions) = part(alloc, desks)?;
     take_all_in(bare, &mut stations, &mut sessions)?;
-    let (script, run, ending) = end_run(alloc, stations, sessions, limit)?;
+    let (script, run, ending) = end_run(rt, alloc, stations, sessions, limit, threads)?;
     Ok(Served {
         script,
         run,

@@ -11,18 +11,18 @@ take_all_in-requires g c =
     subst (λ (all : List Session). AreAsking c.args.bare.now c.args.stations.items all) (sym c.in_ok-callers.ensures.sessions) c.requires.asking
 
 pub end_run-requires-clause-live : goal.end_run-requires-clause-live
-end_run-requires-clause-live g c = (c.args.bare.now, c.in_ok-take_all_in.ensures.takes.asking.live)
+end_run-requires-clause-live g c κs within = (c.args.bare.now, c.in_ok-take_all_in.ensures.takes.asking.live)
 
 pub end_run-requires-clause-limits : goal.end_run-requires-clause-limits
-end_run-requires-clause-limits g c =
+end_run-requires-clause-limits g c κs within =
     limits_served c.args.limit c.args.stations.items c.take_all_in.new.stations.items c.in_ok-take_all_in.ensures.takes.serves c.requires.limits
 
 pub end_run-requires-clause-all : goal.end_run-requires-clause-all
-end_run-requires-clause-all g c =
+end_run-requires-clause-all g c κs within =
     all_served c.args.stations.items c.take_all_in.new.stations.items c.in_ok-take_all_in.ensures.takes.serves c.requires.all
 
 pub end_run-requires-clause-shares : goal.end_run-requires-clause-shares
-end_run-requires-clause-shares g c =
+end_run-requires-clause-shares g c κs within =
     equal_shares c.args.bare.now c.take_all_in.new.stations.items c.take_all_in.new.sessions.items c.in_ok-take_all_in.ensures.takes.asking
 
 pub returns-clause-ended : goal.returns-clause-ended
