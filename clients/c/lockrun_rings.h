@@ -12,7 +12,7 @@
 
 enum { LOCKRUN_MOST_CLIENTS = 64 * LOCKRUN_ROWS, LOCKRUN_MOST_PAIRS = 1 << 20 };
 
-/* What a client asks for, if it does; whether it is for another reason than those that are seen; and whether it still counts. */
+/* What a client asks for, if it does; whether it waits for another reason than those that are seen; and whether it waits. */
 typedef struct { uint32_t set, mode; char asks, hidden, waits; } lockrun_asking;
 
 static inline lockrun_asking lockrun_asking_of(lockrun_nodes *nodes, uint32_t client) {
@@ -64,7 +64,7 @@ static inline void lockrun_list_asks(lockrun_nodes *nodes, lockrun_asking *asks)
     for (uint32_t k = 0; k < nodes->callers; k++) if (asks[k].hidden) asks[k].mode = LOCKRUN_WRITE;
 }
 
-/* Whether a client waits for another one that still counts: for a lock of that one, or behind its ask. */
+/* Whether a client waits for another one that waits too: for a lock of that one, or behind its ask. */
 static inline int lockrun_waits_for(lockrun_nodes *nodes, uint32_t client, uint32_t other, const lockrun_asking *asks) {
     const lockrun_asking *ask = &asks[client];
     if (client == other || !asks[other].waits) return 0;
@@ -73,37 +73,48 @@ static inline int lockrun_waits_for(lockrun_nodes *nodes, uint32_t client, uint3
            (ask->hidden || lockrun_stands_behind(nodes, ask->set, client, other));
 }
 
-/* The least client that still counts and for which this one waits; as many as there are clients, if there is none. */
-static inline uint32_t lockrun_waited_for(lockrun_nodes *nodes, uint32_t client, const lockrun_asking *asks) {
-    uint32_t other = 0;
-    while (other < nodes->callers && !lockrun_waits_for(nodes, client, other, asks)) other++;
-    return other;
-}
+/* A walk from client to client for which it waits: who is on it, in order; and of each client how many others were looked at. Who was
+ * left again doesn't wait any more: none of those for which it waits leads to a ring. */
+typedef struct {
+    uint32_t client[LOCKRUN_MOST_CLIENTS], looked[LOCKRUN_MOST_CLIENTS];
+    size_t length;
+    lockrun_asking asks[LOCKRUN_MOST_CLIENTS];
+} lockrun_walk;
 
-/* Those who wait for nobody that still counts don't count any more: whether there were any. */
-static inline int lockrun_leave_out(lockrun_nodes *nodes, lockrun_asking *asks) {
-    int left_out = 0;
-    for (uint32_t k = 0; k < nodes->callers; k++) {
-        if (!asks[k].waits || lockrun_waited_for(nodes, k, asks) < nodes->callers) continue;
-        asks[k].waits = 0;
-        left_out = 1;
+/* Goes on from the last client of the walk, or leaves it: whether it came to one that is on it. */
+static inline int lockrun_step(lockrun_nodes *nodes, lockrun_walk *walk, uint32_t *found) {
+    const uint32_t last = walk->client[walk->length - 1];
+    while (walk->looked[last] < nodes->callers) {
+        const uint32_t other = walk->looked[last]++;
+        if (!lockrun_waits_for(nodes, last, other, walk->asks)) continue;
+        *found = other;
+        for (size_t k = 0; k < walk->length; k++) if (walk->client[k] == other) return 1;
+        walk->client[walk->length++] = other;
+        return 0;
     }
-    return left_out;
+    walk->asks[last].waits = 0;
+    walk->length--;
+    return 0;
 }
 
 /* A ring of clients, of nodes that this thread has and that rest: LOCKRUN_OK, and each of the ring waits for the next, and the last
  * for the first; or LOCKRUN_NOTHING. */
 static inline uint32_t lockrun_find_ring(lockrun_nodes *nodes, uint32_t *ring, size_t *length) {
-    lockrun_asking asks[LOCKRUN_MOST_CLIENTS];
-    uint32_t start = 0;
-    size_t count = 0;
-    lockrun_list_asks(nodes, asks);
-    while (lockrun_leave_out(nodes, asks)) {}
-    while (start < nodes->callers && !asks[start].waits) start++;
-    if (start == nodes->callers) return LOCKRUN_NOTHING;
-    for (uint32_t k = 0; k < nodes->callers; k++) start = lockrun_waited_for(nodes, start, asks); /* it is in a ring by then */
-    for (uint32_t next = start; !count || next != start; next = lockrun_waited_for(nodes, next, asks)) ring[count++] = next;
-    *length = count;
-    return LOCKRUN_OK;
+    lockrun_walk walk;
+    uint32_t found = 0;
+    lockrun_list_asks(nodes, walk.asks);
+    memset(walk.looked, 0, sizeof walk.looked);
+    for (uint32_t start = 0; start < nodes->callers; start++) {
+        walk.client[0] = start;
+        walk.length = walk.asks[start].waits ? 1 : 0;
+        while (walk.length && !lockrun_step(nodes, &walk, &found)) {}
+        if (!walk.length) continue;
+        size_t first = 0;
+        while (walk.client[first] != found) first++;
+        *length = walk.length - first;
+        memcpy(ring, walk.client + first, *length * sizeof *ring);
+        return LOCKRUN_OK;
+    }
+    return LOCKRUN_NOTHING;
 }
 #endif

@@ -35,6 +35,11 @@ static inline int lockrun_is_to_give_up(const lockrun_caller *caller) {
     return caller->nodes->victims_after && caller->waits && !caller->withdraws && lockrun_was_victim(caller);
 }
 
+/* Somebody waits from now on, or gives up: without this no ring comes to be. What it asked was submitted before. */
+static inline void lockrun_note_wait(lockrun_nodes *nodes) {
+    if (nodes->victims_after) atomic_fetch_add(&nodes->waits, (uint64_t)1);
+}
+
 /* Submits that it gives up: the node that has work by it. Where its commands are used up it goes on waiting. */
 static inline uint64_t lockrun_be_victim(lockrun_caller *caller) {
     const uint32_t code = lockrun_submit(&caller->session, LOCKRUN_WITHDRAW, caller->set, caller->number, 0);
@@ -43,17 +48,18 @@ static inline uint64_t lockrun_be_victim(lockrun_caller *caller) {
         return 0;
     }
     caller->withdraws = 1;
+    lockrun_note_wait(caller->nodes);
     lockrun_mark(caller->nodes, caller->home);
     return lockrun_bit(caller->home);
 }
 
 /* Of a ring the one that asked last is chosen, and told, unless one of them was before: the nodes are this thread's. */
 static inline void lockrun_choose(lockrun_nodes *nodes, const uint32_t *ring, size_t length) {
-    lockrun_caller *youngest = 0;
+    lockrun_caller *youngest = &nodes->caller[ring[0]];
     for (size_t k = 0; k < length; k++) {
         lockrun_caller *caller = &nodes->caller[ring[k]];
         if (lockrun_was_victim(caller)) return;
-        if (!youngest || atomic_load(&caller->sleeper.ask) > atomic_load(&youngest->sleeper.ask)) youngest = caller;
+        if (atomic_load(&caller->sleeper.ask) > atomic_load(&youngest->sleeper.ask)) youngest = caller;
     }
     atomic_store(&youngest->sleeper.victim, atomic_load(&youngest->sleeper.ask));
     lockrun_notify(nodes, youngest->number);
@@ -64,17 +70,20 @@ static inline int64_t lockrun_next_look(const lockrun_nodes *nodes) {
     return nodes->victims_after ? lockrun_now() + nodes->victims_after : (int64_t)LOCKRUN_FOREVER;
 }
 
-/* Looks for a ring, unless somebody did it just now. */
+/* Looks for a ring, unless somebody did it just now, or found none and nobody began to wait since. */
 static inline void lockrun_look_for_ring(lockrun_nodes *nodes) {
     uint32_t ring[LOCKRUN_MOST_CLIENTS];
     size_t length = 0;
     const int64_t now = lockrun_now();
+    const uint64_t waits = atomic_load(&nodes->waits);
+    if (waits == atomic_load(&nodes->seen)) return;
     if (now - (int64_t)atomic_load(&nodes->looked) < nodes->victims_after / 2) return;
     atomic_store(&nodes->looked, (uint64_t)now);
     lockrun_keep_all(nodes);
     int rests = 0;
     for (unsigned round = 0; !rests && round < LOCKRUN_ROUNDS; round++) rests = lockrun_all_find_nothing(nodes);
     if (rests && lockrun_find_ring(nodes, ring, &length) == LOCKRUN_OK) lockrun_choose(nodes, ring, length);
+    else if (rests) atomic_store(&nodes->seen, waits);
     lockrun_return_all(nodes);
 }
 #endif

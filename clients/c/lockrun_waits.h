@@ -104,6 +104,7 @@ static inline uint32_t lockrun_wait_until(lockrun_caller *caller, int64_t end) {
     if (lockrun_take_reply(caller)) return caller->answer;
     uint64_t owed = lockrun_unturned(nodes);
     int64_t look = lockrun_next_look(nodes);
+    lockrun_note_wait(nodes);
     int came = 0;
     for (unsigned looks = 0;; looks++) {
         if (lockrun_is_to_give_up(caller)) owed |= lockrun_be_victim(caller);

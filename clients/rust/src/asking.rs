@@ -46,7 +46,7 @@ impl Session {
     }
 
     fn granted(&mut self, code: u32, set: u32, mode: Mode) -> Result<Guard<'_>, Error> {
-        match code {
+        match self.waiter.known(code)? {
             exports::GRANTED => Ok(Guard::new(self, set, mode)),
             code => Err(Error::of(code)),
         }

@@ -11,6 +11,11 @@ pub(crate) struct Heard {
 }
 
 impl Heard {
+    /// Whether nobody was told anything.
+    pub fn is_nothing(&self) -> bool {
+        self.sent == 0 && self.told.bits.iter().all(|&bits| bits == 0)
+    }
+
     fn add(&mut self, sent: u64, told: &Clients) {
         self.sent |= sent;
         self.told.bits.iter_mut().zip(&told.bits).for_each(|(all, some)| *all |= some);
@@ -76,6 +81,18 @@ pub(crate) fn held(station: &mut Handle, client: u32, from: u32) -> Option<(u32,
     // SAFETY: as above.
     let counts = [0, 1, 2, 3, 4, 5].map(|mode| unsafe { exports::lockrun_locks(station, client, set, mode) });
     (code == exports::OK).then_some((set, counts))
+}
+
+/// How many locks of a mode a client of the station's node holds in a set.
+pub(crate) fn locks(station: &mut Handle, client: u32, set: u32, mode: u32) -> u64 {
+    // SAFETY: as above.
+    unsafe { exports::lockrun_locks(station, client, set, mode) }
+}
+
+/// Whether in the queue of a set at the station's node an ask of the client stands behind one of the other one.
+pub(crate) fn behind(station: &mut Handle, set: u32, client: u32, other: u32) -> bool {
+    // SAFETY: as above.
+    unsafe { exports::lockrun_behind(station, set, client, other) == exports::OK }
 }
 
 /// The set and the mode that a client of the station's node waits for.

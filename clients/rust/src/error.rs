@@ -32,6 +32,9 @@ pub enum Error {
     /// The wait was given up, since its time is over or another client gave it up. The session asks for nothing, and holds what it
     /// held.
     Withdrawn,
+    /// The wait was in a ring of waits, and the session, which asked last of them, gave up by the policy
+    /// ([`victims`](crate::Opening::victims)). It asks for nothing, and holds what it held.
+    Victim,
     /// What the session gave up before in this set still stands at another node: `Session::ask` again later.
     Withheld,
     /// The time is over, and the lock is still asked for: `Session::wait` goes on waiting, and `Session::give_up` gives it up.
@@ -40,6 +43,8 @@ pub enum Error {
     NothingAsked,
     /// All clients of the pool are out, and none was given back in this time.
     NoClient,
+    /// All sets for names, or all of the parent's family, are in use.
+    NamesFull,
     /// These are not all sessions that were opened with the nodes.
     OtherSessions,
     /// A frame is of another version of the format.
@@ -106,10 +111,12 @@ impl fmt::Display for Error {
             Error::NotHeld => "the client doesn't hold this mode",
             Error::Busy => "the client whose locks should be dropped waits",
             Error::Withdrawn => "the wait was given up",
+            Error::Victim => "the wait was in a ring of waits, and was given up as the youngest",
             Error::Withheld => "what the client gave up in this set still stands",
             Error::StillWaits => "the client still waits",
             Error::NothingAsked => "the client asked for nothing",
             Error::NoClient => "no client of the pool is free",
+            Error::NamesFull => "all sets for names are in use",
             Error::OtherSessions => "these are not all sessions of the nodes",
             Error::OtherVersion => "a frame is of another version of the format",
             Error::OtherService => "a frame is of another service: of another script, or of another start",

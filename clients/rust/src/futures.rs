@@ -47,6 +47,8 @@ impl Asking {
         if self.state == State::New {
             self.state = State::Waits;
             waiter.stations.begin_wait();
+            waiter.stations.begin_task();
+            waiter.stations.victims.0.note_wait();
         }
         waiter.stations.seat(waiter.client).begin_wait(context.waker());
         waiter.stations.help_all();
@@ -60,17 +62,22 @@ impl Asking {
     // What was withheld is asked for again, after a pause.
     fn end(&mut self, waiter: &Waiter, code: u32, context: &Context<'_>) -> Poll<Result<u32, Error>> {
         self.leave(waiter);
-        if code == exports::WITHHELD {
-            self.state = State::New;
-            waiter.stations.help_all();
-            wake_later(context.waker());
-            return Poll::Pending;
+        if code != exports::WITHHELD {
+            waiter.end_withheld();
+            return Poll::Ready(waiter.known(code));
         }
-        Poll::Ready(Ok(code))
+        if let Err(why) = waiter.begin_withheld(self.asked.set) {
+            return self.fail(waiter, why);
+        }
+        self.state = State::New;
+        waiter.stations.help_all();
+        wake_later(context.waker());
+        Poll::Pending
     }
 
     fn fail(&mut self, waiter: &Waiter, why: Error) -> Poll<Result<u32, Error>> {
         self.leave(waiter);
+        waiter.end_withheld();
         Poll::Ready(Err(why))
     }
 
@@ -79,12 +86,14 @@ impl Asking {
         if self.state == State::Waits {
             waiter.stations.seat(waiter.client).end();
             waiter.stations.end_wait();
+            waiter.stations.end_task();
         }
         self.state = State::Done;
     }
 
     // Gives up what is still asked for: the reply's code, if it came first.
     fn cancel(&mut self, waiter: &mut Waiter) -> Option<u32> {
+        waiter.end_withheld();
         if self.state != State::Waits {
             return None;
         }

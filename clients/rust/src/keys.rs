@@ -9,11 +9,23 @@ pub(crate) struct Keys {
     pub first: u32,
     pub families: u32,
     pub members: u32,
+    /// How many families behind these are for exact names.
+    pub names: u32,
 }
 
 impl Keys {
     /// No families: no key has a set.
-    pub const NONE: Keys = Keys { first: 0, families: 0, members: 0 };
+    pub const NONE: Keys = Keys { first: 0, families: 0, members: 1, names: 0 };
+
+    /// How many families there are: none, if they are more than any service has.
+    pub fn all(&self) -> Option<u32> {
+        self.families.checked_add(self.names)
+    }
+
+    /// The first set behind those for keys; the nodes are open, so it is one.
+    pub fn end(&self) -> u32 {
+        self.first + self.families * self.members
+    }
 }
 
 impl Nodes {
@@ -48,7 +60,7 @@ impl Nodes {
     }
 
     fn set_of(&self, parent: &[u8], key: &[u8]) -> Result<u32, Error> {
-        let Keys { first, families, members } = self.keys;
+        let Keys { first, families, members, .. } = self.keys;
         calls::key(first, families, members, parent, key)
     }
 }

@@ -3,13 +3,14 @@ use crate::error::{check, Error};
 use crate::exports::{self, Handle};
 use crate::journal::{read_journal, Journal, Served};
 use crate::keys::Keys;
+use crate::names::Names;
 use crate::opening::Take;
 use crate::pool::Pool;
 use crate::session::Session;
 use crate::station::Claim;
 use crate::stations::Stations;
 use std::sync::Arc;
-use std::thread::sleep;
+use std::thread::{sleep, yield_now};
 use std::time::Duration;
 
 /// How long it pauses before it takes again what found no memory.
@@ -40,12 +41,14 @@ pub struct Nodes {
     pub(crate) homes: Vec<usize>,
     keeps: bool,
     pub(crate) keys: Keys,
+    pub(crate) names: Names,
     pub(crate) pool: Pool,
 }
 
 impl Nodes {
     pub(crate) fn new(service: Handle, stations: Arc<Stations>, homes: Vec<usize>, keys: Keys, keeps: bool) -> Nodes {
-        Nodes { service, stations, homes, keeps, keys, pool: Pool::default() }
+        let names = Names::new(keys.end(), keys.names, keys.members);
+        Nodes { service, stations, homes, keeps, keys, names, pool: Pool::default() }
     }
 
     /// Lets each node forget its moves and commands: their memory serves further ones. Then they have no journal. Other
@@ -121,7 +124,7 @@ impl Nodes {
             return Err(Error::LogFull);
         }
         let sessions: Vec<Handle> = sessions.into_iter().map(Session::into_handle).collect();
-        let stations = Arc::try_unwrap(self.stations).map_err(|_| Error::OtherSessions)?;
+        let stations = alone(self.stations);
         let mut all = stations.into_handles().chain(sessions);
         all.try_for_each(|mut handle| give(&mut self.service, &mut handle))?;
         finish(self.service)
@@ -132,6 +135,17 @@ impl Nodes {
 fn are_all<'s>(stations: &Arc<Stations>, clients: usize, sessions: impl ExactSizeIterator<Item = &'s Session>) -> bool {
     let is_own = |(client, session): (usize, &Session)| session.is_of(stations) && session.client() as usize == client;
     sessions.len() == clients && sessions.enumerate().all(is_own)
+}
+
+// The sessions have ended, so nobody else has them for long.
+fn alone(mut stations: Arc<Stations>) -> Stations {
+    loop {
+        match Arc::try_unwrap(stations) {
+            Ok(stations) => return stations,
+            Err(others) => stations = others,
+        }
+        yield_now();
+    }
 }
 
 fn give(service: &mut Handle, given: &mut Handle) -> Result<(), Error> {

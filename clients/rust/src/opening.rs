@@ -6,7 +6,9 @@ use crate::keys::Keys;
 use crate::nodes::Nodes;
 use crate::session::Session;
 use crate::stations::Stations;
+use crate::victims::Victims;
 use std::sync::Arc;
+use std::time::Duration;
 
 /// How many places the rings of a session have.
 const PLACES: u32 = 4;
@@ -33,6 +35,7 @@ pub struct Opening<'a> {
     keys: Keys,
     limit: u64,
     keeps: bool,
+    victims: Option<Duration>,
 }
 
 impl<'a> Opening<'a> {
@@ -45,7 +48,8 @@ impl<'a> Opening<'a> {
     /// # Ok::<(), lockrun::Error>(())
     /// ```
     pub fn new(script: &'a str) -> Opening<'a> {
-        Opening { script, sets: &[], keys: Keys::NONE, limit: LIMIT, keeps: false }
+        let first = script.lines().filter(|line| line.split_whitespace().next() == Some("set")).count() as u32;
+        Opening { script, sets: &[], keys: Keys { first, ..Keys::NONE }, limit: LIMIT, keeps: false, victims: None }
     }
 
     /// Further sets behind those of the script, at most 65,536 with these. If they are more than 8 the nodes have no journal.
@@ -72,8 +76,45 @@ impl<'a> Opening<'a> {
     /// # Ok::<(), lockrun::Error>(())
     /// ```
     pub fn keys(self, families: u32, members: u32) -> Opening<'a> {
-        let first = self.script.lines().filter(|line| line.split_whitespace().next() == Some("set")).count() as u32;
-        Opening { keys: Keys { first, families, members }, ..self }
+        Opening { keys: Keys { families, members, ..self.keys }, ..self }
+    }
+
+    /// Sets for so many exact names without a parent, behind those for keys: see [`Nodes::name`]. Where `keys` says that a family has
+    /// `members` sets, each has a family for itself and `members - 1` names under it.
+    ///
+    /// ```
+    /// # use lockrun::{Mode, Opening};
+    /// let nodes = Opening::new("nodes 1\nclient ann at 0\n").names(1000).open_pool()?;
+    /// let mut client = nodes.client()?;
+    /// let _lock = client.lock(nodes.name("any name")?, Mode::Write)?;
+    /// # Ok::<(), lockrun::Error>(())
+    /// ```
+    pub fn names(self, names: u32) -> Opening<'a> {
+        Opening { keys: Keys { names, ..self.keys }, ..self }
+    }
+
+    /// Who waits for longer than this looks for a ring of clients that wait for one another, again and again, and the youngest of it
+    /// gives up: the one that asked last has [`Error::Victim`]. It is found once all nodes rest. Without this nobody gives up so. On
+    /// several nodes somebody may give up who needn't: where an ask that was given up before stands in the way it isn't known for what.
+    /// While tasks wait, a thread looks for them. In a script of version 2 it is a `BadArgument`.
+    ///
+    /// ```
+    /// # use lockrun::{Error, Mode, Opening};
+    /// # use std::{thread::scope, time::Duration};
+    /// let script = "nodes 1\nset a\nset b\nclient ann at 0\nclient ben at 0\n";
+    /// let (_nodes, mut sessions) = Opening::new(script).victims(Duration::from_millis(10)).open()?;
+    /// let (mut ben, mut ann) = (sessions.remove(1), sessions.remove(0));
+    /// let (mut one, mut other) = (ann.lock(0, Mode::Write)?, ben.lock(1, Mode::Write)?);
+    /// scope(|scope| {
+    ///     let waits = scope.spawn(move || one.and(1, Mode::Write).map(drop));
+    ///     let waited = other.and(0, Mode::Write).map(drop);
+    ///     drop(other);
+    ///     assert!([waited, waits.join().unwrap()].contains(&Err(Error::Victim)));
+    /// });
+    /// # Ok::<(), lockrun::Error>(())
+    /// ```
+    pub fn victims(self, after: Duration) -> Opening<'a> {
+        Opening { victims: Some(after.max(Duration::from_micros(1))), ..self }
     }
 
     /// How many moves each node makes at most: when they are used up no further call of its clients is answered.
@@ -108,12 +149,15 @@ impl<'a> Opening<'a> {
     /// # Ok::<(), lockrun::Error>(())
     /// ```
     pub fn open(self) -> Result<(Nodes, Vec<Session>), Error> {
-        let script = with_version(self.script);
+        let (script, gives_up) = (with_version(self.script), version(self.script) != 2);
+        if self.victims.is_some() && !gives_up {
+            return Err(Error::BadArgument);
+        }
         let mut service = self.open_service(&script)?;
         let stations = take_all(&mut service, exports::lockrun_take_station)?;
         let sessions = take_all(&mut service, exports::lockrun_take_session)?;
-        let stations = Arc::new(Stations::new(stations, sessions.len(), !self.keeps));
-        let gives_up = version(self.script) != 2;
+        let victims = Victims::new(self.victims);
+        let stations = Arc::new(Stations::new(stations, sessions.len(), !self.keeps, victims));
         let sessions: Vec<Session> =
             sessions.into_iter().map(|raw| Session::new(raw, stations.clone(), gives_up)).collect();
         let homes = sessions.iter().map(|session| session.waiter.home).collect();
@@ -135,7 +179,7 @@ impl<'a> Opening<'a> {
 
     fn open_service(&self, script: &str) -> Result<Handle, Error> {
         let (text, length, mut service) = (script.as_ptr(), script.len(), Handle::NONE);
-        let Keys { families, members, .. } = self.keys;
+        let (families, members) = (self.keys.all().ok_or(Error::TooMany)?, self.keys.members);
         let sets: Vec<exports::NewSet> = self.sets.iter().map(new_set).collect();
         let code = match (families, sets.is_empty()) {
             // SAFETY: the text and the names are borrowed for the call, and the handle stands for nothing.

@@ -107,6 +107,16 @@ impl Turned {
         (Ended::Moved, true)
     }
 
+    /// Makes one turn; and whether rings that were full may have places since, where it found nothing to do.
+    pub fn turn_once(&mut self, heard: &mut Heard) -> (u32, bool) {
+        let code = calls::turn(&mut self.handle, heard);
+        if code == exports::OK {
+            self.was_called = true;
+            self.count();
+        }
+        (code, code == exports::NOTHING && std::mem::take(&mut self.was_called))
+    }
+
     /// Submits a command of a session of this node and makes turns until the reply is there, or none is to come yet.
     pub fn submit_and_turn(&mut self, session: &mut Handle, asked: Asked, heard: &mut Heard) -> (u32, u64) {
         self.was_called = true;

@@ -18,6 +18,7 @@ use crate::calls::{bits_of, Heard};
 use crate::exports::{self, Handle};
 use crate::seat::Seat;
 use crate::station::{Claim, Ended, Station};
+use crate::victims::Victims;
 use crate::waiting::Asked;
 use std::sync::atomic::{AtomicBool, AtomicU64, AtomicUsize, Ordering::SeqCst};
 use std::thread::{sleep, yield_now};
@@ -32,7 +33,7 @@ const PAUSE: Duration = Duration::from_millis(1);
 /// What lies alone in its lines of the caches.
 #[repr(align(128))]
 #[derive(Default)]
-struct Alone<T>(T);
+pub(crate) struct Alone<T>(pub T);
 
 pub(crate) struct Stations {
     stations: Vec<Station>,
@@ -41,17 +42,27 @@ pub(crate) struct Stations {
     seats: Vec<Seat>,
     waiting: Alone<AtomicUsize>,
     is_full: Alone<AtomicBool>,
+    pub victims: Alone<Victims>,
 }
 
 impl Stations {
-    pub fn new(handles: Vec<Handle>, clients: usize, forgets: bool) -> Stations {
+    pub fn new(handles: Vec<Handle>, clients: usize, forgets: bool, victims: Victims) -> Stations {
         Stations {
             marks: handles.iter().map(|_| Alone::default()).collect(),
             stations: handles.into_iter().map(|handle| Station::new(handle, forgets)).collect(),
             seats: (0..clients as u32).map(Seat::new).collect(),
             waiting: Alone::default(),
             is_full: Alone::default(),
+            victims: Alone(victims),
         }
+    }
+
+    pub fn seats(&self) -> &[Seat] {
+        &self.seats
+    }
+
+    pub fn count(&self) -> usize {
+        self.stations.len()
     }
 
     pub fn seat(&self, client: u32) -> &Seat {
@@ -157,6 +168,24 @@ impl Stations {
         bits_of(kept).for_each(|sender| self.mark(sender));
         self.after(ended);
         kept | heard.sent & self.all() | u64::from(self.is_marked(node)) << node
+    }
+
+    /// One turn of a node that this thread has, and what comes of it.
+    pub fn turn_claimed(&self, node: usize, claim: &mut Claim<'_>, heard: &mut Heard) -> u32 {
+        let senders = self.marks[node].0.swap(0, SeqCst) & !(1 << node);
+        let (code, made_places) = claim.turn_once(heard);
+        if code != exports::NOTHING {
+            self.mark_claimed(node, senders);
+        } else if made_places {
+            bits_of(senders).for_each(|sender| self.mark(sender));
+        }
+        self.pass_on(node, heard, None);
+        code
+    }
+
+    /// Does something with a node's station, which no other thread has then.
+    pub fn with_claim<T>(&self, node: usize, work: impl FnOnce(&mut Claim<'_>) -> T) -> T {
+        work(&mut claim(&self.stations[node]))
     }
 
     fn after(&self, ended: Ended) {

@@ -2,6 +2,7 @@
 use crate::error::{check, Error};
 use crate::exports::{self, Handle};
 use crate::held::Held;
+use crate::seat::Seat;
 use crate::stations::Stations;
 use std::sync::Arc;
 use std::thread::{sleep, yield_now};
@@ -38,8 +39,8 @@ pub(crate) struct Waiter {
     // Whether the script is of version 3, which alone knows how to give up.
     gives_up: bool,
     // The command whose reply is still to come, and whether that to a withdraw of it is to come too.
-    asked: Option<Asked>,
-    withdraws: bool,
+    pub(crate) asked: Option<Asked>,
+    pub(crate) withdraws: bool,
     // The reply to the command, where only that to the withdraw is still to come.
     answer: Option<Reply>,
     held: Held,
@@ -48,6 +49,7 @@ pub(crate) struct Waiter {
 impl Waiter {
     pub fn new(raw: Handle, stations: Arc<Stations>, client: u32, home: usize, gives_up: bool) -> Waiter {
         let held = Held::default();
+        stations.seat(client).set_home(home);
         Waiter { raw, stations, client, home, gives_up, asked: None, withdraws: false, answer: None, held }
     }
 
@@ -66,13 +68,18 @@ impl Waiter {
         if self.asked.is_some() {
             return Err(Error::StillWaits);
         }
+        self.number();
         let came = self.put(asked)?;
         self.asked = Some(asked);
         Ok(came.and_then(|reply| self.note(reply)))
     }
 
+    pub fn seat(&self) -> &Seat {
+        self.stations.seat(self.client)
+    }
+
     // Where its station is free it makes the turns itself; else who has the station does, since its mark is set.
-    fn put(&mut self, asked: Asked) -> Result<Option<Reply>, Error> {
+    pub(crate) fn put(&mut self, asked: Asked) -> Result<Option<Reply>, Error> {
         match self.stations.submit_and_turn(self.client, self.home, &mut self.raw, asked) {
             Some((exports::NOTHING | exports::LOG_FULL | exports::NO_MEMORY, _)) => Ok(None),
             Some((code, count)) if code >= exports::GRANTED => Ok(Some((code, count))),
@@ -101,7 +108,13 @@ impl Waiter {
         if patience.is_some() {
             self.may_give_up()?;
         }
-        let (mut end, mut pause) = (None, Duration::ZERO);
+        let code = self.asked_again(asked, patience);
+        self.end_withheld();
+        self.known(code?)
+    }
+
+    fn asked_again(&mut self, asked: Asked, patience: Option<Duration>) -> Result<u32, Error> {
+        let (mut end, mut pause, mut next) = (None, Duration::ZERO, None);
         loop {
             let code = match self.begin(asked)? {
                 Some((code, _)) => code,
@@ -116,6 +129,7 @@ impl Waiter {
             end = end.or_else(|| if code == exports::WITHHELD { end_of(patience) } else { None });
             match code {
                 exports::WITHHELD if pause > Duration::ZERO && is_over(end) => return Err(Error::Withdrawn),
+                exports::WITHHELD if self.is_spent(asked.set, &mut next) => return Err(Error::Victim),
                 exports::WITHHELD => self.pause_withheld(left_of(end).map_or(pause, |left| pause.min(left))),
                 code => return Ok(code),
             }
@@ -179,6 +193,7 @@ impl Waiter {
             return Ok(reply);
         }
         self.stations.begin_wait();
+        self.stations.victims.0.note_wait();
         let reply = self.sleep_until(end);
         self.stations.seat(self.client).end();
         self.stations.end_wait();
@@ -187,6 +202,7 @@ impl Waiter {
 
     fn sleep_until(&mut self, end: Option<Instant>) -> Result<Reply, Error> {
         let (mut looks, least) = (0, end.map(|_| Instant::now() + GRACE));
+        let mut next = self.stations.victims.0.next_look();
         loop {
             if looks >= LOOKS {
                 self.stations.seat(self.client).begin_sleep();
@@ -195,8 +211,11 @@ impl Waiter {
             if let Some(reply) = self.look()? {
                 return Ok(reply);
             }
-            if !is_over(end) {
-                self.pause(looks, end);
+            if is_over(next) {
+                self.stations.look_for_ring();
+                next = self.stations.victims.0.next_look();
+            } else if !is_over(end) {
+                self.pause(looks, earlier(end, next));
             } else if rests || is_over(least) {
                 return Err(Error::StillWaits);
             } else {
@@ -215,16 +234,16 @@ impl Waiter {
         }
     }
 
-    /// The reply, if it is there.
+    /// The reply, if it is there. Who is chosen to give up does so.
     pub fn look(&mut self) -> Result<Option<Reply>, Error> {
-        match self.take_reply() {
+        match self.take_reply().or_else(|| self.yield_as_victim()) {
             None if self.stations.is_full() => Err(Error::LogFull),
             reply => Ok(reply),
         }
     }
 
     // Takes the replies that are there: that to the command, once all have come.
-    fn take_reply(&mut self) -> Option<Reply> {
+    pub(crate) fn take_reply(&mut self) -> Option<Reply> {
         while let Some(reply) = self.poll() {
             if let Some(reply) = self.note(reply) {
                 return Some(reply);
@@ -234,7 +253,7 @@ impl Waiter {
     }
 
     // Notes a reply: that to the command, if it was the last one that is to come.
-    fn note(&mut self, reply: Reply) -> Option<Reply> {
+    pub(crate) fn note(&mut self, reply: Reply) -> Option<Reply> {
         if self.answer.is_none() {
             self.answer = Some(reply);
             self.keep(reply);
@@ -269,6 +288,10 @@ pub(crate) fn end_of(patience: Option<Duration>) -> Option<Instant> {
 
 pub(crate) fn is_over(end: Option<Instant>) -> bool {
     end.map_or(false, |end| Instant::now() >= end)
+}
+
+fn earlier(one: Option<Instant>, other: Option<Instant>) -> Option<Instant> {
+    one.into_iter().chain(other).min()
 }
 
 fn left_of(end: Option<Instant>) -> Option<Duration> {

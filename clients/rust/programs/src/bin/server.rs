@@ -1,5 +1,6 @@
 //! A server's clients: threads and tasks that come and go over a few sessions and 100,000 keys, with times and cancels. Each moves
-//! an amount from key to key under two locks, so that the sum stays; memory stays flat; and who waits takes no processor.
+//! an amount from key to key under two locks, so that the sum stays; memory stays flat; and who waits takes no processor. Those that
+//! all want have exact names; and some lock in any order and without a time, so that of those who wait in a ring one gives up.
 //!
 //! usage: server; LOCKRUN_SECONDS says how long, and else it is 5 seconds.
 use lockrun::{Error, Mode, Nodes, Opening, Session};
@@ -8,7 +9,7 @@ use std::future::Future;
 use std::pin::Pin;
 use std::sync::atomic::{AtomicU64, Ordering::SeqCst};
 use std::task::{Context, Poll};
-use std::thread::{scope, sleep};
+use std::thread::{scope, sleep, yield_now};
 use std::time::{Duration, Instant};
 
 const SESSIONS: usize = 20;
@@ -19,6 +20,9 @@ const SETS: u32 = 65_000;
 
 /// So many keys are asked for more often than the others.
 const BUSY: u32 = 20;
+
+/// Who waits for longer looks for a ring.
+const AFTER: Duration = Duration::from_millis(20);
 
 /// The time of a whole test goes half to moves; then so long all wait for one lock.
 const WAIT: Duration = Duration::from_millis(1500);
@@ -37,6 +41,7 @@ struct Counts {
     moved: AtomicU64,
     gave_up: AtomicU64,
     cancelled: AtomicU64,
+    victims: AtomicU64,
 }
 
 struct Server {
@@ -97,9 +102,17 @@ impl<F: Future> Future for Looks<F> {
 }
 
 impl Server {
+    fn set(&self, key: usize) -> Result<u32, Error> {
+        if key < BUSY as usize {
+            self.nodes.name(key.to_le_bytes())
+        } else {
+            self.nodes.key(key.to_le_bytes())
+        }
+    }
+
     // The sets of two keys, the lesser one first: so none waits for another one in a ring.
     fn sets(&self, from: usize, to: usize) -> Result<(u32, u32), Error> {
-        let (from, to) = (self.nodes.key(from.to_le_bytes())?, self.nodes.key(to.to_le_bytes())?);
+        let (from, to) = (self.set(from)?, self.set(to)?);
         Ok((from.min(to), from.max(to)))
     }
 
@@ -125,6 +138,18 @@ impl Server {
         Ok(())
     }
 
+    // The same in any order, without a time.
+    fn move_any(&self, session: &mut Session, random: &mut Random) -> Result<(), Error> {
+        let (from, to) = (random.key(), random.key());
+        let (first, second) = (self.set(from)?, self.set(to)?);
+        let mut lock = session.lock(first, Mode::Write)?;
+        yield_now();
+        let second = if first == second { None } else { Some(lock.and(second, Mode::Write)?) };
+        self.transfer(from, to);
+        drop(second);
+        Ok(())
+    }
+
     // A thread that comes, does a little, and goes.
     fn visit(&self, random: &mut Random) -> Result<(), Error> {
         let mut client = match self.nodes.client_within(random.time()) {
@@ -132,10 +157,15 @@ impl Server {
             client => client?,
         };
         for _ in 0..random.below(8) {
-            match self.move_one(&mut client, random) {
-                Err(Error::Withdrawn) => drop(self.counts.gave_up.fetch_add(1, SeqCst)),
-                moved => moved?,
-            }
+            let moved = match random.below(2) {
+                0 => self.move_one(&mut client, random),
+                _ => self.move_any(&mut client, random),
+            };
+            match moved {
+                Err(Error::Withdrawn) => self.counts.gave_up.fetch_add(1, SeqCst),
+                Err(Error::Victim) => self.counts.victims.fetch_add(1, SeqCst),
+                moved => moved.map(|()| 0)?,
+            };
         }
         Ok(())
     }
@@ -157,13 +187,15 @@ impl Server {
     // A task that comes and goes; some are cancelled.
     fn run_task(&self, random: &mut Random) -> Result<(), Error> {
         let looks = if random.below(4) == 0 { random.below(20) } else { u32::MAX };
-        if looks == u32::MAX {
-            return lockrun::block_on(self.move_soon(random));
-        }
-        match lockrun::block_on(Looks::new(self.move_soon(random), looks)) {
-            None => drop(self.counts.cancelled.fetch_add(1, SeqCst)),
-            Some(moved) => moved?,
-        }
+        let moved = match looks {
+            u32::MAX => Some(lockrun::block_on(self.move_soon(random))),
+            looks => lockrun::block_on(Looks::new(self.move_soon(random), looks)),
+        };
+        match moved {
+            None => self.counts.cancelled.fetch_add(1, SeqCst),
+            Some(Err(Error::Victim)) => self.counts.victims.fetch_add(1, SeqCst),
+            Some(moved) => moved.map(|()| 0)?,
+        };
         Ok(())
     }
 
@@ -225,7 +257,7 @@ fn memory() -> u64 {
 
 fn open(time: Duration) -> Result<Server, Error> {
     let clients: String = (0..SESSIONS).map(|k| format!("client c{k} at {}\n", k % 2)).collect();
-    let nodes = Opening::new(&format!("nodes 2\n{clients}")).keys(SETS, 1).open_pool()?;
+    let nodes = Opening::new(&format!("nodes 2\n{clients}")).keys(SETS, 1).names(BUSY).victims(AFTER).open_pool()?;
     let amounts = Amounts((0..KEYS).map(|_| UnsafeCell::new(0)).collect());
     Ok(Server { nodes, amounts, counts: Counts::default(), end: Instant::now() + time })
 }
@@ -241,14 +273,14 @@ fn main() -> Result<(), Error> {
         let before = memory();
         all.into_iter().try_for_each(|thread| thread.join().expect("no panic")).map(|()| before)
     })?;
-    let Counts { moved, gave_up, cancelled } = &server.counts;
+    let Counts { moved, gave_up, cancelled, victims } = &server.counts;
     println!(
-        "moved {moved:?}, gave up {gave_up:?}, cancelled {cancelled:?}; {before} KiB, and at the end {}",
+        "moved {moved:?}, gave up {gave_up:?}, victims {victims:?}, cancelled {cancelled:?}; {before} KiB, and at the end {}",
         memory()
     );
     assert_eq!(server.sum(), 0);
     assert!(memory() < before + GROWTH);
-    assert!(moved.load(SeqCst) > 0);
+    assert!(moved.load(SeqCst) > 0 && victims.load(SeqCst) > 0);
     let taken = server.wait_all()?;
     println!("who waits takes {:.3}% of a processor", 100.0 * taken);
     assert!(taken < 0.01);
