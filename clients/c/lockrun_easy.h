@@ -47,6 +47,7 @@ static inline uint32_t lockrun_give_up_now(lockrun_caller *caller) {
     if (!caller->withdraws) {
         uint32_t code = lockrun_submit(&caller->session, LOCKRUN_WITHDRAW, caller->set, caller->number, 0);
         if (code != LOCKRUN_OK) return code;
+        lockrun_note_command(caller->nodes);
         lockrun_mark(caller->nodes, caller->home);
         caller->withdraws = 1;
     }
@@ -77,7 +78,7 @@ static inline uint32_t lockrun_pause(lockrun_caller *caller, int64_t pause, int6
 /* Whether a caller that is withheld in this set is chosen to give up; once it is time it looks for a ring by itself. */
 static inline int lockrun_is_given_up(lockrun_caller *caller, uint32_t set, int64_t *look) {
     if (!caller->nodes->victims_after) return 0;
-    if (!atomic_exchange(&caller->sleeper.withheld, (uint64_t)set + 1)) lockrun_note_wait(caller->nodes);
+    if (!atomic_exchange(&caller->sleeper.withheld, (uint64_t)set + 1)) lockrun_note_command(caller->nodes);
     if (lockrun_is_over(*look)) {
         lockrun_look_for_ring(caller->nodes);
         *look = lockrun_next_look(caller->nodes);

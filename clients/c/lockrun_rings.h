@@ -2,9 +2,9 @@
  *
  * On several nodes an ask that was given up may stand for a while, and others behind it, and it isn't told for which mode. An ask may
  * also lie at a node on its way to the queue, behind an older one. Whose ask has no other reason to wait counts as one who waits for
- * each client that has a lock in the set, or asks for one there; and so does who asks again and again for what is withheld from it,
- * since what it gave up before in the set still stands, though no node knows of that wait. So a ring of these may be none: then
- * somebody gives up who needn't. In a service with many nodes and clients such asks are not looked for (LOCKRUN_MOST_PAIRS).
+ * each client that has a lock in the set, also for itself, or asks for one there; and so does who asks again and again for what is
+ * withheld from it, since what it gave up before in the set still stands, though no node knows of that wait. So a ring of these may be
+ * none: then somebody gives up who needn't. In a service with many nodes and clients such asks are not looked for (LOCKRUN_MOST_PAIRS).
  */
 #ifndef LOCKRUN_RINGS_H
 #define LOCKRUN_RINGS_H
@@ -67,9 +67,9 @@ static inline void lockrun_list_asks(lockrun_nodes *nodes, lockrun_asking *asks)
 /* Whether a client waits for another one that waits too: for a lock of that one, or behind its ask. */
 static inline int lockrun_waits_for(lockrun_nodes *nodes, uint32_t client, uint32_t other, const lockrun_asking *asks) {
     const lockrun_asking *ask = &asks[client];
-    if (client == other || !asks[other].waits) return 0;
+    if (!asks[other].waits || (client == other && ask->asks && !ask->hidden)) return 0;
     if (lockrun_holds_against(nodes, other, ask)) return 1;
-    return asks[other].asks && asks[other].set == ask->set &&
+    return client != other && asks[other].asks && asks[other].set == ask->set &&
            (ask->hidden || lockrun_stands_behind(nodes, ask->set, client, other));
 }
 

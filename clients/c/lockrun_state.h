@@ -36,8 +36,8 @@ typedef struct {
     char apart[LOCKRUN_APART];
     lockrun_row asleep[LOCKRUN_ROWS];  /* a bit for each caller that sleeps, and that nobody has begun to wake */
     char apart_too[LOCKRUN_APART];
-    lockrun_row asks, waits;           /* how many asks were numbered; how often somebody began to wait, or to give up */
-    lockrun_row looked, seen;          /* when somebody looked for a ring last; how often it was when there was none */
+    lockrun_row asks, done;            /* how many asks were numbered; how many commands were submitted */
+    lockrun_row looked, seen;          /* when somebody looked for a ring last; and how many commands there were when there was none */
     char apart_again[LOCKRUN_APART];
 } lockrun_nodes;
 

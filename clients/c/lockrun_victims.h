@@ -35,9 +35,9 @@ static inline int lockrun_is_to_give_up(const lockrun_caller *caller) {
     return caller->nodes->victims_after && caller->waits && !caller->withdraws && lockrun_was_victim(caller);
 }
 
-/* Somebody waits from now on, or gives up: without this no ring comes to be. What it asked was submitted before. */
-static inline void lockrun_note_wait(lockrun_nodes *nodes) {
-    if (nodes->victims_after) atomic_fetch_add(&nodes->waits, (uint64_t)1);
+/* A command was submitted: without one no ring comes to be among nodes that rest. */
+static inline void lockrun_note_command(lockrun_nodes *nodes) {
+    if (nodes->victims_after) atomic_fetch_add(&nodes->done, (uint64_t)1);
 }
 
 /* Submits that it gives up: the node that has work by it. Where its commands are used up it goes on waiting. */
@@ -48,7 +48,7 @@ static inline uint64_t lockrun_be_victim(lockrun_caller *caller) {
         return 0;
     }
     caller->withdraws = 1;
-    lockrun_note_wait(caller->nodes);
+    lockrun_note_command(caller->nodes);
     lockrun_mark(caller->nodes, caller->home);
     return lockrun_bit(caller->home);
 }
@@ -70,20 +70,20 @@ static inline int64_t lockrun_next_look(const lockrun_nodes *nodes) {
     return nodes->victims_after ? lockrun_now() + nodes->victims_after : (int64_t)LOCKRUN_FOREVER;
 }
 
-/* Looks for a ring, unless somebody did it just now, or found none and nobody began to wait since. */
+/* Looks for a ring, unless somebody did it just now, or found none and no command was submitted since. */
 static inline void lockrun_look_for_ring(lockrun_nodes *nodes) {
     uint32_t ring[LOCKRUN_MOST_CLIENTS];
     size_t length = 0;
     const int64_t now = lockrun_now();
-    const uint64_t waits = atomic_load(&nodes->waits);
-    if (waits == atomic_load(&nodes->seen)) return;
+    const uint64_t done = atomic_load(&nodes->done);
+    if (done == atomic_load(&nodes->seen)) return;
     if (now - (int64_t)atomic_load(&nodes->looked) < nodes->victims_after / 2) return;
     atomic_store(&nodes->looked, (uint64_t)now);
     lockrun_keep_all(nodes);
     int rests = 0;
     for (unsigned round = 0; !rests && round < LOCKRUN_ROUNDS; round++) rests = lockrun_all_find_nothing(nodes);
     if (rests && lockrun_find_ring(nodes, ring, &length) == LOCKRUN_OK) lockrun_choose(nodes, ring, length);
-    else if (rests) atomic_store(&nodes->seen, waits);
+    else if (rests) atomic_store(&nodes->seen, done);
     lockrun_return_all(nodes);
 }
 #endif

@@ -104,7 +104,6 @@ static inline uint32_t lockrun_wait_until(lockrun_caller *caller, int64_t end) {
     if (lockrun_take_reply(caller)) return caller->answer;
     uint64_t owed = lockrun_unturned(nodes);
     int64_t look = lockrun_next_look(nodes);
-    lockrun_note_wait(nodes);
     int came = 0;
     for (unsigned looks = 0;; looks++) {
         if (lockrun_is_to_give_up(caller)) owed |= lockrun_be_victim(caller);
@@ -176,6 +175,7 @@ static inline uint32_t lockrun_start(lockrun_caller *caller, uint32_t kind, uint
     caller->first = first;
     if (lockrun_take_node(node)) {
         code = lockrun_do_here(caller, kind, set, first, second);
+        lockrun_note_command(caller->nodes);
         if (code >= LOCKRUN_GRANTED) {
             caller->answer = code;
             lockrun_keep(caller, code);
@@ -187,6 +187,7 @@ static inline uint32_t lockrun_start(lockrun_caller *caller, uint32_t kind, uint
     }
     code = lockrun_submit(&caller->session, kind, set, first, second);
     if (code != LOCKRUN_OK) return code; /* LOCKRUN_FULL never: all that was submitted before has its reply */
+    lockrun_note_command(caller->nodes);
     lockrun_mark(caller->nodes, caller->home);
     caller->waits = 1;
     return LOCKRUN_WAITS;

@@ -18,6 +18,7 @@ from lockrun import (FORGOTTEN, FULL, NO_MEMORY, NOTHING, OK, Handle, Journal, L
                      library_path, load, numbered, said, version)
 from lockrun.calls import Hints
 from lockrun.script import in_version
+from lockrun.victims import nobody
 from lockrun.work import FOR_MEMORY, FORGET_AFTER, Bell
 
 # How many bytes of a frame aren't of its letter.
@@ -48,7 +49,7 @@ class Apart:
         self.clients, self.came = numbered(script), [bytearray() for _ in range(nodes)]
         self.frames = (c_uint8 * (1 << 16))()
         self.sent = self.received = 0
-        self.gives_up, self.keep = version(script) != 2, keep
+        self.gives_up, self.keep, self.victims = version(script) != 2, keep, nobody()
         # The numbers of sets that were named here before.
         self.sets: Dict[str, int] = {}
         self.handle = Handle()

@@ -1,7 +1,8 @@
 #!/usr/bin/env python3
 """As in a server: 64 threads and tasks come and go over 20 sessions, and move money between accounts of 100,000 keys,
-with deadlines and cancels, for LOCKRUN_SECONDS seconds (5). At the end the sum is right, memory stayed flat, and those
-who only wait take next to no processor time. The status is 0 if all of it is so."""
+with deadlines and cancels, for LOCKRUN_SECONDS seconds (5). Those that all want have exact names; and some lock in any
+order and without a deadline, so that of those who wait in a ring one gives up. At the end the sum is right, memory
+stayed flat, and those who only wait take next to no processor time. The status is 0 if all of it is so."""
 import asyncio
 import os
 import random
@@ -9,9 +10,9 @@ import sys
 import threading
 import time
 
-from lockrun import Key, Nodes, Withdrawn
+from lockrun import Key, Nodes, Victim, Withdrawn
 
-THREADS, TASKS, SESSIONS, NODES, FAMILIES, KEYS, HOT, FIRST = 40, 24, 20, 2, 4096, 100000, 50, 1000
+THREADS, TASKS, SESSIONS, NODES, FAMILIES, KEYS, HOT, FIRST, AFTER = 40, 24, 20, 2, 4096, 100000, 50, 1000, 0.05
 SECONDS = float(os.environ.get('LOCKRUN_SECONDS', '5'))
 LONG, WAIT, MOST_SHARE, MOST_GROWTH = 60, 1.0, 0.01, 4 << 20
 MONEY, DONE, FAULTS = [FIRST] * KEYS, {}, []
@@ -25,13 +26,21 @@ def tell(what, count=1):
 def opened():
     """Nodes with so many sessions, and sets for keys."""
     lines = [f'nodes {NODES}', *(f'client c{k} at {k % NODES}' for k in range(SESSIONS))]
-    return Nodes('\n'.join(lines) + '\n', families=FAMILIES)
+    return Nodes('\n'.join(lines) + '\n', families=FAMILIES, names=HOT, victims=AFTER)
 
 
 def drawn(draw):
     """Two accounts: often such that others draw too."""
     most = HOT if draw.random() < 0.5 else KEYS
     return draw.sample(range(most), 2)
+
+
+def asked(nodes, draw, one, other):
+    """Both accounts with how long to wait for each: in their order, so that nobody waits in a ring, or in any order."""
+    keys = [nodes.name(f'account {k}') if k < HOT else nodes[f'account {k}'] for k in (one, other)]
+    if draw.random() < 0.3:
+        return [(key, None) for key in dict.fromkeys(keys)]
+    return [(key, patience(draw)) for key in sorted(set(keys))]
 
 
 def move(one, other):
@@ -50,8 +59,9 @@ def transfer(nodes, draw):
     """Takes a session, and locks both accounts in their order."""
     one, other = drawn(draw)
     with nodes.client(timeout=LONG) as client:
-        for key in sorted({nodes[f'account {one}'], nodes[f'account {other}']}):
-            client.lock(key, 'write', patience(draw))
+        for key, time_left in asked(nodes, draw, one, other):
+            client.lock(key, 'write', time_left)
+            time.sleep(0.001 if time_left is None else 0)
         move(one, other)
 
 
@@ -59,8 +69,9 @@ async def transfer_in_task(nodes, draw):
     """The same in a task."""
     one, other = drawn(draw)
     async with nodes.client(timeout=LONG) as client:
-        for key in sorted({nodes[f'account {one}'], nodes[f'account {other}']}):
-            await client.lock_async(key, 'write', patience(draw))
+        for key, time_left in asked(nodes, draw, one, other):
+            await client.lock_async(key, 'write', time_left)
+            await asyncio.sleep(0.001 if time_left is None else 0)
         in_one, in_other = MONEY[one], MONEY[other]
         await asyncio.sleep(0)
         MONEY[one], MONEY[other] = in_one - 1, in_other + 1
@@ -76,6 +87,8 @@ def call(nodes, number, end):
                 tell('done by threads')
             except Withdrawn:
                 tell('given up by threads')
+            except Victim:
+                tell('victims')
     except BaseException as fault:
         FAULTS.append(repr(fault))
 
@@ -92,6 +105,8 @@ async def call_in_task(nodes, number, end):
             tell('done by tasks')
         except Withdrawn:
             tell('given up by tasks')
+        except Victim:
+            tell('victims')
         except asyncio.TimeoutError:
             tell('cancelled')
 
@@ -110,7 +125,7 @@ def size():
 def touch(nodes):
     """Each set of keys is locked once, so that it takes its memory."""
     with nodes.client() as client:
-        for number in range(FAMILIES):
+        for number in range(FAMILIES + HOT):
             client.lock(Key(nodes.keys, b'', number), 'write', 0).unlock()
 
 

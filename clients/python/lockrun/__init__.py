@@ -18,10 +18,10 @@ has no line of a version. In version 2, if the script says so, such a call raise
 from ctypes import c_size_t, c_uint8, c_uint32, c_uint64
 
 from .codes import (AGAIN, BAD_ARGUMENT, BAD_SCRIPT, BAD_SEAL, BAD_SET, BUSY, CHANGE, CHANGED, DROP, DROPPED, FALSE,
-                    FAULTS, FORGOTTEN, FULL, GRANTED, LOCK, LOG_FULL, MISFIT, MISSING, MODES, NO_LETTER, NO_MEMORY,
-                    NOT_HELD, NOTHING, OK, OTHER_NODE, OTHER_SERVICE, OTHER_VERSION, SPENT, TOO_LONG, TOO_MANY, TRUE,
-                    TRY, UNLOCK, UNLOCKED, WITHDRAW, WITHDRAWN, WITHHELD, WRONG_HANDLE, LockError, StillWaits,
-                    Withdrawn, fault_of, number_of, said)
+                    FAULTS, FORGOTTEN, FULL, GRANTED, LOCK, LOG_FULL, MISFIT, MISSING, MODES, NAMES_FULL, NO_LETTER,
+                    NO_MEMORY, NOT_HELD, NOTHING, OK, OTHER_NODE, OTHER_SERVICE, OTHER_VERSION, SPENT, TOO_LONG,
+                    TOO_MANY, TRUE, TRY, UNLOCK, UNLOCKED, WITHDRAW, WITHDRAWN, WITHHELD, WRONG_HANDLE, LockError,
+                    NamesFull, StillWaits, Victim, Withdrawn, fault_of, number_of, said)
 from .guard import Guard
 from .journal import Journal
 from .keys import Key
@@ -36,10 +36,10 @@ from .view import Lock, Locks
 __all__ = [
     'c_size_t', 'c_uint8', 'c_uint32', 'c_uint64', 'AGAIN', 'BAD_ARGUMENT', 'BAD_SCRIPT', 'BAD_SEAL', 'BAD_SET',
     'BUSY', 'CHANGE', 'CHANGED', 'DROP', 'DROPPED', 'FALSE', 'FAULTS', 'FORGOTTEN', 'FULL', 'GRANTED', 'LOCK',
-    'LOG_FULL', 'MISFIT', 'MISSING', 'MODES', 'NO_LETTER', 'NO_MEMORY', 'NOT_HELD', 'NOTHING', 'OK', 'OTHER_NODE',
-    'OTHER_SERVICE', 'OTHER_VERSION', 'SPENT', 'TOO_LONG', 'TOO_MANY', 'TRUE', 'TRY', 'UNLOCK', 'UNLOCKED',
-    'WITHDRAW', 'WITHDRAWN', 'WITHHELD', 'WRONG_HANDLE', 'LockError', 'StillWaits', 'Withdrawn', 'fault_of',
-    'number_of', 'said', 'Guard', 'Journal', 'Key', 'AT', 'BYTES', 'CLIENTS', 'COUNT', 'EXPORTS', 'FURTHER', 'NUMBER',
-    'SETS', 'SHARED', 'SIZE', 'Clients', 'Handle', 'NewSet', 'bytes_of', 'library_path', 'live', 'load', 'new_sets',
-    'Nodes', 'numbered', 'version', 'Session', 'Turned', 'Lock', 'Locks',
+    'LOG_FULL', 'MISFIT', 'MISSING', 'MODES', 'NAMES_FULL', 'NO_LETTER', 'NO_MEMORY', 'NOT_HELD', 'NOTHING', 'OK',
+    'OTHER_NODE', 'OTHER_SERVICE', 'OTHER_VERSION', 'SPENT', 'TOO_LONG', 'TOO_MANY', 'TRUE', 'TRY', 'UNLOCK',
+    'UNLOCKED', 'WITHDRAW', 'WITHDRAWN', 'WITHHELD', 'WRONG_HANDLE', 'LockError', 'NamesFull', 'StillWaits', 'Victim',
+    'Withdrawn', 'fault_of', 'number_of', 'said', 'Guard', 'Journal', 'Key', 'AT', 'BYTES', 'CLIENTS', 'COUNT',
+    'EXPORTS', 'FURTHER', 'NUMBER', 'SETS', 'SHARED', 'SIZE', 'Clients', 'Handle', 'NewSet', 'bytes_of',
+    'library_path', 'live', 'load', 'new_sets', 'Nodes', 'numbered', 'version', 'Session', 'Turned', 'Lock', 'Locks',
 ]

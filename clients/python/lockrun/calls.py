@@ -70,6 +70,15 @@ def turn(library: Library, station: Handle, hints: Hints) -> int:
     return code
 
 
+def turn_together(library: Library, stations: List[Handle], hints: List[Hints], codes: List[int]) -> None:
+    """A turn of each of these stations: the interpreter runs nothing between them, so no other thread is in a call
+    meanwhile. Their codes go to the end of these."""
+    if not library.tells:
+        raise NotImplementedError('this library does not tell what a turn did')
+    letters, replies = [hint.letters for hint in hints], [hint.replies for hint in hints]
+    codes.extend(map(library.lockrun_turn_telling, stations, letters, replies))
+
+
 def first_fault(library: Library, script: str) -> Optional[Tuple[int, int]]:
     """The line and the number of the script's first fault."""
     line, fault = c_uint64(), c_uint32()
@@ -106,6 +115,16 @@ def asked(library: Library, station: Handle, client: int) -> Optional[Tuple[int,
     if library.lockrun_asked(live(station), client, number, mode) != OK:
         return None
     return number.value, mode.value
+
+
+def locks(library: Library, station: Handle, client: int, number: int, mode: int) -> int:
+    """How many locks of a mode a client of the station holds in a set."""
+    return int(library.lockrun_locks(live(station), client, number, mode))
+
+
+def behind(library: Library, station: Handle, number: int, client: int, other: int) -> bool:
+    """Whether in the queue of a set at the station an ask of the client stands behind one of the other one."""
+    return bool(library.lockrun_behind(live(station), number, client, other) == OK)
 
 
 def number_of_set(library: Library, session: Handle, name: str) -> Optional[int]:

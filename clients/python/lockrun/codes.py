@@ -8,6 +8,8 @@ OK, NOTHING, WRONG_HANDLE, NO_MEMORY, BAD_ARGUMENT, BAD_SCRIPT, SPENT, FULL, LOG
 OTHER_VERSION, OTHER_SERVICE, OTHER_NODE, MISSING, AGAIN, TOO_LONG, BAD_SEAL, NO_LETTER, MISFIT = range(40, 49)
 LOCK, TRY, UNLOCK, CHANGE, DROP, WITHDRAW = range(6)
 GRANTED, TRUE, FALSE, UNLOCKED, NOT_HELD, CHANGED, DROPPED, BUSY, WITHDRAWN, WITHHELD = range(16, 26)
+# Of this module alone: all sets for names are in use.
+NAMES_FULL = 33
 MODES = ('intention_read', 'read', 'upgrade', 'intention_write', 'read_intention_write', 'write')
 
 FAULTS = {
@@ -32,6 +34,7 @@ FAULTS = {
     MISFIT: 'a letter fits no node that was opened with this script',
     NOT_HELD: "the client doesn't hold this mode",
     BUSY: 'the client whose locks should be dropped waits',
+    NAMES_FULL: 'all sets for names, or all of the family of a name, are in use',
     WITHHELD: 'what the client gave up in this set still stands',
 }
 
@@ -69,6 +72,21 @@ class StillWaits(Exception):
 class Withdrawn(TimeoutError):
     """The wait was given up, since its time is over or another client gave it up. The session asks for nothing, and
     holds what it held."""
+
+
+class Victim(LockError):
+    """The wait was in a ring of waits, and the session, which asked last of them, gave up by the policy of victims. It
+    asks for nothing, and holds what it held."""
+
+    def __init__(self) -> None:
+        super().__init__(WITHDRAWN, 'the wait was in a ring of waits, and was given up as the youngest')
+
+
+class NamesFull(LockError):
+    """All sets for names, or all of the family of a name's parent, are in use."""
+
+    def __init__(self) -> None:
+        super().__init__(NAMES_FULL)
 
 
 def said(code: int) -> None:

@@ -1,13 +1,20 @@
 """Keys that come as they come: each has a set by its hash."""
 from __future__ import annotations
 
-from typing import Tuple, Union
+from typing import Protocol, Tuple, Union
 
 from . import calls
 from .codes import BAD_ARGUMENT, LockError
 from .library import Library
 
 Word = Union[str, bytes]
+
+
+class Family(Protocol):
+    """What has keys, and keys in the families of others."""
+
+    def key(self, word: Word, parent: Word = b'') -> Key:
+        """The key, in the family of its parent if it has one."""
 
 
 class Keys:
@@ -33,12 +40,12 @@ class Keys:
 
 
 class Key:
-    """A key, by which `Session.lock` takes the set that has this number. Keys may share a set: then who locks one has
-    locked the other, so who locks several at once sorts them, and asks once for those that are equal: `sorted({one,
-    other})`."""
+    """A key, by which `Session.lock` takes the set that has this number, or an exact name (`Nodes.name`). Keys may
+    share a set: then who locks one has locked the other, so who locks several at once sorts them, and asks once for
+    those that are equal: `sorted({one, other})`. Names share none."""
     __slots__ = ('keys', 'word', 'number')
 
-    def __init__(self, keys: Keys, word: Word, number: int) -> None:
+    def __init__(self, keys: Family, word: Word, number: int) -> None:
         self.keys, self.word, self.number = keys, word, number
 
     def __getitem__(self, word: Word) -> Key:

@@ -6,40 +6,54 @@ from ctypes import c_size_t
 from typing import Callable, Dict, List, Optional, Tuple, Union
 
 from . import calls
-from .codes import FORGOTTEN, NO_MEMORY, NOTHING, OK, LockError, said
+from .codes import BAD_ARGUMENT, FORGOTTEN, NO_MEMORY, NOTHING, OK, LockError, said
 from .journal import Journal
 from .keys import Key, Keys, Word
 from .library import Handle, bytes_of, library_path, live, load, new_sets
+from .names import Names
 from .pool import Lent, Pool
+from .rings import Rings
 from .script import Sets, error_of, in_version, named, numbered, version
 from .session import Session
+from .victims import Victims
 from .view import Locks, view
 from .work import FOR_MEMORY, Work
+
+# So many rounds of turns are made at most before it is looked for a ring.
+ROUNDS = 64
 
 
 class Nodes:
     """The nodes of an open script, with a session for each client. Each node makes at most `limit` moves. `sets` are
     further sets behind those of the script, at most 65,536 with these: pairs of a name and that of a parent, which is
-    a set before it, or None. Or `families` times `members` further sets are for keys, `nodes['any key']`: then
-    `limit`, and the script need have no sets.
+    a set before it, or None. Or `families` times `members` further sets are for keys, `nodes['any key']`, and behind
+    these `names` times `members` for exact names, `nodes.name('any name')`; then the script need have no sets.
+
+    Who waits for longer than `victims` seconds looks for a ring of clients that wait for one another, and the youngest
+    of it gives up: Victim is raised there. With None nobody gives up so.
 
     Nodes forget what they did, unless they are to keep it for their journal. With more than 8 sets they have none."""
 
     def __init__(self, script: str, limit: int = 1 << 40, library: Optional[str] = None, sets: Sets = (), *,
-                 families: int = 0, members: int = 1, keep: bool = False) -> None:
-        if sets and families:
+                 families: int = 0, members: int = 1, keep: bool = False, names: int = 0,
+                 victims: Optional[float] = None) -> None:
+        if sets and families + names:
             raise ValueError('further sets have either names or keys')
+        if victims is not None and version(script) == 2:
+            raise LockError(BAD_ARGUMENT, 'a script of version 2 can give nothing up, so there are no victims')
         self.library, self.service = load(library or library_path()), Handle()
         self.handles = [self.service]
         self.clients, self.keep = numbered(script), keep
         self.gives_up = version(script) != 2
-        self._open(script, limit, sets, families, members)
+        self._open(script, limit, sets, families + names, members)
         self.names = named(script, 'set') + [name for name, _ in sets]
         # The numbers of sets that were named here before.
         self.sets: Dict[str, int] = {}
         self.keys = Keys(self.library, len(self.names), families, members)
+        self.exact = Names(len(self.names) + families * members, names, members)
         self.stations = self._all(self.library.lockrun_take_station)
         self.work = Work(self.library, self.stations, keep)
+        self.victims = Victims(victims, self._ring, self.work.ring)
         self.sessions = [Session(self, session) for session in self._all(self.library.lockrun_take_session)]
         self.pool = Pool([session.handle for session in reversed(self.sessions)], lambda handle: Session(self, handle))
 
@@ -78,6 +92,32 @@ class Nodes:
         """A key, for `Session.lock`: `nodes['folder']`, and in its family `nodes['folder']['page']`, or
         `nodes['folder', 'page']`."""
         return self.keys[words]
+
+    def name(self, word: Word, parent: Word = b'') -> Key:
+        """An exact name, for `Session.lock`: its set is that of no other name, and of no key, as long as these nodes
+        are open. It is added if it isn't there; NamesFull is raised if as many are there as may be. A name in another
+        one's family is `nodes.name('book')['page']`, or `nodes.name('page', 'book')`."""
+        return self.exact.key(word, parent)
+
+    def name_of(self, number: int) -> Optional[bytes]:
+        """The exact name that has the set with this number, without that of its parent."""
+        return self.exact.name_of(number)
+
+    def rests(self, node: Optional[int] = None) -> bool:
+        """Whether all nodes rest, or this one: at this moment there is no letter on its way, no command that was
+        submitted and not made, and no reply that was not given out. A node that has something to do does a part of it
+        by this call. Letters that find no place at another node may wait at one that rests."""
+        found = self.work.rests(range(len(self.stations)) if node is None else [node])
+        if self.work.busy and self.work.sleepers:
+            self.work.hand_over()
+        return found
+
+    def _ring(self, victims: Victims) -> Optional[List[int]]:
+        """Clients who wait for one another in a ring; none, if there is no ring; None, if the nodes don't rest."""
+        if not any(self.work.rests(self.work.everybody) for _ in range(ROUNDS)):
+            return None
+        homes = [session.home for session in self.sessions]
+        return Rings(self.library, self.stations, homes, victims.withheld.copy()).find() or []
 
     def session(self, client: str) -> Session:
         """The session of the client with this name, which `client` doesn't lend then."""

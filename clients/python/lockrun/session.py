@@ -6,12 +6,13 @@ from typing import Optional
 from . import calls
 from .asking import Asking
 from .codes import (DROP, DROPPED, FALSE, GRANTED, LOCK, MODES, NOTHING, TRUE, TRY, WITHDRAW, WITHDRAWN,
-                    WITHHELD, LockError, StillWaits, fault_of, number_of)
+                    WITHHELD, LockError, StillWaits, Victim, fault_of, number_of)
 from .command import Command, is_submitted
 from .guard import Guard
 from .keys import Key, Name
 from .library import Handle, live
 from .turned import Turned
+from .victims import Watch
 from .waiting import Waiter, alone, is_over, until
 
 
@@ -65,26 +66,30 @@ class Session(Waiter):
         keyboard, the lock is still asked for. `wait` goes on waiting for it, `give_up` gives it up, and until then no
         other call does anything."""
         self._begin()
-        self._submit(self._lock(name, mode))
+        command = self._lock(name, mode)
+        self.nodes.victims.number(self.client)
+        self._submit(command)
         return self.wait(patience)
 
     @alone
     def wait(self, patience: Optional[float] = None) -> Guard:
         """Goes on waiting for the lock that was asked for."""
-        command, end = self._asked_lock(), until(patience)
-        guard = Guard(self, command.name, MODES[command.first])
+        command, end, victims = self._asked_lock(), until(patience), self.nodes.victims
+        guard, watch = Guard(self, command.name, MODES[command.first]), Watch(victims)
         try:
-            while (code := self._look(command)) is None:
+            while (code := self._look(command)) is None and not victims.is_chosen(self.client):
                 if is_over(end):
                     raise StillWaits
-                self.nodes.work.rest(self.client, self.bell, lambda: self._is_told(command), end)
-            self._close(command)
+                self.nodes.work.rest(self.client, self.bell, lambda: self._is_told(command), watch.until(end))
+            code = self._give_up(command) if code is None else self._close(command)
             self.nodes.work.leave(self.hints)
         except BaseException:
             if command.grants():
                 self.asked = command
             self.nodes.work.leave(self.hints)
             raise
+        if code == WITHDRAWN and victims.is_chosen(self.client):
+            raise Victim
         if code != GRANTED:
             raise fault_of(code)
         return guard

@@ -5,6 +5,7 @@ from typing import Callable, Dict, Optional, Protocol
 
 from .calls import Hints
 from .library import Handle, Library
+from .victims import Victims
 from .work import Bell
 
 
@@ -44,6 +45,7 @@ class Turned(Protocol):
     clients: Dict[str, int]
     sets: Dict[str, int]
     gives_up: bool
+    victims: Victims
 
     @property
     def work(self) -> Working:

@@ -10,10 +10,11 @@ from typing import Any, Callable, Dict, Generator, List, Optional, TypeVar, cast
 
 from . import calls
 from .codes import (BAD_ARGUMENT, CHANGE, DROPPED, LOCK, LOG_FULL, NOTHING, UNLOCK, UNLOCKED, WITHDRAW, WITHDRAWN,
-                    WITHHELD, LockError, StillWaits)
+                    WITHHELD, LockError, StillWaits, Victim)
 from .command import Command, is_submitted
 from .library import Handle
 from .turned import Turned
+from .victims import Watch
 from .work import Bell
 
 # How long a session pauses before it asks again for what was withheld, in seconds: at first, and at most.
@@ -95,6 +96,8 @@ class Waiter:
         except BaseException:
             self._undo_all(command)
             raise
+        finally:
+            self.nodes.victims.withheld.pop(self.client, None)
 
     async def wait_in_task(self, command: Command, timeout: Optional[float]) -> int:
         """The same in a task of asyncio."""
@@ -111,29 +114,37 @@ class Waiter:
         except BaseException:
             self._undo_all(command)
             raise
+        finally:
+            self.nodes.victims.withheld.pop(self.client, None)
 
     def _within(self, command: Command, timeout: Optional[float]) -> Waits:
         """Submits, and gives up once the time is over. What was given up before in the same set may still stand at
         another node; then it asks again, once all nodes have done what they can, and after pauses that grow."""
         if timeout is not None and not self.nodes.gives_up:
             raise LockError(BAD_ARGUMENT, 'a script of version 2 can give nothing up, so no call has a timeout')
-        end, pause = until(timeout), 0.0
+        end, pause, watch, victims = until(timeout), 0.0, Watch(self.nodes.victims), self.nodes.victims
+        victims.number(self.client)
         while True:
             self._submit(command)
-            while (code := self._look(command)) is None and not is_over(end):
-                yield end
+            while (code := self._look(command)) is None and not is_over(end) and not victims.is_chosen(self.client):
+                yield watch.until(end)
             code = self._give_up(command) if code is None else self._close(command)
+            if code == WITHDRAWN and victims.is_chosen(self.client):
+                raise Victim
             if code != WITHHELD:
                 return code
             if pause > 0 and is_over(end):
                 return WITHDRAWN
+            victims.withhold(self.client, command.set)
             again = time.monotonic() + pause
             again, pause = again if end is None else min(again, end), min(2 * pause or FIRST_PAUSE, LONGEST_PAUSE)
             self.asked = command
             self._help(command)
             while not is_over(again):
-                yield again
+                yield watch.until(again)
                 self._help(command)
+            if victims.is_chosen(self.client):
+                raise Victim
             command.again()
 
     def _begin(self) -> None:
@@ -164,10 +175,11 @@ class Waiter:
         except BaseException:
             work.pass_on(hints, self.home)
             raise
+        self.nodes.victims.note_command()
         work.made(self.home)
 
     def _is_told(self, command: Command) -> bool:
-        return not command.closed and self._known(command) is not None
+        return not command.closed and (self._known(command) is not None or self.nodes.victims.is_chosen(self.client))
 
     def _known(self, command: Command) -> Optional[int]:
         """The reply, once that to a withdraw of the command is there too."""

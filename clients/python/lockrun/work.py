@@ -3,10 +3,10 @@ from __future__ import annotations
 
 import queue
 import time
-from typing import Callable, Dict, List, Optional, Protocol, Set
+from typing import Callable, Dict, List, Optional, Protocol, Sequence, Set
 
-from .calls import Hints, turn
-from .codes import LOG_FULL, NO_MEMORY, OK, WRONG_HANDLE, LockError, said
+from .calls import Hints, turn, turn_together
+from .codes import LOG_FULL, NO_MEMORY, NOTHING, OK, WRONG_HANDLE, LockError, said
 from .library import Handle, Library, live
 
 # The most turns that a caller makes for others before it goes back, and those that it makes before it sleeps.
@@ -129,6 +129,22 @@ class Work:
             raise LockError(code)
         return code
 
+    def rests(self, nodes: Sequence[int]) -> bool:
+        """Whether a turn of each of these nodes finds nothing to do: it makes no move, and has no letter and no reply
+        to give out. No other thread is in a call meanwhile."""
+        hints: List[Hints] = [Hints() for _ in nodes]
+        codes: List[int] = []
+        try:
+            self.busy.difference_update(nodes)
+            turn_together(self.library, [live(self.stations[node]) for node in nodes], hints, codes)
+        finally:
+            for place, node in enumerate(nodes):
+                self.pass_on(hints[place], None if codes[place:place + 1] == [NOTHING] else node)
+        if LOG_FULL in codes:
+            self.full.update(node for node, code in zip(nodes, codes) if code == LOG_FULL)
+            self.ring_all()
+        return all(code == NOTHING for code in codes) and not any(hint.sent or hint.told for hint in hints)
+
     def drain(self, hints: Hints, client: int, is_told: Callable[[], bool], turns: int = FOR_ITSELF) -> None:
         """Turns what has work: at most so many turns, and until this client is told a reply."""
         moves = 0
@@ -188,6 +204,12 @@ class Work:
     def hand_over(self) -> None:
         """Rings for one sleeper, a thread if there is one: it does the work."""
         for sleeper in sorted(self.sleepers.copy().values(), key=lambda one: one.in_task)[:1]:
+            sleeper.ring()
+
+    def ring(self, client: int) -> None:
+        """Wakes a client, if it sleeps."""
+        sleeper = self.sleepers.get(client)
+        if sleeper is not None:
             sleeper.ring()
 
     def ring_all(self) -> None:

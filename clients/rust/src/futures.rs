@@ -48,7 +48,6 @@ impl Asking {
             self.state = State::Waits;
             waiter.stations.begin_wait();
             waiter.stations.begin_task();
-            waiter.stations.victims.0.note_wait();
         }
         waiter.stations.seat(waiter.client).begin_wait(context.waker());
         waiter.stations.help_all();

@@ -2,9 +2,9 @@
 //!
 //! On several nodes an ask that was given up may stand for a while, and others behind it, and it isn't told for which mode. An ask may
 //! also lie at a node on its way to the queue, behind an older one. Whose ask has no other reason to wait counts as one who waits for
-//! each client that has a lock in the set, or asks for one there; and so does who asks again and again for what is withheld from it,
-//! since what it gave up before in the set still stands, though no node knows of that wait. So a ring of these may be none: then
-//! somebody gives up who needn't. In a service with many nodes and clients such asks are not looked for.
+//! each client that has a lock in the set, also for itself, or asks for one there; and so does who asks again and again for what is
+//! withheld from it, since what it gave up before in the set still stands, though no node knows of that wait. So a ring of these may be
+//! none: then somebody gives up who needn't. In a service with many nodes and clients such asks are not looked for.
 use crate::calls;
 use crate::seat::Seat;
 use crate::session::Mode;
@@ -75,10 +75,10 @@ impl<'r, 's> Rings<'r, 's> {
 
     fn waits_for(&mut self, client: usize, other: usize) -> bool {
         let (ask, others) = match (self.asks[client], self.asks[other]) {
-            (Some(ask), Some(others)) if client != other => (ask, others),
+            (Some(ask), Some(others)) if client != other || ask.is_hidden || !ask.is_known => (ask, others),
             _ => return false,
         };
-        let is_beside = others.is_known && others.set == ask.set;
+        let is_beside = client != other && others.is_known && others.set == ask.set;
         self.holds_against(other, ask) || is_beside && (ask.is_hidden || self.stands_behind(ask.set, client, other))
     }
 

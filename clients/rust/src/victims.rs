@@ -18,8 +18,8 @@ const ROUNDS: u32 = 64;
 pub(crate) struct Victims {
     after: Option<Duration>,
     asks: AtomicU64,
-    // How often somebody began to wait, or to give up; and how often it was when there was no ring.
-    waits: AtomicU64,
+    // How many commands were submitted; and how many there were when there was no ring.
+    done: AtomicU64,
     seen: AtomicU64,
     looked: Mutex<Option<Instant>>,
     // How many tasks wait, and whether a thread looks for them.
@@ -42,10 +42,10 @@ impl Victims {
         self.after.map(|_| self.asks.fetch_add(1, SeqCst) + 1)
     }
 
-    /// Somebody waits from now on, or gives up: without this no ring comes to be. What it asked was submitted before.
-    pub fn note_wait(&self) {
+    /// A command was submitted: without one no ring comes to be among nodes that rest.
+    pub fn note_command(&self) {
         if self.after.is_some() {
-            self.waits.fetch_add(1, SeqCst);
+            self.done.fetch_add(1, SeqCst);
         }
     }
 
@@ -94,19 +94,19 @@ impl Stations {
         code == exports::NOTHING && heard.is_nothing()
     }
 
-    /// Looks for a ring, unless somebody did it just now, or found none and nobody began to wait since: its youngest client gives up.
+    /// Looks for a ring, unless somebody did it just now, or found none and no command was submitted since: its youngest client gives up.
     pub fn look_for_ring(&self) {
         let victims = &self.victims.0;
-        let waits = victims.waits.load(SeqCst);
+        let done = victims.done.load(SeqCst);
         match victims.after {
-            Some(after) if waits != victims.seen.load(SeqCst) && victims.begins_look(after) => {}
+            Some(after) if done != victims.seen.load(SeqCst) && victims.begins_look(after) => {}
             _ => return,
         }
         let mut claims = self.claim_all();
         if (0..ROUNDS).any(|_| self.all_find_nothing(&mut claims)) {
             match Rings::new(&mut claims, self.seats()).find() {
                 Some(ring) => self.choose(&ring),
-                None => victims.seen.store(waits, SeqCst),
+                None => victims.seen.store(done, SeqCst),
             }
         }
         drop(claims);

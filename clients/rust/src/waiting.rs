@@ -80,6 +80,12 @@ impl Waiter {
 
     // Where its station is free it makes the turns itself; else who has the station does, since its mark is set.
     pub(crate) fn put(&mut self, asked: Asked) -> Result<Option<Reply>, Error> {
+        let came = self.submit(asked);
+        self.stations.victims.0.note_command();
+        came
+    }
+
+    fn submit(&mut self, asked: Asked) -> Result<Option<Reply>, Error> {
         match self.stations.submit_and_turn(self.client, self.home, &mut self.raw, asked) {
             Some((exports::NOTHING | exports::LOG_FULL | exports::NO_MEMORY, _)) => Ok(None),
             Some((code, count)) if code >= exports::GRANTED => Ok(Some((code, count))),
@@ -193,7 +199,6 @@ impl Waiter {
             return Ok(reply);
         }
         self.stations.begin_wait();
-        self.stations.victims.0.note_wait();
         let reply = self.sleep_until(end);
         self.stations.seat(self.client).end();
         self.stations.end_wait();

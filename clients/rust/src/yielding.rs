@@ -28,7 +28,7 @@ impl Waiter {
             return false;
         }
         if self.seat().set_withheld(Some(set)).is_none() {
-            self.stations.victims.0.note_wait();
+            self.stations.victims.0.note_command();
         }
         if is_over(*next) {
             self.stations.look_for_ring();
@@ -60,7 +60,6 @@ impl Waiter {
         match self.put(Asked { kind: exports::WITHDRAW, set: asked.set, first: self.client, second: 0 }) {
             Ok(came) => {
                 self.withdraws = true;
-                self.stations.victims.0.note_wait();
                 came.and_then(|reply| self.note(reply)).or_else(|| self.take_reply())
             }
             Err(_) => {
