@@ -1,7 +1,7 @@
 #!/usr/bin/env python3
 """Sees that the declarations of clients/ are those of the exports of crates/lt_live_c: the names of the calls, their
 arguments in order and what they return, in C, Rust and Python; the fields of a further set; the bits of clients; and the
-numbers of codes, kinds, modes and replies."""
+numbers of codes, kinds, modes, replies and what is counted."""
 import ctypes
 import re
 import sys
@@ -10,6 +10,7 @@ from pathlib import Path
 TOP = Path(__file__).resolve().parent.parent
 CRATE = ''.join(path.read_text() for path in sorted((TOP / 'crates' / 'lt_live_c' / 'src').glob('*.rt')))
 CLIENTS = (TOP / 'crates' / 'lt_live' / 'src' / 'clients.rt').read_text()
+COUNTED = (TOP / 'crates' / 'lt_counts' / 'src' / 'counted.rt').read_text()
 HEADER = re.sub(r'/\*.*?\*/', '', (TOP / 'clients' / 'c' / 'lockrun.h').read_text(), flags=re.S)
 RUST = re.sub(r'//.*', '', (TOP / 'clients' / 'rust' / 'src' / 'exports.rs').read_text())
 SESSION = (TOP / 'clients' / 'rust' / 'src' / 'session.rs').read_text()
@@ -22,6 +23,8 @@ CROSSES = {
     'Global': [], '&[u8]': ['*u8', 'size'], '&mut [u8]': ['*u8', 'size'], '&mut Handle': ['*handle'],
     '&mut u32': ['*u32'], '&mut u64': ['*u64'], '&mut usize': ['*size'], 'u32': ['u32'], 'u64': ['u64'], 'usize': ['size'],
     '&mut Clients': ['*clients'],
+    '&mut u32': ['*u32'], '&mut u64': ['*u64'], '&mut [u64]': ['*u64', 'size'], '&mut usize': ['*size'], 'u32': ['u32'], 'u64': ['u64'], 'usize': ['size'],
+    '&mut ClientBits': ['*clients'],
     "&[NewSet<'_>]": ['*set', 'size'], "&'a [u8]": ['*u8', 'size']}
 IN_C = {'uint32_t': 'u32', 'uint64_t': 'u64', 'size_t': 'size', 'lockrun_handle *': '*handle', 'lockrun_service *': '*handle',
         'lockrun_station *': '*handle', 'lockrun_session *': '*handle', 'lockrun_journal *': '*handle',
@@ -133,13 +136,14 @@ def bits_differ():
 
 
 def numbers_of_crate():
-    """Codes, kinds, modes and replies by their names, each group in its order."""
+    """Codes, kinds, modes, replies and what is counted by their names, each group in its order."""
     codes = {name: int(number) for name, number in re.findall(r'^pub const (\w+): u32 = (\d+);', CRATE, re.M)}
     kinds = {KINDS[call]: int(number) for number, call in re.findall(r'^\s+(\d+) => (\w+)\(set,', CRATE, re.M)}
     modes = {upper(mode): int(number) for number, mode in re.findall(r'(\d+) => Some\(Mode::(\w+)\)', CRATE)}
     replies = {upper(reply): int(number)
                for reply, number in re.findall(r'Reply::(\w+)(?:\(\w+\))? => (?:\{[^}]*?\s)?(\d+)\b', CRATE)}
-    return {'code': codes, 'kind': kinds, 'mode': modes, 'reply': replies}
+    counted = {f'COUNT_{upper(kind)}': int(number) for kind, number in re.findall(r'Counted::(\w+) => (\d+)', COUNTED)}
+    return {'code': codes, 'kind': kinds, 'mode': modes, 'reply': replies, 'counted': {**counted, 'COUNTS': len(counted)}}
 
 
 def numbers_of_header():

@@ -188,6 +188,27 @@ uint64_t lockrun_locks(lockrun_station *station, uint32_t client, uint32_t set, 
 uint32_t lockrun_asked(lockrun_station *station, uint32_t client, uint32_t *set, uint32_t *mode);
 uint32_t lockrun_behind(lockrun_station *station, uint32_t set, uint32_t client, uint32_t other);
 
+/* What is counted of a set, at its place among the LOCKRUN_COUNTS numbers of the set. Letters that ask for a lock or answer an
+ * ask are in no count of a set. */
+enum lockrun_counted {
+    LOCKRUN_COUNT_GRANTS,      /* locks that were granted: at once, after a wait, or to a LOCKRUN_TRY */
+    LOCKRUN_COUNT_CHANGES,     /* locks that became one of another mode */
+    LOCKRUN_COUNT_REFUSALS,    /* of LOCKRUN_TRY that got nothing */
+    LOCKRUN_COUNT_WAITS,       /* how often a client began to wait */
+    LOCKRUN_COUNT_WITHDRAWALS, /* how often one gave up what it waited for, as after a time-out */
+    LOCKRUN_COUNT_COPIES,      /* asks that the node sent on as copies */
+    LOCKRUN_COUNT_FREEZES,     /* freezes that it sent */
+    LOCKRUN_COUNT_TOKENS,      /* how often it sent the set's token */
+    LOCKRUN_COUNTS
+};
+
+/* Adds what the moves of the station's node say of each set, from move `read` on; then `read` is the number of its moves. The
+ * numbers of set s stand from counts[LOCKRUN_COUNTS * s] on, of the sets for which there is room in `length` numbers; `taken`
+ * gains the letters that these moves took. Who begins with 0 everywhere has the counts of all moves, up to 2^64 - 1 each.
+ * LOCKRUN_FORGOTTEN if the station has forgotten moves that weren't read: count before lockrun_forget. LOCKRUN_BAD_ARGUMENT if it
+ * didn't make so many. Then nothing changes. */
+uint32_t lockrun_count(lockrun_station *station, uint64_t *read, uint64_t *taken, uint64_t *counts, size_t length);
+
 /* Gives a station or a session back to its service: behind all others that it has. `given` is {0} then. */
 uint32_t lockrun_give(lockrun_service *service, lockrun_handle *given);
 

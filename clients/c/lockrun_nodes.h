@@ -20,7 +20,10 @@
 
 /* Frees all that isn't in use by another thread. */
 static inline void lockrun_nodes_free(lockrun_nodes *nodes) {
-    for (size_t k = 0; k < nodes->count; k++) if (nodes->node[k].station.at) lockrun_free(&nodes->node[k].station);
+    for (size_t k = 0; k < nodes->count; k++) {
+        if (nodes->node[k].station.at) lockrun_free(&nodes->node[k].station);
+        free(nodes->node[k].tally.numbers);
+    }
     for (size_t k = 0; k < nodes->callers; k++) {
         lockrun_caller *caller = &nodes->caller[k];
         if (caller->session.at) lockrun_free(&caller->session);
@@ -147,8 +150,7 @@ static inline uint32_t lockrun_nodes_forget(lockrun_nodes *nodes) {
     for (size_t k = 0; k < nodes->count; k++) {
         lockrun_node *node = &nodes->node[k];
         lockrun_keep_node(nodes, k);
-        uint32_t forgot = lockrun_forget(&node->station);
-        node->moves = 0;
+        uint32_t forgot = lockrun_forget_node(node);
         lockrun_return_node(nodes, k);
         if (forgot != LOCKRUN_OK) code = forgot;
     }

@@ -11,11 +11,19 @@ enum { LOCKRUN_APART = 128 };
 /* The most rows of 64 clients. */
 enum { LOCKRUN_ROWS = 16 };
 
+/* What was counted of a node's moves (lockrun_count), if `numbers` isn't null. */
+typedef struct {
+    uint64_t *numbers;
+    size_t count;
+    uint64_t read, taken;
+} lockrun_tally;
+
 typedef struct {
     lockrun_station station;
+    lockrun_tally tally;
     uint32_t moves;    /* at most so many since it forgot */
     lockrun_word busy; /* whether a thread has the station */
-    char apart[LOCKRUN_APART - sizeof(lockrun_station) - sizeof(uint32_t) - sizeof(lockrun_word)];
+    char apart[LOCKRUN_APART - sizeof(lockrun_station) - sizeof(lockrun_tally) - sizeof(uint32_t) - sizeof(lockrun_word)];
     lockrun_word work; /* whether letters or commands came since it was turned last */
     char apart_too[LOCKRUN_APART - sizeof(lockrun_word)];
 } lockrun_node;

@@ -17,13 +17,26 @@ static inline int lockrun_take_node(lockrun_node *node) {
 
 static inline void lockrun_let_go(lockrun_node *node) { lockrun_put(&node->busy, 0); }
 
+/* Counts the moves that a node made since, if it counts. */
+static inline uint32_t lockrun_count_node(lockrun_node *node) {
+    lockrun_tally *tally = &node->tally;
+    if (!tally->numbers) return LOCKRUN_OK;
+    return lockrun_count(&node->station, &tally->read, &tally->taken, tally->numbers, tally->count);
+}
+
+/* Lets a node forget, once its moves are counted. */
+static inline uint32_t lockrun_forget_node(lockrun_node *node) {
+    const uint32_t code = lockrun_count_node(node);
+    node->moves = 0;
+    return code == LOCKRUN_OK ? lockrun_forget(&node->station) : code;
+}
+
 /* So many moves more were made: after enough of them the node forgets them, if it keeps no journal. If there is no memory for it
  * now, it forgets after further ones. */
 static inline void lockrun_count_moves(lockrun_nodes *nodes, lockrun_node *node, uint32_t moves) {
     node->moves += moves;
     if (node->moves < LOCKRUN_FORGETS || nodes->keeps) return;
-    node->moves = 0;
-    (void)lockrun_forget(&node->station);
+    (void)lockrun_forget_node(node);
 }
 
 /* Turns a node that this thread has, until it makes no move, a batch at most: how the last turn ended. */

@@ -75,4 +75,48 @@ static inline uint32_t lockrun_each(lockrun_nodes *nodes, void (*see)(void *with
     free(lines.line);
     return code;
 }
+
+/* What was counted of a set at a node, as LOCKRUN_COUNT_GRANTS and the others say. */
+typedef struct { uint64_t grants, changes, refusals, waits, withdrawals, copies, freezes, tokens; } lockrun_counts;
+
+/* From now on all nodes count what they do in the sets numbered below `sets`, of all their moves: LOCKRUN_OK; LOCKRUN_FORGOTTEN if
+ * one has forgotten some, so call it once they are opened; or LOCKRUN_NO_MEMORY. Each node takes 64 bytes for a set, of which the
+ * system gives only what is touched. */
+static inline uint32_t lockrun_counts_begin(lockrun_nodes *nodes, uint32_t sets) {
+    uint32_t code = LOCKRUN_OK;
+    LOCKRUN_UNSEEN_BEGIN;
+    for (size_t k = 0; k < nodes->count && code == LOCKRUN_OK; k++) {
+        lockrun_tally *tally = &nodes->node[k].tally;
+        lockrun_keep_node(nodes, k);
+        if (!tally->numbers) {
+            tally->numbers = (uint64_t *)calloc((size_t)sets + 1, sizeof(lockrun_counts));
+            tally->count = (size_t)sets * LOCKRUN_COUNTS;
+            code = tally->numbers ? lockrun_count_node(&nodes->node[k]) : LOCKRUN_NO_MEMORY;
+        }
+        if (code != LOCKRUN_OK) {
+            free(tally->numbers);
+            memset(tally, 0, sizeof *tally);
+        }
+        lockrun_return_node(nodes, k);
+    }
+    LOCKRUN_UNSEEN_END;
+    return code;
+}
+
+/* What was counted of the set at the node so far, and how many letters the node took: LOCKRUN_OK; LOCKRUN_NOTHING if it doesn't
+ * count them; or the answer of lockrun_count. Of several nodes at once nothing is said. Other threads may be in calls. */
+static inline uint32_t lockrun_counted(lockrun_nodes *nodes, size_t place, uint32_t set, lockrun_counts *counts, uint64_t *letters) {
+    const lockrun_tally *tally = &nodes->node[place].tally;
+    uint32_t code = LOCKRUN_NOTHING;
+    LOCKRUN_UNSEEN_BEGIN;
+    lockrun_keep_node(nodes, place);
+    if (set < tally->count / LOCKRUN_COUNTS) code = lockrun_count_node(&nodes->node[place]);
+    if (code == LOCKRUN_OK) {
+        memcpy(counts, tally->numbers + (size_t)set * LOCKRUN_COUNTS, sizeof *counts);
+        *letters = tally->taken;
+    }
+    lockrun_return_node(nodes, place);
+    LOCKRUN_UNSEEN_END;
+    return code;
+}
 #endif

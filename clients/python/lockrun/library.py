@@ -72,6 +72,7 @@ FURTHER = {
     'lockrun_locks': (c_size_t, AT, c_uint32, c_uint32, c_uint32),
     'lockrun_asked': (c_uint32, AT, c_uint32, NUMBER, NUMBER),
     'lockrun_behind': (c_uint32, AT, c_uint32, c_uint32, c_uint32),
+    'lockrun_count': (c_uint32, AT, COUNT, COUNT, COUNT, c_size_t),
 }
 
 

@@ -1,12 +1,20 @@
-// What clients of a station's node hold and wait for.
+// What a station's node did, and what its clients hold and wait for.
 ghost use Rattle.std.specs.Prelude.{◌≡◌};
 ghost use Rattle.lt_node.specs.NodeData.{state_of};
 ghost use Rattle.lt_view.specs.View.{count_held, first_held, wait_of, queues_before};
 
 use crate::station::Station;
+use lt_log::LongLog;
 use lt_modes::Mode;
 
 impl Station {
+    /// The moves that this node made, in order.
+    pub fn log(&self) -> &LongLog
+        ensures { result.now ≡ self.now.runner.log }
+    {
+        self.runner.log()
+    }
+
     /// The first set, from this one on, in which the client holds a lock at this node.
     pub fn first_held(&self, client: u16, from: u32) -> Option<u32>
         ensures { result ≡ first_held self.now.runner.node.script (state_of self.now.runner.node) client from }

@@ -20,6 +20,8 @@ pub mod KeysTold
 pub mod Telling
 pub mod Doing
 pub mod TellingTold
+pub mod Counting
+pub mod CountingTold
 pub mod DoingTold
 pub mod Viewing
 pub mod ViewTold

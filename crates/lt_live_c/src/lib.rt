@@ -9,6 +9,7 @@ mod calls;
 mod carrying;
 mod code;
 mod content;
+mod counting;
 mod doing;
 mod faults;
 mod handle;
