@@ -65,7 +65,7 @@ static inline uint32_t lockrun_came_in(lockrun_apart *apart, uint32_t from, cons
 }
 
 /* How many frames the bytes have, which are whole ones: each begins with the length of its letter. */
-static inline uint64_t lockrun_count(const uint8_t *bytes, size_t length) {
+static inline uint64_t lockrun_count_frames(const uint8_t *bytes, size_t length) {
     uint64_t count = 0;
     for (size_t at = 0; at < length; count++)
         at += LOCKRUN_AROUND + ((size_t)bytes[at] | (size_t)bytes[at + 1] << 8 | (size_t)bytes[at + 2] << 16 | (size_t)bytes[at + 3] << 24);
@@ -79,7 +79,7 @@ static inline uint32_t lockrun_take_in(lockrun_apart *apart) {
         if (came->length == 0) continue;
         size_t used = 0;
         uint32_t code = lockrun_receive(&apart->node, from, came->bytes, came->length, &used);
-        apart->received += lockrun_count(came->bytes, used);
+        apart->received += lockrun_count_frames(came->bytes, used);
         memmove(came->bytes, came->bytes + used, came->length - used);
         came->length -= used;
         if (code != LOCKRUN_OK) return code;
@@ -101,7 +101,7 @@ static inline uint32_t lockrun_give_out(lockrun_apart *apart, uint32_t to) {
         }
         if (code == LOCKRUN_NOTHING) return LOCKRUN_OK;
         if (code != LOCKRUN_OK) return code;
-        apart->sent += lockrun_count(apart->frames, length);
+        apart->sent += lockrun_count_frames(apart->frames, length);
         apart->bytes += length;
         if (!apart->carry(apart->transport, to, apart->frames, length)) return LOCKRUN_NO_CARRIER;
     }

@@ -91,7 +91,7 @@ static inline uint32_t lockrun_counts_begin(lockrun_nodes *nodes, uint32_t sets)
         if (!tally->numbers) {
             tally->numbers = (uint64_t *)calloc((size_t)sets + 1, sizeof(lockrun_counts));
             tally->count = (size_t)sets * LOCKRUN_COUNTS;
-            code = tally->numbers ? lockrun_count_node(&nodes->node[k]) : LOCKRUN_NO_MEMORY;
+            code = tally->numbers ? lockrun_count_node(&nodes->node[k]) : (uint32_t)LOCKRUN_NO_MEMORY;
         }
         if (code != LOCKRUN_OK) {
             free(tally->numbers);

@@ -87,13 +87,8 @@ extern "C" {
     pub fn lockrun_locks(station: *mut Handle, client: u32, set: u32, mode: u32) -> u64;
     pub fn lockrun_asked(station: *mut Handle, client: u32, set: *mut u32, mode: *mut u32) -> u32;
     pub fn lockrun_behind(station: *mut Handle, set: u32, client: u32, other: u32) -> u32;
-    pub fn lockrun_count(
-        station: *mut Handle,
-        read: *mut u64,
-        taken: *mut u64,
-        counts: *mut u64,
-        length: usize,
-    ) -> u32;
+    pub fn lockrun_count(station: *mut Handle, read: *mut u64, taken: *mut u64, counts: *mut u64, length: usize)
+        -> u32;
     pub fn lockrun_give(service: *mut Handle, given: *mut Handle) -> u32;
     pub fn lockrun_served(service: *mut Handle, submitted: *mut usize, polled: *mut usize) -> u32;
     pub fn lockrun_finish(service: *mut Handle, journal: *mut Handle) -> u32;
