@@ -21,10 +21,9 @@ import lockrun  # noqa: E402
 # What crosses in place of an argument of the crate; Global takes no bytes.
 CROSSES = {
     'Global': [], '&[u8]': ['*u8', 'size'], '&mut [u8]': ['*u8', 'size'], '&mut Handle': ['*handle'],
-    '&mut u32': ['*u32'], '&mut u64': ['*u64'], '&mut usize': ['*size'], 'u32': ['u32'], 'u64': ['u64'], 'usize': ['size'],
+    '&mut u32': ['*u32'], '&mut u64': ['*u64'], '&mut [u64]': ['*u64', 'size'], '&mut usize': ['*size'],
+    'u32': ['u32'], 'u64': ['u64'], 'usize': ['size'],
     '&mut Clients': ['*clients'],
-    '&mut u32': ['*u32'], '&mut u64': ['*u64'], '&mut [u64]': ['*u64', 'size'], '&mut usize': ['*size'], 'u32': ['u32'], 'u64': ['u64'], 'usize': ['size'],
-    '&mut ClientBits': ['*clients'],
     "&[NewSet<'_>]": ['*set', 'size'], "&'a [u8]": ['*u8', 'size']}
 IN_C = {'uint32_t': 'u32', 'uint64_t': 'u64', 'size_t': 'size', 'lockrun_handle *': '*handle', 'lockrun_service *': '*handle',
         'lockrun_station *': '*handle', 'lockrun_session *': '*handle', 'lockrun_journal *': '*handle',
@@ -75,7 +74,7 @@ def of_header():
 def of_rust():
     """The same of the Rust crate."""
     found = {}
-    for name, arguments, result in re.findall(r'fn (lockrun_\w+)\((.*?)\)(?: -> (\w+))?;', RUST, re.S):
+    for name, arguments, result in re.findall(r'fn (lockrun_\w+)\((.*?)\)(?:\s*-> (\w+))?;', RUST, re.S):
         parts = [part.split(': ') for part in filter(None, re.split(r',\s*', arguments.strip()))]
         found[name] = (IN_RUST[result], [(word, IN_RUST[kind]) for word, kind in parts])
     return found

@@ -71,7 +71,8 @@ pub(crate) fn all_over<C: Caller>(desks: &mut Vec<Desk<C>>) -> bool
 fn ask_at<C: Caller>(desks: &mut Vec<Desk<C>>, place: usize) -> bool
     requires { place < length desks.old.items }
     ensures asked { OneAt (IsAsked C.says) place desks.old.items desks.new.items }
-    ensures over { result ≡ true → (desk : _) → slice_get desks.new.items place ≡ Some desk → NeedsNoStep (called_of desk) }
+    ensures over { result ≡ true
+        → (desk : _) → slice_get desks.new.items place ≡ Some desk → NeedsNoStep (called_of desk) }
 {
     desks[place].ask()
 }
