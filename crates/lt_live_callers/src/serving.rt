@@ -30,7 +30,8 @@ use std::thread::Threads;
 ///
 /// They work in rounds, until each caller is done or has a command that it might not submit, or the rounds are over.
 /// Then the nodes take in the commands that are left, and make the moves that there are, on so many threads too. The
-/// script's own commands are left out. Where there isn't a caller for each client, that is the answer, whatever the limit, and nothing is begun.
+/// script's own commands are left out. Where there isn't a caller for each client, that is the answer, whatever the
+/// limit, and nothing is begun.
 pub fn serve_callers<R: Threads + Sync, C: Caller + Send + Drop>(
     rt: &R,
     alloc: Global,
