@@ -32,7 +32,7 @@ def main():
 
 def drawn_lines():
     """As many drawn lines as fit into the bytes that an input may have."""
-    words = [sys.executable, f'{TOP}/tests/drawing_nest.py', '256', '65535', '1']
+    words = [sys.executable, f'{TOP}/tests/lib/drawing_nest.py', '256', '65535', '1']
     return subprocess.run(words, capture_output=True, check=True).stdout
 
 

@@ -75,7 +75,7 @@ def instructions(command, text):
 def drawn(nodes, clients, commands, seed=7, version=1):
     """A drawn script."""
     words = [str(word) for word in (nodes, clients, commands, seed, version)]
-    return subprocess.run([sys.executable, f'{TOP}/tests/drawing.py', *words], capture_output=True, check=True).stdout
+    return subprocess.run([sys.executable, f'{TOP}/tests/lib/drawing.py', *words], capture_output=True, check=True).stdout
 
 
 def words_of(usage, count):

@@ -1,6 +1,6 @@
 /* lockrun.h: sessions of the lock service, for C and C++.
  *
- * tests/exports.py compares this file with the exports of crates/lt_live_c. What a C compiler can't see is a duty of the
+ * tests/gate/exports.py compares this file with the exports of crates/lt_live_c. What a C compiler can't see is a duty of the
  * caller, and nothing checks it:
  * - A handle that isn't in use is {0}: with one each call answers LOCKRUN_WRONG_HANDLE, or 0, and does nothing, lockrun_free
  *   too. The last argument of lockrun_open, lockrun_open_sets, lockrun_open_keys, lockrun_take_station, lockrun_take_session,

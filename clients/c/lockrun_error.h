@@ -28,7 +28,7 @@ static inline const char *lockrun_error(uint32_t code) {
     return "no code";
 }
 
-/* What a fault of a script means, by its number: docs/FORMATS.md has all of them, with examples. */
+/* What a fault of a script means, by its number: docs/use/FORMATS.md has all of them, with examples. */
 static inline const char *lockrun_fault_words(uint32_t fault) {
     static const char *const words[] = {
         "no fault", "has a byte that is neither a tab nor printable ASCII", "has more than 200 bytes",

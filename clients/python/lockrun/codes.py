@@ -38,7 +38,7 @@ FAULTS = {
     WITHHELD: 'what the client gave up in this set still stands',
 }
 
-# The faults of a line of a script, by their numbers in docs/FORMATS.md.
+# The faults of a line of a script, by their numbers in docs/use/FORMATS.md.
 SCRIPT_FAULTS = {
     1: 'a byte that is neither a tab nor printable ASCII',
     2: 'more than 200 bytes',
@@ -56,7 +56,7 @@ SCRIPT_FAULTS = {
 
 class LockError(Exception):
     """A call that can't be answered; `code` is that of lockrun.h. Of a script that has a fault, `line` is the number
-    of its first line that has one, and `fault` the number of the fault in docs/FORMATS.md."""
+    of its first line that has one, and `fault` the number of the fault in docs/use/FORMATS.md."""
 
     def __init__(self, code: int, reason: Optional[str] = None, line: Optional[int] = None,
                  fault: Optional[int] = None) -> None:

@@ -1,4 +1,4 @@
-//! The exports of the library, and a handle that is freed when it is dropped. tests/exports.py compares this file with
+//! The exports of the library, and a handle that is freed when it is dropped. tests/gate/exports.py compares this file with
 //! the crate lt_live_c.
 #![allow(dead_code)]
 use std::ffi::c_void;

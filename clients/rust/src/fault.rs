@@ -4,7 +4,7 @@ use crate::opening::NewSet;
 use std::collections::HashSet;
 use std::fmt;
 
-/// What a line has with a fault of this number, from 1 on; docs/FORMATS.md has examples.
+/// What a line has with a fault of this number, from 1 on; docs/use/FORMATS.md has examples.
 const WORDS: [&str; 11] = [
     "has a byte that is neither a tab nor printable ASCII",
     "is longer than 200 bytes",

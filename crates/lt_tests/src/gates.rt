@@ -3,10 +3,10 @@ ghost use Rattle.std.specs.Prelude.{◌<◌};
 
 use std::sync::atomic::{AtomicU64, Ordering};
 
-/// How often each test of a gate makes its run; tests/gates.sh makes more.
+/// How often each test of a gate makes its run; tests/hand/gates.sh makes more.
 pub(crate) const TIMES: u64 = 1;
 
-// Each pass of a gate idles for fewer turns than this first; tests/gates.sh idles longer.
+// Each pass of a gate idles for fewer turns than this first; tests/hand/gates.sh idles longer.
 const IDLE: u64 = 1;
 
 // For how many turns a thread waits at most: hours, so that a busy machine ends no wait.
