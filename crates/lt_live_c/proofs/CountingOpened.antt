@@ -40,11 +40,11 @@ counts_told all = record {
   freezes = λ log old new tells. (tells.counts refl).counts.each 7 Freezes;
   tokens = λ log old new tells. (tells.counts refl).counts.each 7 Tokens;
   all = λ log old new tells are. all log.entries old.read old.counts new.counts are (tells.counts refl).counts;
-  forgotten = λ log old new tells. ltb-true old.read log.gone (gone_code (nat_lt old.read log.gone) (nat_lt (length log.entries) old.read) tells.code);
+  forgotten = λ log old new tells. ltb-true old.read log.gone (gone_code (nat_lt old.read log.gone) (nat_lt (length log.entries) old.read) tells.told);
   beyond = λ log old new tells.
-      ltb-true (length log.entries) old.read (beyond_code (nat_lt old.read log.gone) (nat_lt (length log.entries) old.read) tells.code);
+      ltb-true (length log.entries) old.read (beyond_code (nat_lt old.read log.gone) (nat_lt (length log.entries) old.read) tells.told);
   stays = λ code not log old new tells. tells.keeps not;
-  only = λ code log old new tells. each_code code (nat_lt old.read log.gone) (nat_lt (length log.entries) old.read) tells.code;
+  only = λ code log old new tells. each_code code (nat_lt old.read log.gone) (nat_lt (length log.entries) old.read) tells.told;
   wrong = λ content e code old new tells. no_log (log_behind content) e code old new tells;
   granted = refl;
   got = refl;

@@ -38,7 +38,7 @@ code_of_count log read =
     else (if nat_lt (length log.entries) read then BAD_ARGUMENT else OK)
 
 pub record CountsAsCode (log : LogData) (code : ℕ) (old new : CountedInC) : Type 0 where
-  pub code : code ≡ code_of_count log old.read
+  pub told : code ≡ code_of_count log old.read
   pub counts : code ≡ OK → CountsFurther log old new
   pub keeps : code ≢ OK → new ≡ old
 
