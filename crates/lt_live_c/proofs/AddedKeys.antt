@@ -92,5 +92,6 @@ bad_key families members n script same new added none kept is few adds = record 
   where
     of_script : AddsSets added (key_sets_from members 0 n) script new
     of_script = subst (λ (s : ScriptData). AddsSets added (key_sets_from members 0 n) s new) kept adds
+
     not : with_next_sets script (key_sets_from members 0 n) ≡ None
     not = subst (λ (b : Bool). AddsSets b (key_sets_from members 0 n) script new) none of_script

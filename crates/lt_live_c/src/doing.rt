@@ -1,11 +1,15 @@
 // Commands that are submitted and served in one call.
-ghost use Rattle.std.specs.Prelude.{◌≡◌, ◌<◌, IsSome, Some, IfOk, IfErr};
+ghost use Rattle.std.specs.Prelude.{◌≡◌, ◌≢◌, ◌<◌, IsSome, Some, IfOk, IfErr};
 ghost use Rattle.lt_spec.specs.Script.{HasTargets, IsOfVersion};
 ghost use Rattle.lt_live.specs.Words.{SameSession};
+ghost use Rattle.lt_mail.specs.Telling.{TellsGiven};
+ghost use Rattle.lt_live.specs.declared.obeying.Obeyed.TheVariants as ends;
 ghost use Rattle.lt_live.specs.Live.{StationGoesOn};
+ghost use Rattle.lt_live.specs.Obeying.{Obeys};
+ghost use Rattle.lt_live.specs.Told.{TellsClients};
 ghost use Rattle.lt_apart.specs.Remote.{CarriesNone};
 ghost use Rattle.lt_live_c.specs.declared.code.TheConstants.{WRONG_HANDLE};
-ghost use Rattle.lt_live_c.specs.Calls.{MaySubmit, command_numbered as the_command};
+ghost use Rattle.lt_live_c.specs.Calls.{MaySubmit, free_places, command_numbered as the_command};
 ghost use Rattle.lt_live_c.specs.Doing.{number_of_obeyed, count_of_obeyed, AtBoth, OnBoth, DoTells, MayNotDo};
 ghost use Rattle.lt_live_c.specs.Taking.{HandleGoesOn, ContentGoesOn};
 
@@ -120,14 +124,35 @@ fn do_of(
         session.old session.new }
     ensures right { result ≡ WRONG_HANDLE → ⊥ }
 {
-    told.clear();
     match may_do(session, command) {
-        Ok(command) => report(station.obey(session, command, &Open, told), count, sent),
+        Ok(command) => report(obey_of(station, session, command, told), count, sent),
         Err(code) => {
+            told.clear();
             *sent = 0;
             code
         }
     }
+}
+
+// Submits and serves it, and marks the clients that were told replies, and no others.
+#[tactic(auto, using(lt_live::proofs::Marking::adds_alone))]
+fn obey_of(
+    station: &mut Station,
+    session: &mut Session,
+    command: Command,
+    told: &mut Clients,
+) -> ObeyReport
+    requires left { 0 < session.old.left }
+    requires may { MaySubmit session.old command }
+    ensures obeys { Obeys result.obeyed command session.old session.new station.old station.new }
+    ensures place { 0 < free_places session.old → result.obeyed ≢ ends.Refused }
+    ensures sent { TellsGiven result.sent station.old.runner.mail station.new.runner.mail }
+    ensures told { TellsClients told.new station.old.seats station.new.seats }
+    ensures goes_on { StationGoesOn station.old station.new }
+    ensures same { SameSession session.old session.new }
+{
+    told.clear();
+    station.obey(session, command, &Open, told)
 }
 
 #[tactic(auto, using(lt_live::proofs::Marking::adds_alone, lt_live::proofs::Marking::adds_none))]
@@ -146,14 +171,36 @@ fn do_on(
     ensures carried { CarriesNone remote.old remote.new }
     ensures right { result ≡ WRONG_HANDLE → ⊥ }
 {
-    told.clear();
     match may_do(session, command) {
-        Ok(command) => report(remote.obey(session, command, &Open, told), count, sent),
+        Ok(command) => report(obey_on(remote, session, command, told), count, sent),
         Err(code) => {
+            told.clear();
             *sent = 0;
             code
         }
     }
+}
+
+// The same at a node in a process of its own.
+#[tactic(auto, using(lt_live::proofs::Marking::adds_alone))]
+fn obey_on(
+    remote: &mut Remote,
+    session: &mut Session,
+    command: Command,
+    told: &mut Clients,
+) -> ObeyReport
+    requires left { 0 < session.old.left }
+    requires may { MaySubmit session.old command }
+    ensures obeys { Obeys result.obeyed command session.old session.new remote.old.station remote.new.station }
+    ensures place { 0 < free_places session.old → result.obeyed ≢ ends.Refused }
+    ensures sent { TellsGiven result.sent remote.old.station.runner.mail remote.new.station.runner.mail }
+    ensures told { TellsClients told.new remote.old.station.seats remote.new.station.seats }
+    ensures goes_on { StationGoesOn remote.old.station remote.new.station }
+    ensures same { SameSession session.old session.new }
+    ensures carried { CarriesNone remote.old remote.new }
+{
+    told.clear();
+    remote.obey(session, command, &Open, told)
 }
 
 // The command, if the session may submit it, or the code of why not.

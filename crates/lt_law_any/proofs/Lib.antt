@@ -1,0 +1,3 @@
+pub mod CallOpened
+pub mod NestOpened
+pub mod RunOpened

@@ -1,0 +1,3 @@
+pub mod AnyCall
+pub mod AnyNest
+pub mod AnyRun

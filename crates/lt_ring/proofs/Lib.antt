@@ -1,0 +1,4 @@
+mod Marked
+mod Places
+mod SeenRings
+mod SeenWaits
